@@ -122,6 +122,9 @@ class Direction:
         self.first = None
         self.last = None
         self.finished = 0
+        # The frames in which this end finished, and in which it reset the connection.
+        self.finished_in = None
+        self.reset_in = None
         self.acknowledged = 0
         self.runs = []
         self.has_gap = False
@@ -137,6 +140,7 @@ class Direction:
 
     def take(self, number, flags, frame, length, payload):
         if flags & RESET:
+            self.reset_in = self.reset_in or frame
             return
         self.last = number = self.counted(number)
         if flags & SYN:
@@ -149,6 +153,7 @@ class Direction:
         self.reached = max(self.reached or number, number + length)
         if flags & FIN:
             self.finished = max(self.finished, number + length)
+            self.finished_in = self.finished_in or frame
 
     def acknowledge(self, number):
         """Takes what the other end says that it received; 0 is what a made-up capture has."""

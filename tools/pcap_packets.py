@@ -2,6 +2,7 @@
 """Writes the packets of RPC over HTTP in a capture as lines of hex, for `rh_cli show`.
 
     tools/pcap_packets.py CAPTURE [--context] [--port N].. [--keys FILE]
+    tools/pcap_packets.py --play ROLE CAPTURE [--port N].. [--keys FILE]
 
 CAPTURE is any file that tshark reads (Debian's package tshark): pcap or pcapng, compressed too.
 Each direction of each TCP connection is read from its first byte. HTTP heads are left out, and so
@@ -12,6 +13,8 @@ follows is cut by frag_length. Packets come in the order in which they were whol
                   connection (tshark's tcp.stream), and who sent it to whom
     --port N      takes only connections with this port at an end; may stand more than once. A
                   connection of RPC PDUs with no head, greeting or RTS packet is taken only then
+    --play ROLE   writes a script for `rh_cli play` instead: it feeds one client, inproxy, outproxy
+                  or server what came to it, and draws where it put something
     --keys FILE   the secrets of TLS sessions, as SSLKEYLOGFILE has them; those that a pcapng file
                   holds need no option
 
@@ -27,6 +30,7 @@ import re
 import struct
 import sys
 
+import played
 from captured import Capture, NEVER, NotRead
 
 HEADER_LEN = 16
@@ -291,12 +295,39 @@ def lines_of(capture, options, telling):
     return [line for _, line in lines], left_out
 
 
+def show(capture, options, telling):
+    """Writes the line of each packet."""
+    lines, left_out = lines_of(capture, options, telling)
+    for line in lines:
+        print(line)
+    if left_out:
+        counts = ", ".join(f"{count} {why}" for why, count in left_out.items())
+        telling.tell(f"connections left out: {counts}, of {len(capture.connections)}")
+
+
+def first_packet(direction):
+    """The first packet of a direction; no bytes where it has none."""
+    reader = Reader(direction)
+    reader.read()
+    return reader.packets[0][1] if reader.packets else b""
+
+
+def play(capture, role, telling):
+    """Writes the script that feeds a role."""
+    lines = played.script_of(capture, role, first_packet, telling.trouble)
+    if not lines:
+        telling.trouble(f"no connection is a leg of this role: {role}")
+    for line in lines:
+        print(line)
+
+
 def main():
     form = argparse.RawDescriptionHelpFormatter
     parser = argparse.ArgumentParser(description=__doc__, formatter_class=form)
     parser.add_argument("capture")
     parser.add_argument("--context", action="store_true")
     parser.add_argument("--port", type=int, action="append", default=[])
+    parser.add_argument("--play", choices=list(played.ROLES), metavar="ROLE")
     parser.add_argument("--keys")
     options = parser.parse_args()
     if options.keys and not os.access(options.keys, os.R_OK):
@@ -307,12 +338,10 @@ def main():
     except NotRead as error:
         telling.tell(error)
         return 2
-    lines, left_out = lines_of(capture, options, telling)
-    for line in lines:
-        print(line)
-    if left_out:
-        counts = ", ".join(f"{count} {why}" for why, count in left_out.items())
-        telling.tell(f"connections left out: {counts}, of {len(capture.connections)}")
+    if options.play:
+        play(capture, options.play, telling)
+    else:
+        show(capture, options, telling)
     sys.stdout.flush()
     return telling.status
 

@@ -232,6 +232,19 @@ def stories(script):
     client.close()
     client.give(pdu(16), "closing")
 
+    script.case("client: a PDU is refused by the first reason")
+    client = opened(script)
+    client.give(pdu(16))
+    client.give(b"\x05\0\0", "bad Cut 3")
+    for _ in range(31):
+        client.give(pdu(8192))
+    client.give(pdu(8192), f"full {262_144 - 8192 + 16} 8192")
+    client.close()
+    client.give(b"\x05\0\0", "closing")
+    client.broken(CO1, closed(Cause.LegBroken(CO1)))
+    client.give(pdu(16), client.verdict)
+    client.recycle("notopen")
+
     script.case("client: an IN channel is replaced")
     client = Client(script)
     client.recycle("notopen")

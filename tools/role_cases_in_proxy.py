@@ -542,6 +542,21 @@ def time(script):
         play(script, f"time: {name}", first, then, verdict)
 
 
+    script.case("in proxy time: a silent leg closes it for good")
+    node = InProxy(script)
+    node.play(SERVED)
+    node.tick(119_999)
+    verdict = closed(Cause.Silent(CI1, 0, 120_000))
+    node.tick(120_000, verdict)
+    node.feed(CI1, pdu(16))
+    node.feed(IS1, Named.ConnB3(8192, 1))
+    node.ended(CI1)
+    node.broken(IS1)
+    node.finished(IS1)
+    node.finished(CI1)
+    node.state()
+
+
 def write(script):
     heads(script)
     hostile(script)

@@ -363,8 +363,45 @@ def ending(script):
     server.finished(OS1)
 
 
+def bytes_that_come(script):
+    script.case("server: a PDU is taken once, and none of a closed server")
+    server = opened(script)
+    server.raises(IS1, False)
+    server.take("empty")
+    server.feed(IS1, pdu(16)[:6])
+    server.take("empty")
+    server.feed(IS1, pdu(16)[6:])
+    server.take(pdu(16))
+    server.take("empty")
+    server.channels(1, 1)
+    server.finished(IS1, False)
+    server.ended(IS1, closed(Cause.LegEnded(IS1, 0)))
+    server.take(server.verdict)
+    server.finished(IS1)
+
+    script.case("server: an ended leg tells what was held")
+    server = opened(script)
+    server.feed(IS1, pdu(16)[:6])
+    server.ended(IS1, closed(Cause.LegEnded(IS1, 6)))
+
+    script.case("server: a packet without a row is unexpected at its place")
+    server = opened(script)
+    place = server.place(IS1)
+    server.feed(IS1, pdu(16))
+    server.feed(IS1, Named.ConnA3(120_000), closed(Cause.Unexpected(IS1, place + 16)))
+
+    script.case("server: what is given is drawn in pieces, and no more")
+    server = opened(script)
+    for _ in range(3):
+        server.give(pdu(16))
+    for place in range(0, 48, 7):
+        server.draw(OS1, 7, (pdu(16) * 3)[place : place + 7])
+    server.draw(OS1, 7, b"")
+
+
 def write(script):
     opening(script)
+    bytes_that_come(script)
     first_kinds(script)
     hostile(script)
     rows(script)

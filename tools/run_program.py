@@ -12,7 +12,7 @@ import build_program
 from build_program import PROGRAM
 from program_crates import TOP
 
-READS = "replay", "show"
+READS = "replay", "show", "play"
 WORDS = [[word] for word in (*READS, "--help", "--version")]
 
 
@@ -30,7 +30,7 @@ def run(command, words, place=None):
     if status == 1 and words[:1] and words[0] in READS:
         say(f"{words[0]} reads standard input: type ./rh_cli {words[0]} < FILE")
     elif status == 1:
-        say("type ./rh_cli show < FILE, ./rh_cli replay < FILE, or ./rh_cli --help for more")
+        say("type ./rh_cli WORD < FILE with replay, show or play, or ./rh_cli --help for more")
     return status if status >= 0 else 128 - status
 
 

@@ -19,7 +19,7 @@ SCRIPTS = ["run_program.py", "build_program.py", "prove_beside.py", "program_cra
 CRATES = "# crates\nlow: hex\nmiddle: low hex\naside:\nother: low\nrh_cli: middle aside low hex\n"
 PROGRAM = """#!/bin/sh
 case "$*" in
-replay | show) cat ;;
+replay | show | play) cat ;;
 --help) echo the page of the program ;;
 --version) echo rh_cli of a test ;;
 *) echo usage >&2; exit 1 ;;
@@ -417,12 +417,13 @@ class Words(Commands):
 
     def test_what_to_type_is_told_behind_usage(self):
         self.build()
-        types = "type ./rh_cli show < FILE, ./rh_cli replay < FILE, or ./rh_cli --help for more"
+        types = "type ./rh_cli WORD < FILE with replay, show or play, or ./rh_cli --help for more"
         cases = [
             ((), types),
             (("-h",), types),
             (("shew", "FILE"), types),
             (("show", "FILE"), "show reads standard input: type ./rh_cli show < FILE"),
+            (("play", "FILE"), "play reads standard input: type ./rh_cli play < FILE"),
             (("replay", "a", "b"), "replay reads standard input: type ./rh_cli replay < FILE"),
         ]
         for words, told in cases:

@@ -1,5 +1,6 @@
 #!/usr/bin/env python3
 """Tests of pcap_packets.py: the example, and captures made here, one for each trouble."""
+import os
 import pathlib
 import re
 import resource
@@ -10,8 +11,12 @@ import sys
 import tempfile
 import unittest
 
+import role_packets
+from role_packets import Named
+
 TOOLS = pathlib.Path(__file__).resolve().parent
 EXAMPLE = TOOLS.parent / "examples" / "opening.pcap"
+PROGRAM = TOOLS.parent / "crates/rh_cli/out/rh_cli"
 CLIENT, PROXY, SERVER = ("10.0.0.1", 40000), ("10.0.0.2", 80), ("10.0.0.3", 593)
 FIN, SYN, ACK = 1, 2, 16
 REQUEST = b"RPC_IN_DATA /rpc/rpcproxy.dll?server:593 HTTP/1.1\r\nContent-Length: 1073741824\r\n\r\n"
@@ -448,6 +453,185 @@ class Captures(Case):
 
     def test_tls_without_keys_is_left_out(self):
         self.check(talk_under_tls(), [], ["connections left out: 1 under TLS, not decrypted, of 1"])
+
+
+def opening_of_a_client(made, last=b""):
+    """A client's connections to its proxies, up to CONN/C2, and these bytes behind it."""
+    out = Talk(made, server=PROXY, greeted=False)
+    inbound = Talk(made, client=("10.0.0.1", 40001), server=PROXY, greeted=False)
+    out.up(role_packets.out_request(76) + CONN_A1)
+    inbound.up(role_packets.in_request(1_073_741_824))
+    inbound.up(CONN_B1)
+    out.down(HEAD)
+    out.down(Named.ConnA3(120_000) + CONN_C2[:7])
+    out.down(CONN_C2[7:] + last)
+    return out, inbound
+
+
+CONNECTION, OUT_COOKIE, IN_COOKIE, GROUP = (bytes(15) + bytes([number]) for number in (9, 7, 8, 6))
+CONN_A1 = Named.ConnA1(1, CONNECTION, OUT_COOKIE, 65_536)
+CONN_B1 = Named.ConnB1(1, CONNECTION, IN_COOKIE, 1_073_741_824, 300_000, GROUP)
+CONN_C2 = Named.ConnC2(1, 65_536, 120_000)
+HEAD = role_packets.response(1_073_807_360)
+BAD_FLAGS = bytearray(Named.Ping)
+BAD_FLAGS[17] = 0x80
+
+
+class Plain(unittest.TestCase):
+    """With a plain reader of captures where no tshark is there."""
+
+    def setUp(self):
+        room = tempfile.TemporaryDirectory()
+        self.addCleanup(room.cleanup)
+        self.room = pathlib.Path(room.name)
+        self.path = os.environ["PATH"]
+        if not shutil.which("tshark"):
+            (self.room / "tshark").symlink_to(TOOLS / "plain_tshark.py")
+            self.path = f"{self.room}:{self.path}"
+
+    def script(self, role, capture, status=0):
+        """The script of a capture, and what is told on standard error."""
+        file = self.room / "capture"
+        file.write_bytes(capture if isinstance(capture, bytes) else capture.pcap())
+        command = [sys.executable, TOOLS / "pcap_packets.py", "--play", role, file]
+        env = {**os.environ, "PATH": self.path}
+        done = subprocess.run(command, capture_output=True, text=True, check=False, env=env)
+        self.assertEqual(done.returncode, status, done.stderr)
+        return done.stdout, done.stderr
+
+
+class Playing(Plain):
+    """Scripts that feed a role."""
+
+    def check(self, role, made, wanted, told="", status=0):
+        script, said = self.script(role, made, status)
+        self.assertEqual(script, "".join(f"{line}\n" for line in wanted))
+        self.assertIn(told, said)
+
+    def test_what_came_to_a_client(self):
+        made = Made()
+        out, inbound = opening_of_a_client(made)
+        inbound.up(PDUS[0])
+        out.down(b"", flags=FIN | ACK)
+        out_put = role_packets.out_request(76) + CONN_A1
+        in_put = role_packets.in_request(1_073_741_824)
+        self.check("client", made, [
+            "client",
+            f"up co1 {OUT_COOKIE.hex()}",
+            f"case captured co1 {len(out_put)} {out_put.hex()}",
+            "draw co1 65536",
+            "tick 1",
+            f"up ci1 {IN_COOKIE.hex()}",
+            f"case captured ci1 {len(in_put)} {in_put.hex()}",
+            "draw ci1 65536",
+            "tick 2",
+            f"case captured ci1 104 {CONN_B1.hex()}",
+            "draw ci1 65536",
+            "tick 3",
+            f"feed co1 {HEAD.hex()}",
+            "tick 4",
+            f"feed co1 {(Named.ConnA3(120_000) + CONN_C2[:7]).hex()}",
+            "tick 5",
+            f"feed co1 {CONN_C2[7:].hex()}",
+            "tick 6",
+            f"case captured ci1 72 {PDUS[0].hex()}",
+            "draw ci1 65536",
+            "tick 7",
+            "ended co1",
+            "draw co1 65536",
+            "draw ci1 65536",
+            "state",
+        ])
+
+    def test_what_came_to_a_server(self):
+        made = Made()
+        address = bytes([127, 0, 0, 1])
+        put = Named.ConnB2(1, CONNECTION, IN_COOKIE, 65_536, 120_000, GROUP, address)
+        inbound = Talk(made, greeted=False)
+        inbound.up(put)
+        inbound.down(GREETING)
+        other = Named.ConnA2(1, CONNECTION, OUT_COOKIE, 1_073_741_824, 65_536)
+        out = Talk(made, client=("10.0.0.1", 40001), greeted=False)
+        out.up(other)
+        out.down(GREETING)
+        made.segment(out.client, out.server, out.next[out.client], flags=4)
+        self.check("server", made, [
+            "server",
+            "up is1",
+            f"feed is1 {put.hex()}",
+            "tick 1",
+            f"case captured is1 14 {GREETING.hex()}",
+            "draw is1 65536",
+            "tick 4",
+            "up os1",
+            f"feed os1 {other.hex()}",
+            "tick 5",
+            f"case captured os1 14 {GREETING.hex()}",
+            "draw os1 65536",
+            "tick 6",
+            "broken os1",
+            "draw is1 65536",
+            "draw os1 65536",
+            "state",
+        ])
+
+    def test_what_is_missing(self):
+        made = Made()
+        out, _ = opening_of_a_client(made)
+        out.down(PDUS[0], is_kept=False)
+        out.down(PDUS[1])
+        told = "co1, 10.0.0.2:80 > 10.0.0.1:40000, byte 155: 72 bytes are missing; nothing behind"
+        script, said = self.script("client", made, 1)
+        self.assertIn(told, said)
+        self.assertNotIn(PDUS[1].hex(), script)
+
+    def test_no_leg_of_the_role(self):
+        made = Made()
+        opening_of_a_client(made)
+        self.check("server", made, [], "no connection is a leg of this role: server", 1)
+
+
+class Played(Plain):
+    """What the program answers to such scripts."""
+
+    @classmethod
+    def setUpClass(cls):
+        # Builds the program where it isn't built.
+        subprocess.run([TOOLS.parent / "rh_cli", "--version"], check=True, capture_output=True)
+
+    def played(self, script):
+        done = subprocess.run(
+            [PROGRAM, "play"], input=script, capture_output=True, text=True, check=False
+        )
+        self.assertEqual((done.stderr, done.returncode), ("", 0))
+        return done.stdout.split("\n")[:-1]
+
+    def test_a_client_opens(self):
+        made = Made()
+        opening_of_a_client(made)
+        told = self.played(self.script("client", made)[0])
+        self.assertEqual([line for line in told if line.startswith(("feed", "state"))], [
+            "feed co1 going", "feed co1 going", "feed co1 going", "state open"])
+        # What it puts has the cookies of its own connection, and is as long.
+        self.assertIn(f"draw co1 {198 + 76} ", " ".join(told))
+        self.assertIn(f"draw ci1 {205 + 104} ", " ".join(told))
+
+    def test_a_hostile_packet_to_a_client(self):
+        made = Made()
+        opening_of_a_client(made, bytes(BAD_FLAGS))
+        told = self.played(self.script("client", made)[0])
+        # Behind the head, CONN/A3 and CONN/C2, and 16 bytes of the packet.
+        place = len(HEAD) + 28 + 44
+        self.assertEqual(told[-1], f"state closed 4 BadPacket co1 {place} BadFlags 16")
+
+    def test_the_example(self):
+        script, said = self.script("client", EXAMPLE.read_bytes())
+        self.assertEqual(said, "")
+        told = self.played(script)
+        self.assertEqual(told[-1], "state open")
+        for role in "inproxy", "outproxy":
+            told = self.played(self.script(role, EXAMPLE.read_bytes())[0])
+            self.assertEqual(told[-1], "state opening")
 
 
 class WithoutTshark(Case):

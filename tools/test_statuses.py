@@ -11,7 +11,11 @@ PROGRAM = TOP / "crates/rh_cli/out/rh_cli"
 MOST_INPUT = 67_108_864
 
 RECORDING = b"rh 1 direct\ntake s\n"
+SCRIPT = b"# a server\nserver\nstate"
 REPORT = b"take s empty\nup given 0 taken 0\ndown given 0 taken 0\n"
+# Words in no form, with commas between.
+USAGE = ["", "Replay", "replays", "replay,replay", "-h", "Show", "show,-", "plays", "play,client"]
+USAGE += ["--help,x", "make", "make,0", "make,10001", "make,03", "make,x", "make,3,4"]
 PAGE = """\
   1  usage
   2  bad input <line>
@@ -54,25 +58,35 @@ class Statuses(unittest.TestCase):
         self.assertEqual(self.check(["replay"], 0, b"", self.file(RECORDING)), REPORT)
         self.assertEqual(self.check(["show"], 0, b"", self.file(b"ff\n")), b"fault Cut 1\n")
         self.assertEqual(self.check(["show"], 0, b""), b"")
+        self.assertEqual(self.check(["play"], 0, b"", self.file(SCRIPT)), b"server\nstate opening\n")
+        self.assertEqual(self.check(["play"], 0, b""), b"")
         self.assertEqual(self.check(["--version"], 0, b""), b"rh_cli 0.1.0\n")
         page = self.check(["--help"], 0, b"").decode()
+        for words in "replay", "show", "play", "make <n>", "--help", "--version":
+            self.assertIn(f"\n  rh_cli {words} ", page)
         self.assertTrue(page.endswith("\n\n" + PAGE), page)
 
     def test_1_usage(self):
-        for words in [], ["Replay"], ["replay", "replay"], ["-h"]:
+        for text in USAGE:
+            words = text.split(",") if text else []
             self.assertEqual(self.check(words, 1, b"usage\n", self.file(RECORDING)), b"")
+        # Nothing was read.
+        text = self.file(RECORDING)
+        self.check(["Show"], 1, b"usage\n", text)
+        self.assertEqual(os.lseek(text.fileno(), 0, os.SEEK_CUR), 0)
 
     def test_2_bad_input(self):
         for word, text, line in [
             ("replay", b"", 1),
             ("replay", RECORDING + b"take x\n", 3),
             ("show", b"05\n" * 11 + b"0\n", 12),
+            ("play", SCRIPT + b"\nstate s\n", 4),
         ]:
             said = f"bad input {line}\n".encode()
             self.assertEqual(self.check([word], 2, said, self.file(text)), b"")
 
     def test_3_read_fault(self):
-        for word in "replay", "show":
+        for word in "replay", "show", "play":
             closed = self.check([word], 3, b"read fault\n", None, preexec_fn=lambda: os.close(0))
             self.assertEqual(closed, b"")
 
@@ -80,16 +94,19 @@ class Statuses(unittest.TestCase):
         for word, text in [
             ("replay", RECORDING),
             ("show", b"ff\n"),
+            ("play", SCRIPT),
+            ("make 3", b""),
             ("--help", b""),
             ("--version", b""),
         ]:
             full = self.opened("/dev/full", "wb")
-            self.check([word], 4, b"write fault\n", self.file(text), full)
+            self.check(word.split(" "), 4, b"write fault\n", self.file(text), full)
 
     def test_9_input_too_long(self):
-        text = self.file(b"0" * (MOST_INPUT + 2))
-        self.assertEqual(self.check(["show"], 9, b"input too long\n", text), b"")
-        self.assertEqual(os.lseek(text.fileno(), 0, os.SEEK_CUR), MOST_INPUT + 1)
+        for word in "replay", "show", "play":
+            text = self.file(b"0" * (MOST_INPUT + 2))
+            self.assertEqual(self.check([word], 9, b"input too long\n", text), b"")
+            self.assertEqual(os.lseek(text.fileno(), 0, os.SEEK_CUR), MOST_INPUT + 1)
 
 
 if __name__ == "__main__":

@@ -1,52 +1,344 @@
-"""Walks a report with two lists of PDUs for each direction, apart from the program that wrote it.
+"""The rules by which reports are walked, each beside the clause that it stands for.
 
-Nothing is known here of legs' bytes, channels, windows or packets: only what each end gave and
-took, when it stopped, and why a node closed.
+A rule is a function, and its first sentence is what it says. Above it stands the clause: a field of
+Claims, which `run` of law_run proves of every recording, or behind a dot a field of what that one
+says; or None, and why. A rule refuses no report that keeps its clause. It may pass one that breaks
+it, where the clause speaks of more than a report shows.
+
+ALL has the rules by their names, and OVER_WORLDS the other fields of Claims. The rules know nothing
+of the program, nor of channels, windows and packets.
 """
-import re
+import collections
 
-OTHER = {"c": "s", "s": "c"}
-NAMES = {"c": "client", "s": "server"}
-DIRECTIONS = {"up": ("c", "s"), "down": ("s", "c")}
+from reports import LAST, OTHER, WORDS, Past, Report
 
-NUMBER = r"(?:0|[1-9]\d*)"
-LEG = r"(?:co|os|ci|is)[1-9]\d*"
-CAUSE = rf"(?:[1-9]|1[0-3])\ [A-Z]\w+\ {LEG}(?:\ \S+)*"
-CLOSED = rf"closed\ {CAUSE}"
-BYTES = r"(?:[0-9a-f]{2})+"
-OPEN = r"(?:opening|open|ended)\ in\ [1-9]\d*\ out\ [1-9]\d*"
-# What a line of a report looks like.
-SHAPE = re.compile(
-    rf"""give\ [cs]\ (?:ok\ {NUMBER}|full\ {NUMBER}\ {NUMBER}|closing|{CLOSED})
-    |give\ [cs]\ bad\ [A-Z]\w+(?:\ {NUMBER})*
-    |take\ [cs]\ (?:pdu\ {BYTES}|empty|ended|{CLOSED})
-    |close\ [cs]\ ok
-    |send\ (?:cs|{LEG})\ [ud]\ (?:{NUMBER}|no)
-    |move\ (?:cs|{LEG})\ [ud]\ (?:{NUMBER}\ {BYTES}|0|no)
-    |open\ {LEG}(?:\ same)?\ (?:ok|no)
-    |break\ {LEG}\ (?:ok|no)
-    |end\ {LEG}\ [ud]\ (?:ok|no)
-    |tick\ {NUMBER}\ (?:ok|no)
-    |recycle\ (?:in|out)\ (?:ok|busy\ {LEG}|notopen|last)
-    |(?:quiet|spent)\ {NUMBER}
-    |closed\ (?:[cs]|[io][1-9]\d*)\ {CAUSE}
-    |(?:up|down)\ given\ {NUMBER}\ taken\ {NUMBER}
-    |(?:client|server)\ (?:{OPEN}|{CLOSED})""",
-    re.ASCII | re.VERBOSE,
-)
-# The rules, each with the word by which a fault names it.
-RULES = """
-answers: each line but the first and the settings has its answer, and nothing else is answered
-rounds: a settling tells at most the rounds that it was given, and is spent where it did as many
-order: what an end took is a front of what the other end gave, each PDU once and in order
-taken: an end takes nothing once it has closed, or a take there was answered ended
-given: an end gives nothing once it has closed, or was told to give no more
-ended: where a take is ended, the other end was told to give no more, and all it gave was taken
-counts: the last lines count what was given and taken
-once: a node closes at most once, and the nodes that a line closed stand in their order
-causes: an end that closed tells the same cause in each give and take, and in the last lines
-reasons: a node closes for a break, an end, a refused request or silence that its line tells
-"""
+Rule = collections.namedtuple("Rule", "name sentence clause reason of find")
+ALL = {}
+
+# Why a rule has no clause.
+DEFINED = "what a line is answered is the definition of a report itself"
+# The fields of Claims that no rule stands for, since they speak of worlds behind lines: what each
+# refuses of which a report alone shows nothing.
+OVER_WORLDS = {
+    "held": "A node holds more of a channel's PDUs than its window.",
+    "onwards": "The same in the midst of a line, or behind half steps from there.",
+    "hops": "On a server leg more is put than was told, or more acknowledged than came.",
+    "directly": "A PDU of a direct recording was given, not taken, and is nowhere between.",
+    "ways": (
+        "A PDU was given, not taken, and is on no way, and no leg was lost; "
+        "or something stands behind a handover mark."
+    ),
+    "told": "What the report tells as given and taken, and what is on its way, don't fit.",
+    "told_exactly": (
+        "A PDU that the report tells as given is lost, no node closed, "
+        "and no leg was lost but such as were over."
+    ),
+    "turns": "An RPC PDU of a successor passes its in proxy early, or comes so to the server.",
+    "exact": "A PDU is lost, no node closed, and no leg was lost but such as were over.",
+    "closes": "A node closes and is never reported so, nor names its cause in any answer.",
+}
+FROM_OUTSIDE = {("1", "LegBroken"), ("2", "LegEnded"), ("9", "HttpRefused"), ("11", "Silent")}
+# By a node's letter: the legs that it watches, the way in which it hears there, and the setting of
+# how long they may be silent.
+WATCHED = {"c": ("co", "d", "otime"), "i": ("ci", "u", "itime")}
+SILENT_AFTER = 120_000
+# How many words of a line stand in its answer too, where not all do: not what it offers, nor how
+# much it asks for. The end of a give has a rule of its own.
+OWN_WORDS = {"give": 1, "send": 3, "move": 3}
+
+
+def keeps(clause, reason, of):
+    def add(find):
+        sentence = " ".join(find.__doc__.split())
+        ALL[find.__name__] = Rule(find.__name__, sentence, clause, reason, of, find)
+        return find
+
+    return add
+
+
+def answer_rule(of, clause, reason=None):
+    """A rule of the answers that begin with one of these words: it tells what is wrong with one,
+    behind what was told before it, or None.
+    """
+    return keeps(clause, reason, of.split(" "))
+
+
+def report_rule(clause, reason=None):
+    """A rule of a whole report: it tells the index of each wrong answer, and what is wrong."""
+    return keeps(clause, reason, [])
+
+
+# ---- what was given and taken
+
+
+@answer_rule("take", "ordered.in_order")
+def order(report, past, at, words):
+    """What an end took is a front of what the other end gave, each PDU once and in order."""
+    if words[2] == "pdu":
+        giver, count = OTHER[words[1]], len(past.taken[words[1]])
+        if past.given[giver][count : count + 1] != [words[3]]:
+            return f"the PDU is not number {count + 1} of those that {giver} gave"
+
+
+@answer_rule("take", "ordered.none_taken_after")
+def taken(report, past, at, words):
+    """An end takes nothing once it has closed, or reported a clean end."""
+    if words[2] == "pdu" and words[1] in past.closed | past.ended:
+        return f"{words[1]} takes after it closed or reported a clean end"
+
+
+@answer_rule("give", "ordered.none_given_after")
+def given(report, past, at, words):
+    """An end gives nothing once it has closed, or was told to give no more."""
+    if past.is_given(words) and words[1] in past.closed | past.closing:
+        return f"{words[1]} gives after it closed or was told to give no more"
+
+
+@answer_rule("take", "ordered.all_at_clean_end")
+def ended(report, past, at, words):
+    """At a clean end, all that the other end gave was taken."""
+    if words[2] == "ended":
+        if past.taken[words[1]] != past.given[OTHER[words[1]]]:
+            return f"{words[1]} reports a clean end, and not all was taken"
+
+
+@answer_rule("take", "ends.told")
+def stopped(report, past, at, words):
+    """Before a clean end, the other end was told to give no more."""
+    if words[2] == "ended" and OTHER[words[1]] not in past.closing:
+        return f"{words[1]} reports a clean end, and {OTHER[words[1]]} was not told to close"
+
+
+@answer_rule("give", "ends.gives_none")
+def final(report, past, at, words):
+    """Behind a clean end, the other end gives nothing."""
+    if past.is_given(words) and OTHER[words[1]] in past.ended:
+        return f"{words[1]} gives behind the clean end that {OTHER[words[1]]} reported"
+
+
+@report_rule("sides")
+def sides(report, past):
+    """The answers to gives name the ends of their lines: the first that of the first, and so on."""
+    offering = [end for end, _ in report.offers]
+    giving = [at for at, words in enumerate(report.answers) if words[:1] == ("give",)]
+    for count, at in enumerate(giving):
+        if offering[count : count + 1] != [report.answers[at][1]]:
+            yield at, f"no give line number {count + 1} is of this end"
+            return
+    if len(giving) < len(offering):
+        yield report.end, f"{len(giving)} of {len(offering)} gives have an answer"
+
+
+# ---- the last lines
+
+
+@report_rule("counted")
+def counts(report, past):
+    """A report of roles counts what was given and taken, in each direction."""
+    if not report.is_direct and not counting(report, past):
+        yield report.end, "; ".join(report.count_lines(past))
+
+
+def counting(report, past):
+    """Where the counts stand of all that the report tells."""
+    counted = list(report.count_lines(past))
+    return [at for at in range(len(report.texts)) if report.texts[at : at + 2] == counted]
+
+
+@report_rule("last")
+def last(report, past):
+    """The last lines of roles are these counts and each end's state, and nothing is behind them."""
+    if report.is_direct:
+        return
+    if [words[:1] for words in report.answers[-4:]] != [(name,) for name in LAST]:
+        yield report.end, f"the last lines tell {', '.join(LAST)}"
+    elif len(report.texts) - 4 not in counting(report, past):
+        yield report.end - 3, "the last lines count something else"
+    for at, words in enumerate(report.answers[:-4]):
+        if words[:1] and words[0] in LAST:
+            yield at, "this is told in the last lines alone"
+
+
+# ---- ends that closed
+
+
+def told_by(words):
+    """The end that an answer to a give or a take is of, or a last line, and what it tells."""
+    if words[0] in ("give", "take"):
+        return words[1], words[2:]
+    return words[0][0], words[1:]
+
+
+@answer_rule("give take client server", "named")
+def named(report, past, at, words):
+    """Behind the report of its close, each answer of an end names the same cause."""
+    end, tells = told_by(words)
+    if end in past.causes and tells != ("closed", *past.causes[end]):
+        return f"{end} closed with {' '.join(past.causes[end])}"
+
+
+@answer_rule("give take client server", "reported")
+def reported(report, past, at, words):
+    """An answer of an end names no cause, but one that was reported before for that end."""
+    end, tells = told_by(words)
+    if tells[:1] == ("closed",) and (end, *tells[1:]) not in past.reported:
+        return f"no line before reports {end} as closed with this cause"
+
+
+# ---- why nodes close
+
+
+@answer_rule("closed", "once")
+def once(report, past, at, words):
+    """Each node is reported as closed once at most."""
+    if words[1] in past.causes:
+        return f"{words[1]} closed before"
+
+
+@answer_rule("closed", "honest")
+def honest(report, past, at, words):
+    """A node closes for a break, an end, a refused request or silence, and for nothing else."""
+    if words[2:4] not in FROM_OUTSIDE:
+        return f"no node of a recording closes with {words[3]}"
+
+
+@answer_rule("closed", "reasons.shown")
+def shown(report, past, at, words):
+    """The cause of a close shows in the answers of its line."""
+    if not shows(report.own_answers(at), words[2:]):
+        return f"no answer of this line shows why {words[1]} closed"
+
+
+def shows(answers, cause):
+    """Whether one of the answers is what the cause tells of."""
+    number, leg = cause[0], cause[2]
+    own = [words for words in answers if words[1:2] == (leg,)]
+    if number == "1":
+        return any(words[0] in ("break", "end") and words[-1] == "ok" for words in own)
+    if number == "2":
+        return any(words[0] == "end" and words[-1] == "ok" for words in own)
+    if number == "11":
+        return ("tick", cause[-1], "ok") in answers
+    # A node that has no room on one leg was fed on another.
+    moved = [words for words in (answers if number == "12" else own) if words[:1] == ("move",)]
+    return any(words[-1] != "no" for words in moved)
+
+
+@answer_rule("closed", "reasons.licensed")
+def licensed(report, past, at, words):
+    """A node closes for what it was told itself: it stands at the leg, and on that side of it."""
+    node, number, leg = words[1], words[2], words[4]
+    legs = past.legs
+    if number == "1":
+        is_told = node in legs.breaks.get(leg, ()) or node == legs.losses.get(leg)
+    elif number == "2":
+        is_told = (node, words[5]) == legs.ends.get(leg)
+    else:
+        is_told = node in (legs.node(leg, leg[0]), legs.node(leg, leg[1]))
+    return None if is_told else f"nothing that {node} was told closes it so"
+
+
+@answer_rule("closed", "reasons.refused")
+def refused(report, past, at, words):
+    """A refused request closes the client, for a response of that status that a move made whole."""
+    if words[3] != "HttpRefused":
+        return None
+    leg, status = words[4], words[5]
+    part, whole_at = report.own[at], past.legs.headed.get((leg, "d"), -1)
+    is_refused = part.begin <= whole_at < part.closed and words[1] == "c"
+    if not is_refused or past.legs.stream(leg, "d").status() != status:
+        return "no response of this status was whole for the client by this line"
+
+
+@answer_rule("closed", "reasons.silent")
+def silent(report, past, at, words):
+    """Silence closes the client or an in proxy, after the time told or set, since the last byte."""
+    if words[3] != "Silent":
+        return None
+    leg, since, now = words[4], int(words[5]), int(words[6])
+    kind, way, key = WATCHED.get(words[1][0], ("none", "u", ""))
+    if leg[:2] != kind or past.legs.moment != now:
+        return f"{words[1]} watches no such leg, or this is not the moment"
+    if past.legs.heard.get((leg, way)) != since:
+        return f"the last byte on {leg} came at another moment"
+    if now - since < report.settings.get(key, SILENT_AFTER):
+        return "a leg may be silent for longer"
+
+
+@answer_rule("closed", "refusals")
+def refusals(report, past, at, words):
+    """A request is refused with 503, behind the break of that channel's leg to the server."""
+    if words[3] == "HttpRefused":
+        server_leg = {"co": "os", "ci": "is"}.get(words[4][:2], "none") + words[4][2:]
+        if words[5] != "503" or server_leg not in past.legs.breaks:
+            return f"the status is not 503, or no line reports that {server_leg} broke"
+
+
+# ---- which answers there are
+
+
+@report_rule(None, DEFINED)
+def answers(report, past):
+    """Each line but the first and the settings has its answer, and nothing else is answered."""
+    if not report.is_whole:
+        yield report.end, "the last line has no LF"
+    for at, words in enumerate(report.answers):
+        if not words:
+            yield at, "this is no line of a report"
+    for part in report.parts:
+        wrong = answered_amiss(report, part)
+        if wrong:
+            yield min(part.begin, report.end), wrong
+
+
+def answered_amiss(report, part):
+    """What is wrong with a line's own answers."""
+    own, line = report.answers[part.begin : part.closed], part.line
+    if not own:
+        return "the report is over"
+    if line[0] == "last":
+        return None if own[0][:1] == ("up",) else "this line answers nothing"
+    if line[0] == "settle":
+        is_over = own[-1][:1] in (("quiet",), ("spent",))
+        return None if is_over else "a settling ends with quiet or spent"
+    count = OWN_WORDS.get(line[0], len(line))
+    if own[0] and own[0][:count] != tuple(line[:count]):
+        return f"this is no answer to {' '.join(line[:count])}"
+    if own[0][2:3] == ("ok",) and line[0] == "give" and own[0][3] != str(len(line[2]) // 2):
+        return f"the PDU has {len(line[2]) // 2} bytes"
+    return None
+
+
+@answer_rule("give", None, DEFINED)
+def closing(report, past, at, words):
+    """A give is refused with closing exactly where that end was told to give no more."""
+    if words[2] not in ("ok", "closed") and words[1] not in past.closed:
+        if (words[2] == "closing") != (words[1] in past.closing):
+            return f"{words[1]} answers closing where it was told to give no more"
+
+
+@answer_rule("open move take end quiet spent", None, DEFINED)
+def rounds(report, past, at, words):
+    """A settling does at most its rounds, is spent where it did as many, and tells what it did."""
+    part = report.own[at]
+    if part.line[0] != "settle" or at >= part.closed:
+        return None
+    if words[0] in ("quiet", "spent"):
+        most, many = int(part.line[1]), int(words[1])
+        is_right = many <= most and (many == most) == (words[0] == "spent")
+        return None if is_right else f"at most {most} rounds were asked for"
+    is_again = words[2:] == ("ended",) and words[1] in past.ended
+    does_nothing = words[-1] in ("no", "0", "empty") or is_again
+    return "a round tells what did nothing" if does_nothing else None
+
+
+@answer_rule("closed", None, DEFINED)
+def in_turn(report, past, at, words):
+    """The nodes that a line closed stand in their order."""
+    before = report.answers[at - 1] if at else ()
+    if before[:1] == ("closed",):
+        if node_order(words[1]) <= node_order(before[1]):
+            return f"{words[1]} stands behind {before[1]}"
 
 
 def node_order(node):
@@ -54,197 +346,60 @@ def node_order(node):
     return "csio".index(node[0]), int(node[1:] or 0)
 
 
-def node_at(leg, way):
-    """The letter of the node that puts what goes this way on the leg; a leg has those of both."""
-    return leg[0] if way == "u" else leg[1]
+@answer_rule("move", None, DEFINED)
+def moved(report, past, at, words):
+    """In a direct recording bytes move as they were given."""
+    if report.is_direct and len(words) == 5:
+        giver, stream = {"u": "c", "d": "s"}[words[2]], past.legs.stream("cs", words[2])
+        fed = "".join(stream.frames) + stream.rest.hex()
+        if not "".join(past.given[giver]).startswith(fed + words[4]):
+            return f"these bytes are not the next that {giver} gave"
 
 
-class Walk:
-    """What a report said so far. A fault is a rule, the number of a line and what is wrong."""
+@answer_rule("take", None, DEFINED)
+def found(report, past, at, words):
+    """In a direct recording a take finds the next PDU that came whole, where there is one."""
+    if report.is_direct:
+        frames = past.legs.stream("cs", {"s": "u", "c": "d"}[words[1]]).frames
+        count = len(past.taken[words[1]])
+        if list(words[3:]) != frames[count : count + 1]:
+            return "this is not the next PDU that came whole, or there is one"
 
-    def __init__(self, recording, report):
-        self.lines = recording.removesuffix("\n").split("\n")
-        self.report = report.removesuffix("\n").split("\n")
-        self.place = 0
+
+@report_rule(None, DEFINED)
+def direct_counts(report, past):
+    """A direct recording's report ends with the counts of what was given and taken."""
+    if report.is_direct and counting(report, past) != [len(report.texts) - 2]:
+        yield report.end, "; ".join(report.count_lines(past))
+
+
+# ---- all of them
+
+
+class Walk(Past):
+    """What a report says, and its faults: the rule that is broken, the line, and what is wrong."""
+
+    def __init__(self, recording, text):
+        self.told = Report(recording, text)
+        super().__init__(self.told)
+        self.report = self.told.texts
         self.faults = []
-        self.given = {"c": [], "s": []}
-        self.taken = {"c": [], "s": []}
-        self.told_to_stop, self.ended, self.causes = set(), set(), {}
-        self.states = {}
-        if not report.endswith("\n"):
-            self.fault("answers", "the last line has no LF")
-
-    def fault(self, rule, what):
-        self.faults.append((rule, max(self.place, 1), what))
-
-    def next(self):
-        """The words of the next line; none where the report is over, or has no such line."""
-        if self.place == len(self.report):
-            self.fault("answers", "the report is over")
-            return []
-        line = self.report[self.place]
-        self.place += 1
-        if not SHAPE.fullmatch(line):
-            self.fault("answers", "this is no line of a report")
-            return []
-        return line.split(" ")
-
-    def ahead(self):
-        """The first word of the next line."""
-        return self.report[self.place].split(" ")[0] if self.place < len(self.report) else ""
-
-    # ---- ends
-
-    def give(self, end, pdu, words):
-        """An answer to a give, from behind the end on."""
-        if words[:1] == ["ok"]:
-            if words[1:] != [str(len(pdu) // 2)]:
-                self.fault("answers", f"the PDU has {len(pdu) // 2} bytes")
-            if end in self.causes or end in self.told_to_stop:
-                self.fault("given", f"{end} gives after it closed or was told to give no more")
-            self.given[end].append(pdu.lower())
-        elif end in self.causes or words[:1] == ["closed"]:
-            self.caused(end, words)
-        elif (end in self.told_to_stop) != (words == ["closing"]):
-            self.fault("answers", f"{end} answers closing where it was told to give no more")
-
-    def take(self, end, words):
-        """An answer to a take, from behind the end on."""
-        if words[:1] == ["pdu"]:
-            self.take_pdu(end, words[1])
-        elif words == ["ended"]:
-            if OTHER[end] not in self.told_to_stop or self.taken[end] != self.given[OTHER[end]]:
-                self.fault("ended", f"{end} reports a clean end, and not all was given and taken")
-            self.ended.add(end)
-        if end in self.causes or words[:1] == ["closed"]:
-            self.caused(end, words)
-
-    def take_pdu(self, end, pdu):
-        if end in self.causes or end in self.ended:
-            self.fault("taken", f"{end} takes after it closed or reported a clean end")
-        given, at = self.given[OTHER[end]], len(self.taken[end])
-        if given[at : at + 1] != [pdu]:
-            self.fault("order", f"the PDU is not number {at + 1} of those that {OTHER[end]} gave")
-        self.taken[end].append(pdu)
-
-    def untaken(self):
-        """How many PDUs were given and not taken."""
-        return sum(len(self.given[OTHER[end]]) - len(self.taken[end]) for end in OTHER)
-
-    def caused(self, end, words):
-        """The words `closed` and a cause, which is the one for which the end closed."""
-        if words[:1] != ["closed"] or self.causes.get(end) != words[1:]:
-            self.fault("causes", f"{end} closed with {' '.join(self.causes.get(end, ['nothing']))}")
-
-    # ---- answers
-
-    def answer(self, line):
-        """Reads the answers to a line, and the nodes that it closed."""
-        begin = self.place
-        if line[0] == "settle":
-            self.settle(int(line[1]))
-        else:
-            # What a line offers or asks for is no part of its answer.
-            own = line[: {"give": 2, "send": 3, "move": 3}.get(line[0], len(line))]
-            words = self.next()
-            if words[: len(own)] != own:
-                self.fault("answers", f"this is no answer to {' '.join(own)}")
-            elif words:
-                self.hear(words, line)
-        self.close(begin)
-
-    def hear(self, words, line=()):
-        """One answer that says something of an end."""
-        if words[0] == "give":
-            self.give(words[1], line[2], words[2:])
-        elif words[0] == "take":
-            self.take(words[1], words[2:])
-        elif words[0] == "close":
-            self.told_to_stop.add(words[1])
-
-    def settle(self, most):
-        """The answers of a settling: what its rounds report, and how many they were."""
-        while self.ahead() in ("open", "move", "take", "end"):
-            words = self.next()
-            if words:
-                self.hear_settled(words)
-        words = self.next()
-        if words[:1] not in (["quiet"], ["spent"]):
-            self.fault("answers", "a settling ends with quiet or spent")
-            return
-        rounds = int(words[1])
-        if rounds > most or (rounds == most) != (words[0] == "spent"):
-            self.fault("rounds", f"at most {most} rounds were asked for")
-
-    def hear_settled(self, words):
-        """An answer of a round, which tells only what did something."""
-        if words[-1] in ("no", "0", "empty") or words[2:] == ["ended"] and words[1] in self.ended:
-            self.fault("answers", "a round tells what did nothing")
-        self.hear(words)
-
-    def close(self, begin):
-        """Reads the nodes that the answers from `begin` on closed."""
-        answers, last = self.report[begin : self.place], None
-        while self.ahead() == "closed":
-            words = self.next()
-            if not words:
-                continue
-            node, cause = words[1], words[2:]
-            if node in self.causes or (last and node_order(node) <= node_order(last)):
-                self.fault("once", f"{node} closed before, or stands behind {last}")
-            if not is_reason(node, cause, answers):
-                self.fault("reasons", f"no line says why {node} closed")
-            self.causes.setdefault(node, cause)
-            last = node
-
-    # ---- the whole
-
-    def last(self, is_direct):
-        """Reads the last lines."""
-        for name, (giver, taker) in DIRECTIONS.items():
-            told = f"given {len(self.given[giver])} taken {len(self.taken[taker])}"
-            if self.next() != [name, *told.split(" ")]:
-                self.fault("counts", f"{name} {told}")
-        for end, name in NAMES.items() if not is_direct else ():
-            words = self.next()
-            if words[:1] != [name]:
-                self.fault("answers", f"the state of the {name} is told here")
-                continue
-            self.states[end] = words[1]
-            if end in self.causes or words[1] == "closed":
-                self.caused(end, words[1:])
-        if self.place != len(self.report):
-            self.place += 1
-            self.fault("answers", "this line answers nothing")
 
     def run(self):
-        for line in self.lines[1:]:
-            words = line.split(" ")
-            if words[0] != "set":
-                self.answer(words)
-        self.last(self.lines[0] == "rh 1 direct")
+        of_word = {word: [it for it in ALL.values() if word in it.of] for word in WORDS}
+        for at, words in enumerate(self.told.answers):
+            if not words:
+                continue
+            for rule in of_word[words[0]]:
+                why = rule.find(self.told, self, at, words)
+                if why:
+                    self.faults.append((rule.name, at + 1, why))
+            self.hear(at, words)
+        for rule in ALL.values():
+            if not rule.of:
+                self.faults += [(rule.name, at + 1, why) for at, why in rule.find(self.told, self)]
+        self.faults.sort(key=lambda fault: fault[1])
         return self
-
-
-def is_at(node, leg):
-    """Whether the node may be at an end of the leg. An in proxy may read several ci legs."""
-    return node[0] in leg[:2] and (node[0] != "o" or node[1:] == leg[2:])
-
-
-def is_reason(node, cause, answers):
-    """Whether the answers of a line say why a node closed with this cause."""
-    number, leg = cause[0], cause[2]
-    if not is_at(node, leg):
-        return False
-    if number == "1":
-        ways = [way for way in "ud" if node_at(leg, way) == node[0]]
-        return f"break {leg} ok" in answers or any(f"end {leg} {way} ok" in answers for way in ways)
-    if number == "2":
-        ways = [way for way in "ud" if node_at(leg, way) != node[0]]
-        return any(f"end {leg} {way} ok" in answers for way in ways)
-    if number == "9":
-        return node == "c" and any(answer.startswith(f"move {leg} d ") for answer in answers)
-    return number == "11" and f"tick {cause[-1]} ok" in answers
 
 
 def walk(recording, report):

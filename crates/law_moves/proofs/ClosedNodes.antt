@@ -1,14 +1,8 @@
 -- how bytes are cut, and nodes that closed
-use Rattle.std.proofs.Common.{◌≡◌, ℕ, List, [], ◌∷◌, ◌++◌, take, drop, cond, Bool, true, false, refl}
-use Rattle.rh_line.specs.declared.leg.Leg.{Leg}
-use Rattle.rh_line.specs.declared.cause.Cause.{Cause}
+use Rattle.law_order.proofs.Vocabulary.{◌≡◌, ℕ, List, [], ◌∷◌, ◌++◌, take, drop, cond, Bool, true, false, refl}
 use Rattle.rh_line.specs.declared.state.Verdict.TheVariants as verdict
-use Rattle.rh_shell.specs.declared.course.Course.{Course}
-use Rattle.rh_shell.specs.declared.course.Course.TheVariants.{Going, Closed, Refusing}
-use Rattle.rh_shell.specs.Rules.{Rules}
-use Rattle.rh_shell.specs.Hearing.{Turn, hear, hear_byte}
-use Rattle.rh_shell.specs.Shells.{Shell, same_leg, bytes, ended, broken, drawn, tick}
-use Rattle.law_moves.specs.Laws.{ClosedWith, Stays}
+use Rattle.rh_shell.specs.Shells.{drawn}
+use Rattle.law_moves.proofs.Vocabulary.{Leg, Cause, Course, Going, Closed, Refusing, Rules, Turn, hear, hear_byte, Shell, same_leg, bytes, ended, broken, tick, ClosedWith, Stays}
 
 pub hear_cut : {S : Type 0} (rules : Rules S) (now : ℕ) (t : Turn S) (xs ys : List ℕ)
     → hear rules now t (xs ++ ys) ≡ hear rules now (hear rules now t xs) ys

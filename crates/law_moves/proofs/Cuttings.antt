@@ -1,38 +1,19 @@
 -- what comes and goes in two pieces is as in one
-use Rattle.std.proofs.Common.{◌≡◌, ℕ, zero, suc, ◌+◌, List, [], ◌∷◌, ◌++◌, length, cond, Bool, true, false, Some, None, Ok, Err, arith, refl, sym, ap, ◌∙◌, subst}
-use Rattle.std.specs.Prelude.{slice_get, slice_set}
-use Rattle.std.specs.declared.option.Option.{Option}
-use Rattle.std.specs.declared.result.Result.{Result}
-use Rattle.std.proofs.lemmas.Option.{slice_get_within, slice_get-get_or}
-use Rattle.std.proofs.lemmas.List.{get_or-set_same, length-set}
-use Rattle.rh_http.specs.declared.refusal.Refusal.{Refusal}
-use Rattle.rh_line.specs.declared.leg.Leg.{Leg}
-use Rattle.rh_line.specs.declared.cause.Cause.{Cause}
-use Rattle.rh_shell.specs.declared.answers.Count.{Count}
-use Rattle.rh_shell.specs.declared.answers.HeadRefused.{HeadRefused}
-use Rattle.rh_shell.specs.declared.answers.HeadTaken.{HeadTaken}
-use Rattle.rh_shell.specs.declared.course.Course.{Course}
-use Rattle.rh_shell.specs.declared.course.Course.TheVariants.{Going, Closed, Refusing}
-use Rattle.rh_shell.specs.declared.stop.Stop.{Stop}
-use Rattle.rh_shell.specs.Intakes.{Came, Nothing, Head, Greeting, Frame, Fault, Over, on_byte}
-use Rattle.rh_shell.specs.Rules.{Rules}
-use Rattle.rh_shell.specs.NearEnds.{NearEnd}
-use Rattle.rh_shell.specs.Hearing.{Turn, goes, touched, with_intake, heading, head_row, behind_head, behind_frame, take_frame, is_greeting, hear, hear_byte}
-use Rattle.rh_shell.specs.Hearing.{take as taken}
-use Rattle.rh_shell.specs.Shells.{Shell, first_where, is_at, same_leg, place, end_at, with_end, turned, stopped, stop_by, bytes_at, bytes_by, bytes, with_verdict}
-use Rattle.rh_shell.proofs.Hearings.{hear_stopped}
-use Rattle.law_moves.specs.Carrying.{is_deaf}
+use Rattle.law_order.proofs.Vocabulary.{◌≡◌, ℕ, zero, suc, ◌+◌, List, [], ◌∷◌, ◌++◌, length, cond, Bool, true, false, Some, None, Ok, Err, arith, refl, sym, ap, ◌∙◌, subst, slice_get, slice_set, Option, Result, slice_get_within, slice_get-get_or, get_or-set_same, length-set}
+use Rattle.rh_shell.specs.Intakes.{Over}
+use Rattle.law_moves.proofs.Vocabulary.{Refusal, Leg, Cause, hear_stopped, Count, HeadRefused, HeadTaken, Course, Going, Closed, Refusing, Stop, Came, Nothing, Head, Greeting, Frame, Fault, on_byte, Rules, NearEnd, Turn, goes, touched, with_intake, heading, head_row, behind_head, behind_frame, take_frame, is_greeting, hear, hear_byte, take as taken, Shell, first_where, is_at, same_leg, place, end_at, with_end, turned, stopped, stop_by, bytes_at, bytes_by, bytes, with_verdict}
+use Rattle.law_moves.proofs.Vocabulary.{is_deaf}
 use Rattle.law_moves.proofs.ClosedNodes.{hear_cut}
 
 -- ---- the leg of an end stays
 
-head_leg : {S : Type 0} (end : NearEnd) (leg : Leg) (n : ℕ)
+pub head_leg : {S : Type 0} (end : NearEnd) (leg : Leg) (n : ℕ)
     (x : S × Result HeadTaken HeadRefused)
     → (behind_head end (head_row leg n x)).end.leg ≡ end.leg
 head_leg end leg n (role, Ok t) = refl
 head_leg end leg n (role, Err why) = refl
 
-frame_leg : {S : Type 0} (end : NearEnd) (x : S × Result Count Cause)
+pub frame_leg : {S : Type 0} (end : NearEnd) (x : S × Result Count Cause)
     → (behind_frame end x).end.leg ≡ end.leg
 frame_leg end (role, Ok next) = refl
 frame_leg end (role, Err why) = refl

@@ -1,27 +1,13 @@
 -- whatever happens at an end, its role goes on by moves
-use Rattle.std.proofs.Common.{◌≡◌, ℕ, List, [], ◌∷◌, ◌++◌, map, Some, None, Ok, Err, refl, sym, ap, ◌∙◌, subst}
-use Rattle.std.specs.declared.option.Option.{Option}
-use Rattle.std.specs.declared.result.Result.{Result}
-use Rattle.std.proofs.lemmas.List.{append-nil}
-use Rattle.std.proofs.lemmas.List.Elements.{All-nil}
-use Rattle.rh_line.specs.declared.cause.Cause.{Cause}
-use Rattle.rh_line.specs.declared.state.State.{State}
+use Rattle.law_order.proofs.Vocabulary.{◌≡◌, ℕ, List, [], ◌∷◌, ◌++◌, map, Some, None, Ok, Err, refl, sym, ap, ◌∙◌, subst, Option, Result, append-nil, All-nil}
 use Rattle.rh_line.specs.declared.state.State.TheVariants as state
-use Rattle.rh_shell.specs.declared.answers.Phase.{Phase}
+use Rattle.rh_shell.specs.Ends.{given_by as give_answer, after_take, close}
 use Rattle.rh_shell.specs.declared.answers.Phase.TheVariants as phase
-use Rattle.rh_shell.specs.declared.course.Course.{Course}
-use Rattle.rh_shell.specs.declared.course.Course.TheVariants.{Going, Closed, Refusing}
-use Rattle.rh_shell.specs.declared.end_role.GiveRefused.{GiveRefused}
-use Rattle.rh_shell.specs.declared.rooms.Rooms.{Rooms}
-use Rattle.rh_shell.specs.Rules.{Rules, Acts}
-use Rattle.rh_shell.specs.Shells.{Shell, begun, state_by, state_of}
-use Rattle.rh_shell.specs.Ends.{given_by as give_answer, cause_of, give_where, give, take_where, after_take, close_where, close, recycle_where, recycle}
-use Rattle.law_moves.specs.Moves.{Move, EndMove, Passage, EndPassage, Moves, Gives, Takes, Closes, Recycles, MayEndMove, AreAllowed, AreAllowedAtEnd, given_by, with_first, all_moved, end_now_at, end_moved, all_end_moved, end_started}
-use Rattle.law_moves.specs.Moving.{Event, after_event, EndEvent, Happens, IsGiven, IsTaken, IsClosed, IsRecycled, after_end_event, after_end_events, IsHeld, AreHeld, EndLeads, EndFollows}
-use Rattle.law_moves.specs.Carrying.{IsQuiet, LogsAtEnd, EndLogs, EndPasses, Passes, accepted, first_in, handed_by}
+use Rattle.law_moves.proofs.Vocabulary.{Cause, State, Phase, Course, Going, Closed, Refusing, GiveRefused, Rooms, Rules, Acts, Shell, begun, state_by, state_of, cause_of, give_where, give, take_where, close_where, recycle_where, recycle, Move, EndMove, Passage, EndPassage, Moves, Gives, Takes, Closes, Recycles, MayEndMove, AreAllowed, AreAllowedAtEnd, given_by, with_first, all_moved, end_now_at, end_moved, all_end_moved, end_started, Event, after_event, EndEvent, Happens}
+use Rattle.law_moves.proofs.Vocabulary.{IsGiven, IsTaken, IsClosed, IsRecycled, after_end_event, after_end_events, IsHeld, AreHeld, EndLeads, EndFollows, IsQuiet, LogsAtEnd, EndLogs, EndPasses, Passes, accepted, first_in, handed_by}
 use Rattle.law_moves.proofs.Following.{event_passes}
 
-open_phase : (c : Course) (f : Phase) → state_by c f ≡ state.Open → f ≡ phase.Open
+pub open_phase : (c : Course) (f : Phase) → state_by c f ≡ state.Open → f ≡ phase.Open
 open_phase Going phase.Opening h = absurd cc
 open_phase Going phase.Open h = refl
 open_phase Going phase.Ended h = absurd cc

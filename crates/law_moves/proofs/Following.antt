@@ -1,41 +1,22 @@
 -- whatever happens at a node, its role goes on by moves
-use Rattle.std.proofs.Common.{◌≡◌, ℕ, List, [], ◌∷◌, ◌++◌, length, take, drop, cond, Bool, true, false, Some, None, arith, refl, sym, ap, ◌∙◌, subst}
-use Rattle.std.specs.Prelude.{All, slice_get, slice_set, ◌&&◌, not, nat_lt, nat_le}
-use Rattle.std.specs.declared.option.Option.{Option}
-use Rattle.std.proofs.lemmas.List.Elements.{All-nil, All-set, All-push}
-use Rattle.std.proofs.lemmas.Option.{slice_get_within, get_or_from_slice_get}
-use Rattle.rh_pdu.specs.Frames.{IsUnfinished}
-use Rattle.rh_rts.specs.declared.command.Cookie.{Cookie}
-use Rattle.rh_http.specs.Texts.{refusal_text}
-use Rattle.rh_http.specs.declared.refusal.Refusal.{Refusal}
-use Rattle.rh_http.specs.declared.refusal.Refusal.TheVariants.{Unavailable}
-use Rattle.rh_line.specs.declared.leg.Leg.{Leg}
-use Rattle.rh_line.specs.declared.cause.Cause.{Cause}
+use Rattle.law_order.proofs.Vocabulary.{◌≡◌, ℕ, List, [], ◌∷◌, ◌++◌, length, take, drop, cond, Bool, true, false, Some, None, refl, sym, ap, ◌∙◌, subst, All, slice_get, slice_set, ◌&&◌, not, nat_lt, nat_le, Option, All-nil, All-set, All-push, slice_get_within, get_or_from_slice_get}
 use Rattle.rh_line.specs.declared.cause.Cause.TheVariants as cause
-use Rattle.rh_shell.specs.declared.answers.Phase.{Phase}
+use Rattle.rh_shell.specs.Shells.{drawn}
 use Rattle.rh_shell.specs.declared.answers.Phase.TheVariants as phase
-use Rattle.rh_shell.specs.declared.course.Course.{Course}
-use Rattle.rh_shell.specs.declared.course.Course.TheVariants.{Going, Closed, Refusing}
-use Rattle.rh_shell.specs.declared.rooms.Rooms.{Rooms}
 use Rattle.rh_shell.specs.declared.stage.Stage.TheVariants as stage
-use Rattle.rh_shell.specs.declared.stop.Stop.{Stop}
-use Rattle.rh_shell.specs.Rules.{Rules}
-use Rattle.rh_shell.specs.NearEnds.{NearEnd, new_end, marked, is_marked, is_ended, is_finished}
-use Rattle.rh_shell.specs.Hearing.{goes, hear}
-use Rattle.rh_shell.specs.Drawing.{draw}
-use Rattle.rh_shell.specs.Shells.{Shell, begun, end_at, with_end, place, close, refuse, stop_by, stopped, bytes_at, bytes_by, bytes, may_up, has_room, with_leg, seated_at, free_place, up, lose, lost, ended_at, ended_by, ended, wants, is_heard, unreached_by, unreached, broken_at, broken_by, broken, put_back, drawn_at, drawn_by, drawn, same_leg, is_quiet, pinged, first_silent, passed_by, passed, tick, is_working, is_working_by, state_by}
-use Rattle.law_moves.specs.Moves.{Passage, Up, Marks, Pings, MayMove, moved, started}
-use Rattle.law_moves.specs.Moving.{Event, ComesUp, Hears, Ends, Breaks, Draws, Ticks, after_event, after_events, IsHeld, AreHeld, Leads, Follows}
-use Rattle.law_moves.specs.Carrying.{IsQuiet, PutsTo, TakesTo, LogsUnmarked, LogsDrawn, LogsHeard, Logs, Passes}
+use Rattle.law_moves.proofs.Vocabulary.{IsUnfinished, Cookie, refusal_text, Refusal, Unavailable, Leg, Cause, Phase, Course, Going, Closed, Refusing, Rooms, Stop, Rules, NearEnd, new_end, marked, is_marked, is_ended, is_finished, goes, hear, draw, Shell, begun, end_at, with_end, place, close, refuse, stop_by, stopped, bytes_at, bytes_by, bytes, may_up, has_room, with_leg, seated_at, free_place, up, lose, lost, ended_at, ended_by, ended, wants, is_heard, unreached_by}
+use Rattle.law_moves.proofs.Vocabulary.{unreached, broken_at, broken_by, broken, put_back, drawn_at, drawn_by, same_leg, is_quiet, pinged, first_silent, passed_by, passed, tick, is_working, is_working_by, state_by, Passage, Up, Marks, Pings, MayMove, moved, started, Event, ComesUp, Hears, Ends, Breaks, Draws, Ticks, after_event, after_events, IsHeld, AreHeld, Leads, Follows, IsQuiet, PutsTo, TakesTo, LogsUnmarked, LogsDrawn, LogsHeard, Passes}
 use Rattle.law_moves.proofs.Leading.{leads_none, leads_one, leads_then}
 use Rattle.law_moves.proofs.TakenPieces.{piece_takes}
 use Rattle.law_moves.proofs.Puttings.{draw_puts}
+use Rattle.law_moves.proofs.Takings.{nothing_held as new_held}
+use Rattle.law_moves.specs.Carrying.{Logs}
 
-both : (a b : Bool) → (a && b) ≡ true → (a ≡ true) × (b ≡ true)
+pub both : (a b : Bool) → (a && b) ≡ true → (a ≡ true) × (b ≡ true)
 both true b h = (refl, h)
 both false b h = absurd cc
 
-at_work : (c : Course) (f : Phase) → is_working_by (state_by c f) ≡ true → not (is_ended f) ≡ true
+pub at_work : (c : Course) (f : Phase) → is_working_by (state_by c f) ≡ true → not (is_ended f) ≡ true
 at_work Going phase.Opening h = refl
 at_work Going phase.Open h = refl
 at_work Going phase.Ended h = absurd cc
@@ -49,13 +30,7 @@ held_at ends i end at all =
     subst IsHeld (get_or_from_slice_get ends i end end at)
     (all i end (slice_get_within ends i end at))
 
--- nothing is held of a leg that comes up
-new_held : (held : List ℕ) → held ≡ [] → IsUnfinished held
-new_held held none long =
-    absurd (let size : length held ≡ 0 = ap (λ (x : List ℕ). length x) none in
-    omega (arith, size, long))
-
-seated_held : (legs : List NearEnd) (at : ℕ) (new : NearEnd) → All IsHeld legs → IsHeld new
+pub seated_held : (legs : List NearEnd) (at : ℕ) (new : NearEnd) → All IsHeld legs → IsHeld new
     → All IsHeld (seated_at legs at new)
 seated_held legs at new all one = by (nat_lt at (length legs))
   where

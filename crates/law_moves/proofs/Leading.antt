@@ -1,8 +1,6 @@
 -- moves behind moves
-use Rattle.std.proofs.Common.{◌≡◌, List, [], ◌∷◌, ◌++◌, refl, sym, ap, ◌∙◌, subst}
-use Rattle.rh_shell.specs.Rules.{Rules}
-use Rattle.law_moves.specs.Moves.{Move, Passage, MayMove, AreAllowed, moved, all_moved}
-use Rattle.law_moves.specs.Moving.{Leads}
+use Rattle.law_order.proofs.Vocabulary.{◌≡◌, List, [], ◌∷◌, ◌++◌, refl, sym, ap, ◌∙◌, subst}
+use Rattle.law_moves.proofs.Vocabulary.{Rules, Move, Passage, MayMove, AreAllowed, moved, all_moved, Leads}
 
 module _ {S : Type 0} (rules : Rules S) where
   moved_append : (p : Passage S) (ms ns : List Move)

@@ -1,14 +1,15 @@
+pub mod Lemmas
+pub mod Vocabulary
 mod ClosedNodes
 mod Merges
 pub mod Leading
 mod Takings
 mod TakenPieces
-mod Puttings
+pub mod Puttings
 mod Following
 mod EndFollowing
 mod Cuttings
 mod RoomCuts
-mod Rooming
 mod OnWires
 pub mod Legible
 pub mod Passages

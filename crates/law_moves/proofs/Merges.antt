@@ -1,19 +1,8 @@
 -- what merging keeps: one of each, and the greatest edge
-use Rattle.std.proofs.Common.{◌≡◌, ◌||◌, ◌&&◌, ◌==◌, ℕ, ◌+◌, ◌≤◌, max, List, [], ◌∷◌, ◌++◌, cond, nat_lt, Bool, true, false, Some, None, sym, ap, ◌∙◌, refl, arith, subst}
-use Rattle.std.specs.Prelude.{count_by}
-use Rattle.std.specs.Str.{bytes_eq}
-use Rattle.std.specs.List.{list_any}
-use Rattle.std.specs.declared.option.Option.{Option}
-use Rattle.std.proofs.lemmas.Bool.{and_parts, and_from, eqb-true, eq-eqb, true≢false}
-use Rattle.std.proofs.lemmas.Bool.Decides.{nat_tests}
-use Rattle.std.proofs.lemmas.Slice.Eq.{bytes_eq-Decides}
-use Rattle.std.proofs.lemmas.List.Sums.{sum_by-cons, sum_by_push}
-use Rattle.rh_sig.specs.declared.named.Named.{Named}
-use Rattle.rh_shell.specs.declared.due.Due.{Due}
-use Rattle.rh_shell.specs.declared.due.Origin.{Origin}
-use Rattle.rh_shell.specs.declared.due.Origin.TheVariants.{Forwarded}
-use Rattle.rh_shell.specs.Waiting.{Waiting, Key, is_of, are_same, own, to_forward, count, key_of, are_one, takes, edge_of, better, merged, empty, with_due}
+use Rattle.law_order.proofs.Vocabulary.{◌≡◌, ◌||◌, ◌&&◌, ◌==◌, ℕ, ◌+◌, ◌≤◌, max, List, [], ◌∷◌, ◌++◌, cond, nat_lt, Bool, true, false, Some, None, sym, ap, ◌∙◌, refl, arith, subst, count_by, bytes_eq, list_any, Option, and_parts, and_from, eqb-true, eq-eqb, true≢false, nat_tests, bytes_eq-Decides, sum_by-cons, sum_by_push}
 use Rattle.rh_shell.proofs.Kept.{better_origin, same_count, fewer}
+use Rattle.rh_shell.specs.Waiting.{is_of}
+use Rattle.law_moves.proofs.Vocabulary.{Named, Due, Origin, Forwarded, Waiting, Key, are_same, own, to_forward, count, key_of, are_one, takes, edge_of, better, merged, empty, with_due}
 use Rattle.law_moves.specs.Merging.{Event, Adds, Forwards, Takes, Clears, after, after_all, acknowledges, forwards, IsMerged, told, greatest, Raises}
 
 -- ---- keys

@@ -1,26 +1,12 @@
 -- what a leg carries in one call, and then in another one
-use Rattle.std.proofs.Common.{◌≡◌, ℕ, List, [], ◌∷◌, ◌++◌, append_assoc, cond, Bool, true, false, refl, sym, ap, ◌∙◌}
-use Rattle.std.specs.List.{concat}
-use Rattle.std.specs.declared.option.Option.{Option}
-use Rattle.std.proofs.lemmas.List.{append-nil}
-use Rattle.std.proofs.lemmas.List.Concat.{flat_map-append}
-use Rattle.std.proofs.lemmas.Bool.Decides.{nat_tests}
-use Rattle.std.proofs.Common.{arith}
-use Rattle.rh_pdu.proofs.Framing.{each_append}
-use Rattle.rh_sig.specs.declared.name.Pipe.{Pipe}
-use Rattle.rh_line.specs.declared.leg.Leg.{Leg}
+use Rattle.law_order.proofs.Vocabulary.{◌≡◌, ℕ, List, [], ◌∷◌, ◌++◌, append_assoc, cond, Bool, true, false, refl, sym, ap, ◌∙◌, concat, Option, append-nil, flat_map-append}
 use Rattle.rh_shell.specs.declared.stage.Stage.TheVariants as stage
-use Rattle.rh_shell.specs.Rules.{Rules, Message, spell}
-use Rattle.rh_shell.specs.NearEnds.{NearEnd}
-use Rattle.rh_shell.specs.Hearing.{Turn}
-use Rattle.rh_shell.specs.Drawing.{Drawn}
-use Rattle.rh_shell.specs.Shells.{same_leg}
-use Rattle.law_moves.specs.Moves.{Passage, OnLeg}
-use Rattle.law_moves.specs.Carrying.{on_leg, spelled, message_in, messages_in, is_deaf, IsQuiet, Puts, Takes}
-use Rattle.law_moves.specs.Wires.{of_leg, Out, In}
+use Rattle.law_moves.proofs.Vocabulary.{each_append, Pipe, Leg, Rules, Message, spell, NearEnd, Turn, Drawn, same_leg, Passage, OnLeg, on_leg, spelled, message_in, messages_in, is_deaf, IsQuiet, of_leg, Out, In}
 use Rattle.law_moves.proofs.TakenPieces.{concat_append}
+use Rattle.law_moves.proofs.PacketKinds.Counts.{itself}
+use Rattle.law_moves.specs.Carrying.{Puts, Takes}
 
-of_append : (leg : Leg) (xs ys : List OnLeg)
+pub of_append : (leg : Leg) (xs ys : List OnLeg)
     → of_leg leg (xs ++ ys) ≡ of_leg leg xs ++ of_leg leg ys
 of_append leg [] ys = refl
 of_append leg (x ∷ xs) ys = by (same_leg x.0 leg) (of_append leg xs ys)
@@ -30,9 +16,6 @@ of_append leg (x ∷ xs) ys = by (same_leg x.0 leg) (of_append leg xs ys)
         ≡ cond t (x.1 ∷ of_leg leg xs) (of_leg leg xs) ++ of_leg leg ys
     by true e = ap (λ (l : List Message). x.1 ∷ l) e
     by false e = e
-
-itself : (leg : Leg) → same_leg leg leg ≡ true
-itself leg = grind (arith, nat_tests)
 
 of_here : (leg : Leg) (ms : List Message) → of_leg leg (on_leg leg ms) ≡ ms
 of_here leg [] = refl

@@ -1,26 +1,17 @@
 -- bytes are drawn: what is put goes by moves
-use Rattle.std.proofs.Common.{◌≡◌, ℕ, zero, suc, List, [], ◌∷◌, ◌++◌, append_assoc, cond, Bool, true, false, Some, None, refl, sym, ap, ◌∙◌, subst}
-use Rattle.std.specs.Prelude.{◌&&◌, not}
-use Rattle.std.specs.declared.option.Option.{Option}
-use Rattle.std.proofs.lemmas.List.{append-nil}
-use Rattle.std.proofs.lemmas.List.Concat.{flat_map-append}
-use Rattle.rh_line.specs.declared.leg.Leg.{Leg}
-use Rattle.rh_shell.specs.NearEnds.{NearEnd, is_empty, is_over}
-use Rattle.rh_shell.specs.Rules.{Rules, Message, put_into, spell}
-use Rattle.rh_shell.specs.Drawing.{Drawn, drawn, put_on, filled, left_by, next_byte, draw}
+use Rattle.law_order.proofs.Vocabulary.{◌≡◌, ℕ, zero, suc, List, [], ◌∷◌, ◌++◌, append_assoc, cond, Bool, true, false, Some, None, refl, sym, ap, ◌∙◌, subst, ◌&&◌, not, Option, append-nil, flat_map-append}
 use Rattle.rh_shell.proofs.Draws.{behind}
-use Rattle.law_moves.specs.Moves.{Passage, OnLeg, IsDrawn, put_by, moved}
-use Rattle.law_moves.specs.Moves.{Puts as Putting}
-use Rattle.law_moves.specs.Moving.{Leads}
-use Rattle.law_moves.specs.Carrying.{on_leg, spelled, Puts}
+use Rattle.rh_shell.specs.NearEnds.{is_empty}
+use Rattle.law_moves.proofs.Vocabulary.{Leg, NearEnd, is_over, Rules, Message, put_into, spell, Drawn, drawn, put_on, filled, left_by, next_byte, draw, Passage, OnLeg, IsDrawn, put_by, moved, Puts as Putting, Leads, on_leg, spelled}
 use Rattle.law_moves.proofs.Leading.{leads_none, leads_one, leads_then}
 use Rattle.law_moves.proofs.TakenPieces.{on_leg_append, in_use}
+use Rattle.law_moves.specs.Carrying.{Puts}
 
-empty_is : (xs : List ℕ) → is_empty xs ≡ true → xs ≡ []
+pub empty_is : (xs : List ℕ) → is_empty xs ≡ true → xs ≡ []
 empty_is [] h = refl
 empty_is (x ∷ xs) h = absurd cc
 
-both : (a b : Bool) → (a && not b) ≡ true → (a ≡ true) × (b ≡ false)
+pub both : (a b : Bool) → (a && not b) ≡ true → (a ≡ true) × (b ≡ false)
 both true true h = absurd cc
 both true false h = (refl, refl)
 both false b h = absurd cc

@@ -1,20 +1,9 @@
 -- bytes are drawn into two rooms as into one
-use Rattle.std.proofs.Common.{◌≡◌, ℕ, zero, suc, ◌+◌, ◌<◌, List, [], ◌∷◌, ◌++◌, length, take, drop, cond, Bool, true, false, Some, None, arith, refl, sym, ap, ◌∙◌}
-use Rattle.std.specs.Prelude.{◌&&◌, not}
-use Rattle.std.specs.declared.option.Option.{Option}
-use Rattle.std.proofs.Math.Seq.{take-add}
-use Rattle.std.proofs.lemmas.List.{take_all, drop_all, drop-drop, length-take}
-use Rattle.rh_line.specs.declared.leg.Leg.{Leg}
-use Rattle.rh_line.specs.declared.cause.Cause.{Cause}
-use Rattle.rh_shell.specs.declared.course.Course.{Course}
-use Rattle.rh_shell.specs.declared.course.Course.TheVariants.{Going, Closed, Refusing}
-use Rattle.rh_shell.specs.Rules.{Rules, put_into}
-use Rattle.rh_shell.specs.NearEnds.{NearEnd, is_empty, is_over, is_marked}
-use Rattle.rh_shell.specs.Drawing.{Drawn, drawn, put_on, begun_now, filled, left_by, next_byte, draw}
-use Rattle.rh_shell.specs.Shells.{Shell, end_at, with_end, put_back, same_leg, drawn_at, drawn_by}
-use Rattle.rh_shell.specs.Shells.{drawn as drawn_from}
+use Rattle.law_order.proofs.Vocabulary.{◌≡◌, ℕ, zero, suc, ◌+◌, ◌<◌, List, [], ◌∷◌, ◌++◌, length, take, drop, cond, Bool, true, false, Some, None, arith, refl, sym, ap, ◌∙◌, ◌&&◌, not, Option, take-add, take_all, drop_all, drop-drop, length-take}
 use Rattle.rh_shell.proofs.Draws.{behind}
-use Rattle.law_moves.specs.Laws.{then_drawn}
+use Rattle.rh_shell.specs.NearEnds.{is_empty}
+use Rattle.rh_shell.specs.Shells.{drawn as drawn_from}
+use Rattle.law_moves.proofs.Vocabulary.{Leg, Cause, Course, Going, Closed, Refusing, Rules, put_into, NearEnd, is_over, is_marked, Drawn, drawn, put_on, begun_now, filled, left_by, next_byte, draw, Shell, end_at, with_end, put_back, same_leg, drawn_at, drawn_by, then_drawn}
 use Rattle.law_moves.proofs.Puttings.{no_bytes}
 use Rattle.law_moves.proofs.Cuttings.{end_is, end_again}
 

@@ -1,22 +1,9 @@
 -- the bytes of a piece, one after the other: what they make whole is taken by moves
-use Rattle.std.proofs.Common.{◌≡◌, ℕ, List, [], ◌∷◌, ◌++◌, append_assoc, Bool, true, false, refl, sym, ap, ◌∙◌, subst}
-use Rattle.std.specs.Prelude.{◌&&◌, ◌||◌, not, IsTrue}
-use Rattle.std.specs.List.{concat}
-use Rattle.std.specs.declared.option.Option.{Option}
-use Rattle.std.proofs.lemmas.List.{append-nil}
-use Rattle.std.proofs.lemmas.List.Concat.{flat_map-append}
-use Rattle.rh_pdu.proofs.Framing.{each_append}
-use Rattle.rh_sig.specs.declared.name.Pipe.{Pipe}
-use Rattle.rh_line.specs.declared.leg.Leg.{Leg}
-use Rattle.rh_shell.specs.NearEnds.{NearEnd, is_over, is_ended, is_marked}
-use Rattle.rh_shell.specs.Rules.{Rules, Message}
-use Rattle.rh_shell.specs.Hearing.{Turn, hear, hear_byte, heard, is_stopped}
-use Rattle.rh_shell.proofs.Hearings.{hear_none}
-use Rattle.law_moves.specs.Moves.{Passage, OnLeg, is_in_use}
-use Rattle.law_moves.specs.Moving.{IsHeld}
-use Rattle.law_moves.specs.Carrying.{on_leg, messages_in, message_in, is_deaf, Takes}
+use Rattle.law_order.proofs.Vocabulary.{◌≡◌, ℕ, List, [], ◌∷◌, ◌++◌, append_assoc, Bool, true, false, refl, sym, ap, ◌∙◌, subst, ◌&&◌, ◌||◌, not, IsTrue, concat, Option, append-nil, flat_map-append}
+use Rattle.law_moves.proofs.Vocabulary.{each_append, Pipe, Leg, hear_none, NearEnd, is_over, is_ended, is_marked, Rules, Message, Turn, hear, hear_byte, heard, is_stopped, Passage, OnLeg, is_in_use, IsHeld, on_leg, messages_in, message_in, is_deaf}
 use Rattle.law_moves.proofs.Leading.{leads_none, leads_then}
 use Rattle.law_moves.proofs.Takings.{byte_takes}
+use Rattle.law_moves.specs.Carrying.{Takes}
 
 pub on_leg_append : (leg : Leg) (xs ys : List Message)
     → on_leg leg (xs ++ ys) ≡ on_leg leg xs ++ on_leg leg ys

@@ -1,34 +1,11 @@
 -- a byte on a leg: what it makes whole is taken by moves
-use Rattle.std.proofs.Common.{◌≡◌, ◌≢◌, ℕ, ◌<◌, ◌≤◌, List, [], ◌∷◌, ◌++◌, length, cond, Bool, true, false, nat_lt, Some, None, Ok, Err, arith, refl, sym, ap, ◌∙◌, subst}
-use Rattle.std.specs.Prelude.{◌==◌, ◌&&◌, IsTrue, slice_index}
-use Rattle.std.specs.declared.option.Option.{Option}
-use Rattle.std.specs.declared.result.Result.{Result}
-use Rattle.std.proofs.lemmas.List.{append-nil, length-append, take-append-le}
-use Rattle.std.proofs.lemmas.Bool.Decides.{nat_tests}
-use Rattle.rh_pdu.specs.Header.{rts, frag_of, head_fault}
-use Rattle.rh_pdu.specs.Frames.{IsFrame, IsUnfinished}
-use Rattle.rh_pdu.specs.declared.fault.HeadFault.{HeadFault}
-use Rattle.rh_pdu.proofs.Headers.{frag_bounds, frag_same}
-use Rattle.rh_sig.specs.declared.named.Named.{Named}
-use Rattle.rh_line.specs.declared.leg.Leg.{Leg}
-use Rattle.rh_line.specs.declared.cause.Cause.{Cause}
-use Rattle.rh_shell.specs.declared.answers.Count.{Count}
-use Rattle.rh_shell.specs.declared.answers.HeadRefused.{HeadRefused}
-use Rattle.rh_shell.specs.declared.answers.HeadTaken.{HeadTaken}
-use Rattle.rh_shell.specs.declared.heading.Heading.{Heading}
-use Rattle.rh_shell.specs.declared.reading.PacketFault.{PacketFault}
-use Rattle.rh_shell.specs.declared.stage.Stage.{Stage}
+use Rattle.law_order.proofs.Vocabulary.{◌≡◌, ◌≢◌, ℕ, ◌<◌, ◌≤◌, List, [], ◌∷◌, ◌++◌, length, cond, Bool, true, false, nat_lt, Some, None, Ok, Err, arith, refl, sym, ap, ◌∙◌, subst, ◌==◌, ◌&&◌, IsTrue, slice_index, Option, Result, append-nil, length-append, take-append-le, nat_tests}
+use Rattle.rh_shell.specs.Intakes.{Over, behind}
 use Rattle.rh_shell.specs.declared.stage.Stage.TheVariants as stage
-use Rattle.rh_shell.specs.declared.stop.Stop.{Stop}
-use Rattle.rh_shell.specs.Intakes.{Intake, Came, Nothing, Head, Greeting, Frame, Fault, Over, behind, counted, is_full, length_told, is_whole_head, is_whole_greeting, text_by, frame_by, frame_byte, byte_by, on_byte}
-use Rattle.rh_shell.specs.Readings.{packet_of}
-use Rattle.rh_shell.specs.NearEnds.{NearEnd}
-use Rattle.rh_shell.specs.Rules.{Rules, Row, Message, Pdu, Packet}
-use Rattle.rh_shell.specs.Hearing.{Turn, goes, stops, with_intake, touched, heading, take, take_frame, take_packet, take_ping, head_row, behind_head, behind_frame, close_row, is_ping, is_greeting, one_more, is_zero, is_upward}
-use Rattle.law_moves.specs.Moves.{Passage, HeadCame, PduCame, PacketCame, moved, taken_by, is_in_use}
-use Rattle.law_moves.specs.Moving.{Leads, IsHeld}
-use Rattle.law_moves.specs.Carrying.{Cut, on_leg, message_in, named_messages, Takes}
+use Rattle.law_moves.proofs.Vocabulary.{frag_bounds, frag_same, rts, frag_of, head_fault, IsFrame, IsUnfinished, HeadFault, Named, Leg, Cause, Count, HeadRefused, HeadTaken, Heading, PacketFault, Stage, Stop, Intake, Came, Nothing, Head, Greeting, Frame, Fault, counted, is_full, length_told, is_whole_head, is_whole_greeting, text_by, frame_by, frame_byte, byte_by, on_byte, packet_of, NearEnd, Rules, Row, Message, Pdu, Packet, Turn, goes, stops, with_intake, touched, heading}
+use Rattle.law_moves.proofs.Vocabulary.{take, take_frame, take_packet, take_ping, head_row, behind_head, behind_frame, close_row, is_ping, is_greeting, one_more, is_zero, is_upward, Passage, HeadCame, PduCame, PacketCame, moved, taken_by, is_in_use, Leads, IsHeld, Cut, on_leg, message_in, named_messages}
 use Rattle.law_moves.proofs.Leading.{leads_none, leads_one}
+use Rattle.law_moves.specs.Carrying.{Takes}
 
 -- ---- what a byte makes of what is held
 
@@ -45,7 +22,7 @@ ByteIs i all j (Fault place fault) = j.stage ≡ stage.Shut
 ByteIs i all j (Over length) = j.stage ≡ stage.Shut
 
 -- a header that is whole, and bytes that are not more than its frame
-grown : (held : List ℕ) (b : ℕ) → IsUnfinished held → 16 ≤ length (held ++ b ∷ [])
+pub grown : (held : List ℕ) (b : ℕ) → IsUnfinished held → 16 ≤ length (held ++ b ∷ [])
     → head_fault (held ++ b ∷ []) ≡ None → length (held ++ b ∷ []) ≤ frag_of (held ++ b ∷ [])
 grown held b u long head =
     let size = length-append held (b ∷ []) in
@@ -168,7 +145,7 @@ row_is p leg message at next (role, Ok taken) = record { role = refl; put = refl
 row_is p leg message at next (role, Err why) = record { role = refl; put = refl; logs = refl }
 
 -- nothing is left of a frame that is whole
-nothing_held : (held : List ℕ) → held ≡ [] → IsUnfinished held
+pub nothing_held : (held : List ℕ) → held ≡ [] → IsUnfinished held
 nothing_held held none long =
     absurd (let size : length held ≡ 0 = ap (λ (x : List ℕ). length x) none in
     omega (arith, size, long))

@@ -1,5 +1,5 @@
 -- laws of nodes
-use Rattle.std.specs.Prelude.{◌≡◌, ◌+◌, ◌≤◌, ◌++◌, ℕ, List, [], ◌∷◌}
+use Rattle.std.specs.Prelude.{◌≡◌, ◌+◌, ◌++◌, ℕ, List, [], ◌∷◌}
 use Rattle.rh_line.specs.declared.leg.Leg.{Leg}
 use Rattle.rh_line.specs.declared.leg.LegKind.{LegKind}
 use Rattle.rh_line.specs.declared.cause.Cause.{Cause}
@@ -8,7 +8,7 @@ use Rattle.rh_shell.specs.declared.course.Course.{Course}
 use Rattle.rh_shell.specs.declared.course.Course.TheVariants.{Going, Closed, Refusing}
 use Rattle.rh_shell.specs.Rules.{Rules}
 use Rattle.rh_shell.specs.NearEnds.{NearEnd}
-use Rattle.rh_shell.specs.Shells.{Shell, bytes, ended, broken, drawn, tick, is_of, one_if, room_of}
+use Rattle.rh_shell.specs.Shells.{Shell, bytes, ended, broken, drawn, tick, is_of, one_if}
 
 -- the node closed with this cause
 abbrev pub ClosedWith : Cause → Course → Type 0
@@ -34,7 +34,3 @@ then_drawn rules first leg room =
 abbrev pub kept : LegKind → List NearEnd → ℕ
 kept kind [] = 0
 kept kind (end ∷ ends) = one_if (is_of kind end.leg) + kept kind ends
-
--- of no kind more legs are kept than there is room for
-abbrev pub IsRoomy : {S : Type 0} → Shell S → Type 0
-IsRoomy s = (kind : LegKind) → kept kind s.legs ≤ room_of s.rooms kind

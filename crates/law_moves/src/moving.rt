@@ -1,14 +1,12 @@
 //! What a node does to its role. These functions do nothing: their contracts are the laws.
 
-ghost use Rattle.std.specs.Prelude.{◌≡◌, List, ℕ, nat_lt, true};
-ghost use Rattle.rh_line.specs.declared.leg.LegKind.{LegKind};
+ghost use Rattle.std.specs.Prelude.{◌≡◌, List, ℕ};
 ghost use Rattle.rh_shell.specs.declared.rooms.Rooms.{Rooms};
 ghost use Rattle.rh_shell.specs.NearEnds.{NearEnd};
-ghost use Rattle.rh_shell.specs.Hearing.{Turn, hear, goes};
+ghost use Rattle.rh_shell.specs.Hearing.{hear, goes};
 ghost use Rattle.rh_shell.specs.Drawing.{draw};
-ghost use Rattle.rh_shell.specs.Shells.{Shell, begun, unfinished, room_of, has_place};
+ghost use Rattle.rh_shell.specs.Shells.{Shell, begun};
 ghost use Rattle.law_moves.specs.Moves.{Passage, EndPassage, started, end_started};
-ghost use Rattle.law_moves.specs.Laws.{IsRoomy};
 ghost use Rattle.law_moves.specs.Moving.{Event, EndEvent, IsHeld, AreHeld, Follows, EndFollows};
 ghost use Rattle.law_moves.specs.Moving.{after_event, after_events};
 ghost use Rattle.law_moves.specs.Moving.{after_end_event, after_end_events};
@@ -71,16 +69,6 @@ pub fn what_is_logged_passed_at_an_end<R: EndRole>()
     ensures { (passage : EndPassage R) (node : Shell R) (event : EndEvent)
         → passage.passage.role ≡ node.role → AreHeld node
         → EndPasses R.rules R.acts passage node event }
-{}
-
-/// Of no kind more legs are kept than there is room for: so where one more of a kind may be
-/// unfinished, it has a place.
-pub fn a_leg_has_its_place<R: Role>()
-    ensures kept { (role : R) (rooms : Rooms) (events : List Event)
-        → IsRoomy (after_events R.rules (begun role rooms) events) }
-    ensures place { (node : Shell R) (kind : LegKind) → IsRoomy node
-        → nat_lt (unfinished R.rules node.role kind node.legs) (room_of node.rooms kind) ≡ true
-        → has_place R.rules node kind ≡ true }
 {}
 
 /// What comes on a leg of frames is cut into frames in order.

@@ -2,9 +2,8 @@
 //! as long as the packets that came to it have their sizes and ranges; and packets that were read
 //! from bytes have these. Its functions do nothing: their contracts are the laws.
 
-ghost use Rattle.std.specs.Prelude.{◌≡◌, List};
+ghost use Rattle.std.specs.Prelude.{List};
 ghost use Rattle.std.specs.declared.option.Option.{Option};
-ghost use Rattle.rh_pdu.specs.Frames.{IsPdu};
 ghost use Rattle.rh_sig.specs.declared.name.Pipe.{Pipe};
 ghost use Rattle.rh_sig.specs.declared.named.Named.{Named};
 ghost use Rattle.rh_line.specs.declared.leg.Leg.{Leg};

@@ -1,11 +1,11 @@
-mod Stands
+pub mod Stands
 mod Moves
 mod Fronts
 mod KeptLegs
 mod ServerRows
 mod ServerPuts
 pub mod ServerMoves
-mod ClientFronts
+pub mod ClientFronts
 mod ClientPuts
 pub mod ClientMoves
 pub mod ClientAsks

@@ -1,2 +1,2 @@
-mod EndsBegin
-mod ProxiesBegin
+pub mod EndsBegin
+pub mod ProxiesBegin

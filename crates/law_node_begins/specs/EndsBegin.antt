@@ -1,5 +1,5 @@
 -- what an end puts first on each leg, what it reads there, and which legs came up at it (profile)
-use Rattle.std.specs.Prelude.{ℕ, ◌≡◌, ◌⊎◌, ◌<◌, ◌≤◌, List, [], Bool, true, None}
+use Rattle.std.specs.Prelude.{ℕ, ◌≡◌, ◌⊎◌, List, [], Bool, None}
 use Rattle.std.specs.List.{list_any}
 use Rattle.std.specs.declared.option.Option.{Option}
 use Rattle.rh_sig.specs.declared.name.Pipe.{Pipe}
@@ -10,12 +10,10 @@ use Rattle.rh_line.specs.declared.leg.LegKind.{LegKind}
 use Rattle.rh_line.specs.declared.leg.LegKind.TheVariants.{ClientOut, OutServer, ClientIn, InServer}
 use Rattle.rh_shell.specs.Rules.{Message, Text, Pdu, Packet}
 use Rattle.rh_client.specs.declared.lengths.TheConstants.{CONN_A1_LEN, OUT_R1_A3_C1_LEN}
-use Rattle.rh_client.specs.declared.state.ClientRole.{ClientRole}
-use Rattle.rh_client.specs.State.{ci}
 use Rattle.rh_client.specs.Opening.{pipe_by}
 use Rattle.rh_server.specs.Servers.{pipe_of}
 use Rattle.law_moves.specs.Wires.{of_leg}
-use Rattle.law_moves.specs.Moves.{OnLeg, EndMove, EndPassage}
+use Rattle.law_moves.specs.Moves.{OnLeg, EndMove}
 use Rattle.law_moves.specs.ReadBack.Reading.{Begins}
 use Rattle.law_node_streams.specs.Streams.{is_end_up_on}
 
@@ -52,11 +50,3 @@ client_reads leg = pipe_by leg.kind
 
 abbrev pub server_reads : Leg → Option Pipe
 server_reads leg = pipe_of leg.kind
-
--- a client writes on a leg that came up; and once it writes on another channel than the first, the
--- legs of all up to that one came up
-pub record WritesOnUp (moves : List EndMove) (p : EndPassage ClientRole) : Type 0 where
-  pub put : (n : ℕ)
-      → (of_leg (ci n) p.passage.put ≡ []) ⊎ (came_up (ci n) moves ≡ true)
-  pub writing : (n : ℕ) → 0 < n → n ≤ p.passage.role.writing.number
-      → 1 < p.passage.role.writing.number → came_up (ci n) moves ≡ true

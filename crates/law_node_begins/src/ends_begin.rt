@@ -7,7 +7,7 @@ pub mod server;
 
 pub use client::{
     a_client_asks_by_its_requests, a_client_begins_with_a_request,
-    a_client_writes_on_a_leg_that_came_up, what_a_client_puts_first_reads_well,
+    what_a_client_puts_first_reads_well,
 };
 pub use ends::an_end_never_refuses;
 pub use server::{a_server_begins_with_a_greeting, what_a_server_puts_first_reads_well};

@@ -6,8 +6,7 @@ pub mod out_proxy;
 pub mod pipes;
 
 pub use in_proxy::{
-    an_in_proxy_answers_echoes_alone, an_in_proxy_begins, an_in_proxy_hands_over_behind_its_legs,
-    an_in_proxy_reads_what_came_up, an_in_proxy_refuses_first,
+    an_in_proxy_answers_echoes_alone, an_in_proxy_begins, an_in_proxy_refuses_first,
     what_an_in_proxy_puts_first_reads_well,
 };
 pub use out_proxy::{

@@ -1,15 +1,5 @@
 -- a client's legs come up once each, by the numbers of its channels
-use Rattle.std.proofs.Common.{◌≡◌, ℕ, ◌+◌, ◌==◌, ◌<◌, ◌&&◌, ◌||◌, Bool, true, false, not, nat_lt, None, refl, sym, ap, subst, rules, arith}
-use Rattle.std.proofs.lemmas.Bool.Decides.{nat_tests}
-use Rattle.law_order.proofs.ByNumber.{by_test}
-use Rattle.rh_rts.specs.declared.command.Cookie.{Cookie}
-use Rattle.rh_sig.specs.declared.named.Named.{Named}
-use Rattle.rh_http.specs.declared.config.ClientConfig.{ClientConfig}
-use Rattle.rh_line.specs.declared.leg.Leg.{Leg}
-use Rattle.rh_line.specs.declared.leg.LegKind.{LegKind}
-use Rattle.rh_line.specs.declared.leg.LegKind.TheVariants.{ClientOut, OutServer, ClientIn, InServer}
-use Rattle.rh_shell.specs.declared.answers.Count.{Count}
-use Rattle.rh_shell.specs.Rules.{Pdu, Packet}
+use Rattle.law_order.proofs.Vocabulary.{◌≡◌, ℕ, ◌+◌, ◌==◌, ◌<◌, ◌&&◌, ◌||◌, Bool, true, false, not, nat_lt, None, refl, sym, ap, subst, rules, arith, nat_tests}
 use Rattle.rh_client.specs.declared.channels.TheConstants.{LAST_NUMBER}
 use Rattle.rh_client.specs.declared.state.ClientRole.{ClientRole}
 use Rattle.rh_client.specs.Channels.{is_up, in_up, out_up}
@@ -19,14 +9,14 @@ use Rattle.rh_client.specs.OutReplacement.{on_out_r1_a6}
 use Rattle.rh_client.specs.Ending.{give, close, take, drawn}
 use Rattle.rh_client.specs.Time.{ping}
 use Rattle.rh_client.specs.Putting.{put_by, put}
-use Rattle.rh_client.specs.Client.{pdu, packet, packet_by, packet_on, on_packet}
+use Rattle.rh_client.specs.Client.{pdu, packet}
 use Rattle.rh_client.specs.Client as client
-use Rattle.law_moves.specs.Moves.{Move, Up, HeadCame, PduCame, PacketCame, Puts, IsDrawn, Marks, Pings, Passage, EndMove, EndPassage, Moves, Gives, Takes, Closes, Recycles, moved, end_moved, end_now_at}
-use Rattle.law_node_causes.specs.Once.{ComesUpOnce, KeepsUp}
-use Rattle.law_node_causes.specs.Numbers.{AreNumberedBy, ClientIsNumbered}
+use Rattle.law_moves.proofs.Vocabulary.{by_test, Cookie, Named, ClientConfig, Leg, LegKind, ClientOut, OutServer, ClientIn, InServer, Count, Pdu, Packet, Move, Up, HeadCame, PduCame, PacketCame, Puts, IsDrawn, Marks, Pings, Passage, EndMove, EndPassage, Moves, Gives, Takes, Closes, Recycles, moved, end_moved, end_now_at}
 use Rattle.law_node_causes.proofs.ClientSteps.{Side, Sides, sides, begun, shifted, StepLaws, Timed, later_same, later_self, packet_later, pdu_later, up_later, pick_later, put_by_later, drawn_same, ping_same, give_same, take_later, recycle_later}
 use Rattle.law_node_causes.proofs.Sorts.{or_true}
 use Rattle.law_node_causes.proofs.MoveRoles.{by_row, by_put, by_given, by_first}
+use Rattle.law_node_causes.specs.Once.{ComesUpOnce, KeepsUp}
+use Rattle.law_node_causes.specs.Numbers.{AreNumberedBy, ClientIsNumbered}
 
 -- the number's leg was up, or is wanted
 abbrev was_on : ℕ → Side → Bool

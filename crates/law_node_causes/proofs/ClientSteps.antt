@@ -1,38 +1,15 @@
 -- how a client's channels go on: whatever moves it makes, each is a step of one of few kinds
-use Rattle.std.proofs.Common.{◌≡◌, ℕ, ◌+◌, ◌==◌, ◌&&◌, ◌||◌, List, Bool, true, false, not, nat_lt, Some, None, Ok, Err, refl, sym, subst, rules}
-use Rattle.std.specs.Prelude.{if◌then◌else◌}
-use Rattle.std.specs.declared.option.Option.{Option}
-use Rattle.std.specs.declared.result.Result.{Result}
-use Rattle.rh_window.specs.declared.recv_window.Ack.{Ack}
-use Rattle.rh_keep.specs.Meters.{fits, may_put}
-use Rattle.law_order.proofs.ByNumber.{by_test}
-use Rattle.rh_rts.specs.declared.command.Cookie.{Cookie}
-use Rattle.rh_sig.specs.declared.named.Named.{Named}
+use Rattle.law_order.proofs.Vocabulary.{◌≡◌, ℕ, ◌+◌, ◌==◌, ◌&&◌, ◌||◌, List, Bool, true, false, not, nat_lt, Some, None, Ok, Err, refl, sym, subst, rules, if◌then◌else◌, Option, Result}
 use Rattle.rh_sig.specs.declared.named.Named.TheVariants as named
-use Rattle.rh_sig.specs.declared.lengths.TheConstants.{CONN_B1_LEN, IN_R1_A1_LEN, IN_R1_A5_LEN, OUT_R1_A7_LEN, END_A1_LEN, ACK_TO_LEN, PING_LEN}
-use Rattle.rh_line.specs.Lines.{after_told, after_take, after_finish}
-use Rattle.rh_line.specs.Queue.{behind, front_length}
-use Rattle.rh_line.specs.declared.leg.LegKind.{LegKind}
-use Rattle.rh_line.specs.declared.leg.LegKind.TheVariants.{ClientOut, OutServer, ClientIn, InServer}
-use Rattle.rh_line.specs.declared.which.Which.{Which}
-use Rattle.rh_line.specs.declared.which.Which.TheVariants.{Current, Next}
-use Rattle.rh_shell.specs.NearEnds.{first_of}
-use Rattle.rh_shell.specs.declared.answers.Count.{Count}
 use Rattle.rh_shell.specs.declared.answers.Phase.TheVariants as phase
-use Rattle.rh_shell.specs.declared.end_role.RecycleRefused.{RecycleRefused}
-use Rattle.rh_shell.specs.declared.end_role.RecycleRefused.TheVariants.{Last}
-use Rattle.rh_shell.specs.Rules.{Message, Pdu, Packet}
 use Rattle.rh_client.specs.declared.channels.Opening.{Opening}
 use Rattle.rh_client.specs.declared.channels.Opening.TheVariants.{NotUp, Request, First, Second, Put}
 use Rattle.rh_client.specs.declared.channels.TheConstants.{LAST_NUMBER}
 use Rattle.rh_client.specs.declared.replacement.Replacement.{Replacement}
 use Rattle.rh_client.specs.declared.replacement.Replacement.TheVariants.{NoneUnderWay, In, Out}
 use Rattle.rh_client.specs.declared.replacement.InStage.{InStage}
-use Rattle.rh_client.specs.declared.replacement.InStage.TheVariants as in_stage
 use Rattle.rh_client.specs.declared.replacement.OutStage.{OutStage}
-use Rattle.rh_client.specs.declared.replacement.OutStage.TheVariants as out_stage
 use Rattle.rh_client.specs.declared.replacement.Waits.{Waits}
-use Rattle.rh_client.specs.declared.replacement.Waits.TheVariants as waits
 use Rattle.rh_client.specs.declared.state.ClientRole.{ClientRole}
 use Rattle.rh_client.specs.Channels.{is_up, is_named, unopened_in, unopened_out, in_up, out_up, metered, sent}
 use Rattle.rh_client.specs.Replacements.{is_in, is_out, with_in, with_out, has_out}
@@ -43,10 +20,14 @@ use Rattle.rh_client.specs.InReplacement.{recycle_by, wish_by, wants_successor, 
 use Rattle.rh_client.specs.OutReplacement.{a2_by, a10_by, succeeded, ended_or, pass_by, passed, on_out_r1_a2, on_out_r1_a6}
 use Rattle.rh_client.specs.Ending.{give, take, on_end_b2, drawn_by}
 use Rattle.rh_client.specs.Time.{ping_by}
+use Rattle.rh_client.specs.Putting.{Pick, or_else, conn_b1, in_r1_a1, begun_in, begun_out, put_conn_b1, put_in_r1_a1, put_current, put_out_successor, put_out, due_by, put_due, ack_by, put_ack_of, put_ack, lets_pdu, put_pdu, is_end_due, with_end_put, put_end, without_ping, put_ping, put_successor_ping, put_next, put_writing, put_in_successor, put_in, settled_or_wished, settled_pick, put_by}
+use Rattle.rh_client.specs.Client.{packet, packet_by, on_packet}
+use Rattle.rh_client.specs.declared.replacement.InStage.TheVariants as in_stage
+use Rattle.rh_client.specs.declared.replacement.OutStage.TheVariants as out_stage
+use Rattle.rh_client.specs.declared.replacement.Waits.TheVariants as waits
 use Rattle.rh_client.specs.Putting as putting
-use Rattle.rh_client.specs.Putting.{Pick, or_else, conn_a1, conn_b1, in_r1_a1, out_r1_a3, begun_in, begun_out, put_conn_b1, put_in_r1_a1, put_current, put_out_successor, put_out, put_in_r1_a5, put_out_r1_a7, in_due, out_due, due_by, put_due, ack_by, put_ack_of, put_ack, lets_pdu, put_pdu, is_end_due, with_end_put, put_end, without_ping, put_ping, put_successor_ping, put_next, put_writing, put_in_successor, put_in, settled_or_wished, settled_pick, put_by, put}
-use Rattle.rh_client.specs.Client.{pdu, packet, packet_by, packet_on, on_packet}
 use Rattle.rh_client.specs.Client as client
+use Rattle.law_moves.proofs.Vocabulary.{Ack, fits, may_put, by_test, Cookie, Named, CONN_B1_LEN, IN_R1_A1_LEN, IN_R1_A5_LEN, OUT_R1_A7_LEN, END_A1_LEN, ACK_TO_LEN, PING_LEN, after_told, after_take, after_finish, behind, front_length, LegKind, ClientOut, OutServer, ClientIn, InServer, Which, Current, Next, first_of, Count, RecycleRefused, Last, Message, Pdu, Packet}
 use Rattle.law_node_causes.proofs.MoveRoles.{behind_put}
 
 -- the channels of a direction: the one in use, whether its leg is up, and how long that may be

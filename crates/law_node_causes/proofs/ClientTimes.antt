@@ -1,21 +1,8 @@
 -- a client watches its OUT channels for the times that it was told
-use Rattle.std.proofs.Common.{◌≡◌, inl, inr, ℕ, ◌==◌, ◌&&◌, ◌||◌, List, [], ◌∷◌, ◌++◌, Bool, true, false, cond, Some, None, Ok, Err, refl, sym, ◌∙◌, subst, arith}
-use Rattle.std.specs.declared.result.Result.{Result}
-use Rattle.law_order.proofs.ByNumber.{by_test, same_number}
-use Rattle.rh_sig.specs.declared.named.Named.{Named}
+use Rattle.law_order.proofs.Vocabulary.{◌≡◌, inl, inr, ℕ, ◌==◌, ◌&&◌, ◌||◌, List, [], ◌∷◌, ◌++◌, Bool, true, false, cond, Some, None, Ok, Err, refl, sym, ◌∙◌, subst, arith, Result}
 use Rattle.rh_sig.specs.declared.named.Named.TheVariants as named
-use Rattle.rh_http.specs.declared.config.ClientConfig.{ClientConfig}
-use Rattle.rh_line.specs.declared.leg.Leg.{Leg}
-use Rattle.rh_line.specs.declared.leg.LegKind.{LegKind}
-use Rattle.rh_line.specs.declared.leg.LegKind.TheVariants.{ClientOut, OutServer, ClientIn, InServer}
-use Rattle.rh_shell.specs.declared.answers.Count.{Count}
-use Rattle.rh_shell.specs.declared.end_role.GiveRefused.{GiveRefused}
-use Rattle.rh_shell.specs.Hearing.{is_zero}
-use Rattle.rh_shell.specs.Rules.{Message, Pdu, Packet}
-use Rattle.rh_shell.specs.Shells.{Shell}
 use Rattle.rh_client.specs.declared.replacement.Replacement.{Replacement}
 use Rattle.rh_client.specs.declared.replacement.Replacement.TheVariants.{NoneUnderWay, In, Out}
-use Rattle.rh_client.specs.declared.replacement.OutStage.TheVariants as out_stage
 use Rattle.rh_client.specs.declared.state.ClientRole.{ClientRole}
 use Rattle.rh_client.specs.Channels.{is_asked}
 use Rattle.rh_client.specs.Replacements.{is_out}
@@ -25,16 +12,16 @@ use Rattle.rh_client.specs.OutReplacement.{a6_by, on_out_r1_a6}
 use Rattle.rh_client.specs.Ending.{give, take}
 use Rattle.rh_client.specs.Putting.{Pick, put_by, put}
 use Rattle.rh_client.specs.Time.{silence_by}
-use Rattle.rh_client.specs.Client.{pdu, packet, packet_by, packet_on, on_packet}
+use Rattle.rh_client.specs.Client.{pdu, packet, packet_by, on_packet}
+use Rattle.rh_client.specs.declared.replacement.OutStage.TheVariants as out_stage
 use Rattle.rh_client.specs.Client as client
-use Rattle.law_moves.specs.Moves.{OnLeg, Move, Up, HeadCame, PduCame, PacketCame, Puts, IsDrawn, Marks, Pings, Passage, EndMove, EndPassage, Moves, Gives, Takes, Closes, Recycles, AreAllowedAtEnd, moved, end_moved, end_now_at, all_end_moved, end_started, taken_by, put_by as put_on, given_by, with_first}
-use Rattle.law_moves.specs.Moving.{EndFollows}
-use Rattle.law_node_causes.specs.Numbers.{ClientIsNumbered}
-use Rattle.law_node_causes.specs.Watching.{Tells, WasTold, IsWatched, Watches}
+use Rattle.law_moves.proofs.Vocabulary.{by_test, same_number, Named, ClientConfig, Leg, LegKind, ClientOut, OutServer, ClientIn, InServer, Count, GiveRefused, is_zero, Message, Pdu, Packet, Shell, OnLeg, Move, Up, HeadCame, PduCame, PacketCame, Puts, IsDrawn, Marks, Pings, Passage, EndMove, EndPassage, Moves, Gives, Takes, Closes, Recycles, AreAllowedAtEnd, moved, end_moved, end_now_at, all_end_moved, end_started, taken_by, put_by as put_on, given_by, with_first, EndFollows}
+use Rattle.law_moves.proofs.Lemmas.{both}
 use Rattle.law_node_causes.proofs.MoveRoles.{behind_put}
-use Rattle.law_node_causes.proofs.Sorts.{both}
 use Rattle.law_node_causes.proofs.ClientLegs.{client_keeps, first_is}
 use Rattle.law_node_causes.proofs.ClientSteps.{Sides, sides, StepLaws, with_replacement, packet_later, pdu_later, up_later, pick_later, put_by_later, drawn_same, ping_same, give_same, take_later, recycle_later}
+use Rattle.law_node_causes.specs.Numbers.{ClientIsNumbered}
+use Rattle.law_node_causes.specs.Watching.{Tells, WasTold, IsWatched, Watches}
 
 -- ---- what was told
 

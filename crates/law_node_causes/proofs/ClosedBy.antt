@@ -1,33 +1,18 @@
 -- which event closes a node with which cause
-use Rattle.std.proofs.Common.{◌≡◌, ℕ, ◌≤◌, List, length, cond, Bool, true, false, Some, None, refl, sym, ap, ◌∙◌, subst}
-use Rattle.std.specs.Prelude.{◌&&◌, nat_le}
-use Rattle.std.specs.declared.option.Option.{Option}
-use Rattle.std.proofs.lemmas.Bool.{leb-true}
-use Rattle.rh_http.specs.declared.refusal.Refusal.{Refusal}
-use Rattle.rh_http.specs.declared.refusal.Refusal.TheVariants.{Unavailable}
-use Rattle.rh_line.specs.declared.leg.Leg.{Leg}
-use Rattle.rh_line.specs.declared.cause.Cause.{Cause}
+use Rattle.law_order.proofs.Vocabulary.{◌≡◌, ℕ, ◌≤◌, List, length, cond, Bool, true, false, Some, None, refl, sym, ap, ◌∙◌, subst, ◌&&◌, nat_le, Option, leb-true}
 use Rattle.rh_line.specs.declared.cause.Cause.TheVariants as cause
-use Rattle.rh_line.specs.declared.state.Verdict.{Verdict}
-use Rattle.rh_shell.specs.declared.answers.Phase.{Phase}
 use Rattle.rh_shell.specs.declared.answers.Phase.TheVariants as phase
-use Rattle.rh_shell.specs.declared.course.Course.{Course}
-use Rattle.rh_shell.specs.declared.course.Course.TheVariants.{Going, Closed, Refusing}
 use Rattle.rh_shell.specs.declared.stage.Stage.TheVariants as stage
-use Rattle.rh_shell.specs.declared.stop.Stop.{Stop}
-use Rattle.rh_shell.specs.Rules.{Rules}
-use Rattle.rh_shell.specs.NearEnds.{NearEnd, is_ended, is_finished, marked}
-use Rattle.rh_shell.specs.Hearing.{Turn, goes, hear}
-use Rattle.rh_shell.specs.Shells.{Shell, state_by, verdict_by, state_of, is_working, end_at, with_end, close, refuse, stop_by, stopped, bytes_at, bytes_by, lose, lost, ended_at, ended_by, wants, is_heard, unreached_by, unreached, broken_at, broken_by, first_silent, passed_by, passed, ticked}
-use Rattle.rh_nodes.specs.declared.event.Event.{Event}
-use Rattle.rh_nodes.specs.declared.event.Event.TheVariants.{Comes, Ends, Breaks, Passes}
-use Rattle.rh_nodes.specs.Telling.{cause_in, closing, happens}
-use Rattle.law_moves.specs.Laws.{ClosedWith}
-use Rattle.law_node_causes.specs.Reasons.{EndsPartly, FallsSilent, RefusesHead, IsOfPiece, ComesAmiss}
-use Rattle.law_node_causes.specs.Closings.{ClosesWith, MayClose, IsRefusal, ComesFrom}
-use Rattle.law_node_causes.proofs.Sorts.{both, end_leg}
+use Rattle.rh_company.specs.declared.event.Event.{Event}
+use Rattle.rh_company.specs.declared.event.Event.TheVariants.{Comes, Ends, Breaks, Passes}
+use Rattle.rh_company.specs.Telling.{cause_in, closing, happens}
+use Rattle.law_moves.proofs.Vocabulary.{Refusal, Unavailable, Leg, Cause, Verdict, Phase, Course, Going, Closed, Refusing, Stop, Rules, NearEnd, is_ended, is_finished, marked, Turn, goes, hear, Shell, state_by, verdict_by, state_of, is_working, end_at, with_end, close, refuse, stop_by, stopped, bytes_at, bytes_by, lose, lost, ended_at, ended_by, wants, is_heard, unreached_by, unreached, broken_at, broken_by, first_silent, passed_by, passed, ticked, ClosedWith}
+use Rattle.law_moves.proofs.Lemmas.{both}
+use Rattle.law_node_causes.proofs.Sorts.{end_leg}
 use Rattle.law_node_causes.proofs.HeardBytes.{IsStop, piece_stops}
 use Rattle.law_node_causes.proofs.FirstSilent.{silent_first}
+use Rattle.law_node_causes.specs.Reasons.{EndsPartly, FallsSilent, RefusesHead, IsOfPiece, ComesAmiss}
+use Rattle.law_node_causes.specs.Closings.{ClosesWith, MayClose, IsRefusal, ComesFrom}
 
 -- ---- a node that closed now was going, and has that cause
 

@@ -1,14 +1,9 @@
 -- the first silent leg
-use Rattle.std.proofs.Common.{◌≡◌, ℕ, zero, suc, ◌-◌, List, [], ◌∷◌, cond, Bool, true, false, Some, None, refl, sym, subst}
-use Rattle.std.specs.Prelude.{not, slice_get}
-use Rattle.std.specs.declared.option.Option.{Option}
-use Rattle.std.proofs.lemmas.Bool.{leb-true, le-leb}
-use Rattle.rh_line.specs.declared.leg.Leg.{Leg}
-use Rattle.rh_shell.specs.NearEnds.{NearEnd, is_finished}
-use Rattle.rh_shell.specs.Rules.{Rules}
-use Rattle.rh_shell.specs.Shells.{is_before, is_silent_by, is_silent, earlier, silent_one, first_silent}
+use Rattle.law_order.proofs.Vocabulary.{◌≡◌, ℕ, zero, suc, ◌-◌, List, [], ◌∷◌, cond, Bool, true, false, Some, None, refl, sym, subst, not, slice_get, Option, leb-true, le-leb}
+use Rattle.law_moves.proofs.Vocabulary.{Leg, NearEnd, is_finished, Rules, is_before, is_silent_by, is_silent, earlier, silent_one, first_silent}
+use Rattle.law_moves.proofs.Lemmas.{both}
+use Rattle.law_node_causes.proofs.Sorts.{not_so, before_trans, before_self}
 use Rattle.law_node_causes.specs.Reasons.{WasSilent, StandsIn, IsFirstSilent}
-use Rattle.law_node_causes.proofs.Sorts.{both, not_so, before_trans, before_self}
 
 module _ {S : Type 0} (rules : Rules S) (role : S) (now : ℕ) where
   -- ---- the test is what it says

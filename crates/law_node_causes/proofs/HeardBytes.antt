@@ -1,36 +1,15 @@
 -- what bytes close a node with
-use Rattle.std.proofs.Common.{◌≡◌, ℕ, List, [], ◌∷◌, ◌++◌, length, cond, Bool, true, false, nat_lt, Some, None, Ok, Err, refl, sym, ap, ◌∙◌, subst, append_assoc}
-use Rattle.std.specs.Prelude.{slice_index, ◌==◌, ◌&&◌, ◌+◌}
-use Rattle.std.specs.declared.option.Option.{Option}
-use Rattle.std.specs.declared.result.Result.{Result}
-use Rattle.rh_pdu.specs.declared.fault.HeadFault.{HeadFault}
-use Rattle.rh_pdu.specs.Header.{rts, header_length, frag_of, head_fault}
+use Rattle.law_order.proofs.Vocabulary.{◌≡◌, ℕ, List, [], ◌∷◌, ◌++◌, length, cond, Bool, true, false, nat_lt, Some, None, Ok, Err, refl, sym, ap, ◌∙◌, subst, append_assoc, slice_index, ◌==◌, ◌&&◌, ◌+◌, Option, Result}
 use Rattle.rh_sig.specs.declared.fault.SigFault.TheVariants as sig
-use Rattle.rh_sig.specs.declared.named.Named.{Named}
-use Rattle.rh_http.specs.declared.fault.HttpFault.{HttpFault}
-use Rattle.rh_http.specs.declared.refusal.Refusal.{Refusal}
-use Rattle.rh_http.specs.Refusals.{refusal_of}
-use Rattle.rh_line.specs.declared.leg.Leg.{Leg}
-use Rattle.rh_line.specs.declared.cause.Cause.{Cause}
 use Rattle.rh_line.specs.declared.cause.Cause.TheVariants as cause
-use Rattle.rh_shell.specs.declared.answers.Behind.{Behind}
+use Rattle.rh_shell.specs.Intakes.{Over, behind}
 use Rattle.rh_shell.specs.declared.answers.Behind.TheVariants as passed
-use Rattle.rh_shell.specs.declared.answers.Count.{Count}
-use Rattle.rh_shell.specs.declared.answers.HeadRefused.{HeadRefused}
 use Rattle.rh_shell.specs.declared.answers.HeadRefused.TheVariants as head
-use Rattle.rh_shell.specs.declared.answers.HeadTaken.{HeadTaken}
 use Rattle.rh_shell.specs.declared.answers.Refused.TheVariants as refused
-use Rattle.rh_shell.specs.declared.heading.Heading.{Heading}
-use Rattle.rh_shell.specs.declared.reading.PacketFault.{PacketFault}
 use Rattle.rh_shell.specs.declared.reading.PacketFault.TheVariants as unread
-use Rattle.rh_shell.specs.declared.stage.Stage.{Stage}
 use Rattle.rh_shell.specs.declared.stage.Stage.TheVariants as stage
-use Rattle.rh_shell.specs.declared.stop.Stop.{Stop}
-use Rattle.rh_shell.specs.Intakes.{Intake, Came, Nothing, Head, Greeting, Frame, Fault, Over, on_byte, byte_by, text_by, frame_by, frame_byte, holds, behind, is_whole_head, is_whole_greeting, is_full, length_told, counted}
-use Rattle.rh_shell.specs.Readings.{packet_of}
-use Rattle.rh_shell.specs.NearEnds.{NearEnd, is_over}
-use Rattle.rh_shell.specs.Rules.{Rules, Row}
-use Rattle.rh_shell.specs.Hearing.{Turn, goes, stops, stop, stop_head, head_row, stage_of, begun_body, behind_head, behind_frame, cause_unread, row_by, close_row, one_more, is_zero, is_upward, is_ping, take_ping, take_packet, take_frame, is_greeting, heading, touched, with_intake, take, take_next, is_stopped, hear_byte, hear}
+use Rattle.law_moves.proofs.Vocabulary.{HeadFault, rts, header_length, frag_of, head_fault, Named, HttpFault, Refusal, refusal_of, Leg, Cause, Behind, Count, HeadRefused, HeadTaken, Heading, PacketFault, Stage, Stop, Intake, Came, Nothing, Head, Greeting, Frame, Fault, on_byte, byte_by, text_by, frame_by, frame_byte, holds, is_whole_head, is_whole_greeting, is_full, length_told, counted, packet_of, NearEnd, is_over, Rules, Row, Turn, goes, stops, stop, stop_head, head_row}
+use Rattle.law_moves.proofs.Vocabulary.{stage_of, begun_body, behind_head, behind_frame, cause_unread, row_by, close_row, one_more, is_zero, is_upward, is_ping, take_ping, take_packet, take_frame, is_greeting, heading, touched, with_intake, take, take_next, is_stopped, hear_byte, hear}
 use Rattle.law_node_causes.specs.Reasons.{IsOfPiece, RefusesHead}
 
 -- ---- a byte

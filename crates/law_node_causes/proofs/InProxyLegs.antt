@@ -1,28 +1,8 @@
 -- an in proxy's legs come up once each: its ci legs by their numbers, and its is leg
-use Rattle.std.proofs.Common.{◌≡◌, ℕ, ◌+◌, ◌-◌, ◌==◌, ◌<◌, ◌≤◌, ◌&&◌, ◌||◌, List, [], ◌∷◌, length, Bool, true, false, not, Some, None, Ok, Err, refl, sym, ap, ◌∙◌, subst, rules, arith}
-use Rattle.std.specs.Prelude.{nat_le, if◌then◌else◌}
-use Rattle.std.specs.declared.option.Option.{Option}
-use Rattle.std.specs.declared.result.Result.{Result}
-use Rattle.std.proofs.lemmas.Bool.Decides.{nat_tests}
-use Rattle.rh_window.specs.Sending.{may_send}
 use Rattle.rh_window.specs.declared.recv_window.Ack as told
-use Rattle.law_order.proofs.ByNumber.{by_test, same_number}
-use Rattle.rh_rts.specs.declared.command.Cookie.{Cookie}
-use Rattle.rh_sig.specs.declared.named.Named.{Named}
-use Rattle.rh_sig.specs.declared.named.Named.TheVariants.{ConnB1, ConnB3, InR1A1, InR1A5, InR1B1, InR1B2, InR2A2, OutR1A7, EndA1, EndA2, Ack, AckTo, KeepAlive, Ping}
-use Rattle.rh_http.specs.declared.fault.HttpFault.{HttpFault}
-use Rattle.rh_http.specs.Heads.Verdicts.{Asked, request_verdict}
-use Rattle.rh_line.specs.declared.leg.Leg.{Leg}
-use Rattle.rh_line.specs.declared.leg.LegKind.{LegKind}
-use Rattle.rh_line.specs.declared.leg.LegKind.TheVariants.{ClientOut, OutServer, ClientIn, InServer}
-use Rattle.rh_line.specs.declared.which.Which.{Which}
-use Rattle.rh_line.specs.declared.which.Which.TheVariants.{Current, Next}
+use Rattle.law_order.proofs.Vocabulary.{◌≡◌, ℕ, ◌+◌, ◌-◌, ◌==◌, ◌<◌, ◌≤◌, ◌&&◌, ◌||◌, List, [], ◌∷◌, length, Bool, true, false, not, Some, None, Ok, Err, refl, sym, ap, ◌∙◌, subst, rules, arith, nat_le, if◌then◌else◌, Option, Result, nat_tests}
+use Rattle.rh_sig.specs.declared.named.Named.TheVariants.{Ack}
 use Rattle.rh_line.specs.Lines as line
-use Rattle.rh_shell.specs.declared.answers.Count.{Count}
-use Rattle.rh_shell.specs.declared.due.Due.{Due}
-use Rattle.rh_shell.specs.Waiting.{with_due}
-use Rattle.rh_shell.specs.Rules.{Text, Pdu, Packet}
-use Rattle.rh_shell.specs.Shells.{kind_number}
 use Rattle.rh_shell.specs.declared.answers.Refused.TheVariants as refused
 use Rattle.rh_inproxy.specs.declared.state.InProxyConfig.{InProxyConfig}
 use Rattle.rh_inproxy.specs.declared.opening.TheConstants.{GREATEST_LENGTHS, KEEPALIVE}
@@ -32,15 +12,12 @@ use Rattle.rh_inproxy.specs.declared.state.Handover.{Handover}
 use Rattle.rh_inproxy.specs.declared.state.Handover.TheVariants.{Before, Came, Passed}
 use Rattle.rh_inproxy.specs.declared.state.Joining.{Joining}
 use Rattle.rh_inproxy.specs.declared.state.Joining.TheVariants.{TellsServer, Follows}
-use Rattle.rh_inproxy.specs.declared.state.Joining.TheVariants as joining
 use Rattle.rh_inproxy.specs.declared.state.Opener.{Opener}
 use Rattle.rh_inproxy.specs.declared.state.Opening.{Opening}
 use Rattle.rh_inproxy.specs.declared.state.Opening.TheVariants.{AwaitsClient, AwaitsPacket, WantsServer, Announces, Announced}
 use Rattle.rh_inproxy.specs.declared.state.Successor.{Successor}
 use Rattle.rh_inproxy.specs.declared.state.Successor.TheVariants.{Absent, Joined}
-use Rattle.rh_inproxy.specs.declared.state.Successor.TheVariants as successors
 use Rattle.rh_inproxy.specs.declared.state.Work.{Work}
-use Rattle.rh_inproxy.specs.declared.state.Work.TheVariants as works
 use Rattle.rh_inproxy.specs.Answers.{Done, Pick, or_else, taken, refuse, unexpected}
 use Rattle.rh_inproxy.specs.State.{InProxy, first, is_server_leg, is_client_leg, channel_of, has_come, has_a5, follows, same_cookie}
 use Rattle.rh_inproxy.specs.Opening.{echo_answer, wants, may_up, was_up, up, wants_server, had_client, has_server, newest, newest_by, is_absent, accepts, accepts_later, may_accept, accepted, connected, head, head_by, drawn, is_first, opener_of, awaits_packet, opener, opened, kept_for, on_first_in_r1_a1, on_conn_b1, on_conn_b3, put_first, first_by, put_echo, echo_by}
@@ -51,13 +28,16 @@ use Rattle.rh_inproxy.specs.OutReplacement.{on_out_r1_a7}
 use Rattle.rh_inproxy.specs.Passing.{passed, next_pdu, put_pdu}
 use Rattle.rh_inproxy.specs.Putting.{put, next, put_waiting, waiting_by, put_control, put_early, put_stream, put_behind, put_mark}
 use Rattle.rh_inproxy.specs.Time.{on_keep_alive, ping, put_ping}
-use Rattle.rh_inproxy.specs.Machine.{packet, pdu, on_ci, on_is, on_channel, on_channel_by}
-use Rattle.rh_inproxy.specs.Machine.{rules as proxy_rules}
-use Rattle.law_moves.specs.Moves.{Move, Up, HeadCame, PduCame, PacketCame, Puts, IsDrawn, Marks, Pings, Passage, moved}
+use Rattle.rh_inproxy.specs.Machine.{packet, pdu, on_ci, on_is, on_channel, on_channel_by, rules as proxy_rules}
+use Rattle.rh_inproxy.specs.declared.state.Joining.TheVariants as joining
+use Rattle.rh_inproxy.specs.declared.state.Successor.TheVariants as successors
+use Rattle.rh_inproxy.specs.declared.state.Work.TheVariants as works
+use Rattle.law_moves.proofs.Vocabulary.{may_send, by_test, same_number, Cookie, Named, ConnB1, ConnB3, InR1A1, InR1A5, InR1B1, InR1B2, InR2A2, OutR1A7, EndA1, EndA2, AckTo, KeepAlive, Ping, HttpFault, Asked, request_verdict, Leg, LegKind, ClientOut, OutServer, ClientIn, InServer, Which, Current, Next, Count, Due, with_due, Text, Pdu, Packet, kind_number, Move, Up, HeadCame, PduCame, PacketCame, Puts, IsDrawn, Marks, Pings, Passage, moved}
+use Rattle.law_moves.proofs.Lemmas.{both}
+use Rattle.law_node_causes.proofs.MoveRoles.{by_row, behind_put, by_put}
+use Rattle.law_node_causes.proofs.Sorts.{or_true}
 use Rattle.law_node_causes.specs.Numbers.{AreNumbered, IsAbove}
 use Rattle.law_node_causes.specs.Once.{ComesUpOnce}
-use Rattle.law_node_causes.proofs.MoveRoles.{by_row, behind_put, by_put}
-use Rattle.law_node_causes.proofs.Sorts.{both, or_true}
 
 -- its numbers, how far its first legs are, the ci leg of its current channel, and the one behind it
 pub record Legs : Type 0 where
@@ -103,15 +83,6 @@ grows_self x are = record {
   server = λ h. h;
   newest = omega arith;
   numbered = are;
-}
-
-grows_then : (x y z : Legs) → Grows x y → Grows y z → Grows x z
-grows_then x y z p q = record {
-  config = q.config ∙ p.config;
-  client = λ h. q.client (p.client h);
-  server = λ h. q.server (p.server h);
-  newest = omega (arith, p.newest, q.newest);
-  numbered = q.numbered;
 }
 
 later_same : (s t : InProxy) → Holds s → Same s t → Later s t
@@ -704,7 +675,7 @@ not_again s leg h =
 
 -- ---- a leg that comes up was up
 
-within : (a b : ℕ) → a ≤ b → nat_le a b ≡ true
+pub within : (a b : ℕ) → a ≤ b → nat_le a b ≡ true
 within a b le = grind (arith, nat_tests)
 
 is_first_up : (c low up rest : Bool) → c ≡ true → low ≡ true → up ≡ true

@@ -1,40 +1,17 @@
 -- what each event makes of the legs that a node keeps: they stay, one is changed, or one comes up
-use Rattle.std.proofs.Common.{◌≡◌, ◌⊎◌, inl, inr, ℕ, zero, suc, List, [], ◌∷◌, ◌++◌, length, take, drop, cond, Bool, true, false, nat_lt, Some, None, Ok, Err, refl, sym, ap, ◌∙◌, subst}
-use Rattle.std.specs.Prelude.{◌&&◌, ◌||◌, not, nat_le, slice_set}
-use Rattle.std.specs.declared.option.Option.{Option}
-use Rattle.std.specs.declared.result.Result.{Result}
-use Rattle.rh_pdu.specs.declared.fault.HeadFault.{HeadFault}
-use Rattle.rh_pdu.specs.Header.{header_length, frag_of, head_fault}
-use Rattle.rh_rts.specs.declared.command.Cookie.{Cookie}
-use Rattle.rh_http.specs.declared.refusal.Refusal.{Refusal}
-use Rattle.rh_http.specs.declared.refusal.Refusal.TheVariants.{Unavailable}
-use Rattle.rh_line.specs.declared.cause.Cause.{Cause}
+use Rattle.law_order.proofs.Vocabulary.{◌≡◌, ◌⊎◌, inl, inr, ℕ, zero, suc, List, [], ◌∷◌, ◌++◌, length, take, drop, cond, Bool, true, false, nat_lt, Some, None, Ok, Err, refl, sym, ap, ◌∙◌, subst, ◌&&◌, ◌||◌, not, nat_le, slice_set, Option, Result}
 use Rattle.rh_line.specs.declared.cause.Cause.TheVariants as cause
-use Rattle.rh_line.specs.declared.leg.Leg.{Leg}
-use Rattle.rh_line.specs.declared.state.State.{State}
 use Rattle.rh_line.specs.declared.state.State.TheVariants as state
-use Rattle.rh_shell.specs.declared.answers.Count.{Count}
-use Rattle.rh_shell.specs.declared.answers.HeadRefused.{HeadRefused}
-use Rattle.rh_shell.specs.declared.answers.HeadTaken.{HeadTaken}
-use Rattle.rh_shell.specs.declared.course.Course.{Course}
-use Rattle.rh_shell.specs.declared.course.Course.TheVariants.{Going, Closed, Refusing}
-use Rattle.rh_shell.specs.declared.stop.Stop.{Stop}
-use Rattle.rh_shell.specs.declared.answers.Behind.{Behind}
+use Rattle.rh_shell.specs.Intakes.{Over}
+use Rattle.rh_shell.specs.NearEnds.{is_empty}
 use Rattle.rh_shell.specs.declared.answers.Behind.TheVariants as behinds
-use Rattle.rh_shell.specs.declared.stage.Stage.{Stage}
 use Rattle.rh_shell.specs.declared.stage.Stage.TheVariants as stage
-use Rattle.rh_shell.specs.Intakes.{Intake, Came, Nothing, Head, Greeting, Frame, Fault, Over, on_byte, byte_by, text_by, frame_by, frame_byte, is_whole_head, is_whole_greeting, is_full, counted}
-use Rattle.rh_shell.specs.Rules.{Rules, Acts, put_into}
-use Rattle.rh_shell.specs.NearEnds.{NearEnd, new_end, marked, is_marked, is_empty, is_ended, is_finished, is_over}
-use Rattle.rh_shell.specs.Hearing.{Turn, goes, touched, with_intake, heading, head_row, stage_of, behind_head, behind_frame, take_frame, is_greeting, is_stopped, hear, hear_byte, take_next}
-use Rattle.rh_shell.specs.Hearing.{take as taken}
-use Rattle.rh_shell.specs.Drawing.{Drawn, drawn, put_on, begun_now, filled, left_by, next_byte, draw}
-use Rattle.rh_shell.specs.Shells.{Shell, same_leg, end_at, with_end, place, close, refuse, stop_by, stopped, may_up, with_leg, seated, up, bytes_at, bytes_by, lose, lost, ended_at, ended_by, wants, is_heard, unreached_by, unreached, broken_at, broken_by, put_back, drawn_at, drawn_by, first_silent, passed_by, passed, is_working}
-use Rattle.rh_shell.specs.Ends.{give_where, take_where, close_where, recycle_where}
-use Rattle.law_moves.specs.Moving.{Event, ComesUp, Hears, Ends, Breaks, Draws, Ticks, after_event}
-use Rattle.law_node_causes.specs.Moments.{hears_bytes, touches}
+use Rattle.law_moves.proofs.Vocabulary.{HeadFault, header_length, frag_of, head_fault, Cookie, Refusal, Unavailable, Cause, Leg, State, Count, HeadRefused, HeadTaken, Course, Going, Closed, Refusing, Stop, Behind, Stage, Intake, Came, Nothing, Head, Greeting, Frame, Fault, on_byte, byte_by, text_by, frame_by, frame_byte, is_whole_head, is_whole_greeting, is_full, counted, Rules, Acts, put_into, NearEnd, new_end, marked, is_marked, is_ended, is_finished, is_over, Turn, goes}
+use Rattle.law_moves.proofs.Vocabulary.{touched, with_intake, heading, head_row, stage_of, behind_head, behind_frame, take_frame, is_greeting, is_stopped, hear, hear_byte, take_next, take as taken, Drawn, drawn, put_on, begun_now, filled, left_by, next_byte, draw, Shell, same_leg, end_at, with_end, place, close, refuse, stop_by, stopped, may_up, with_leg, seated, up, bytes_at, bytes_by, lose, lost, ended_at, ended_by, wants, is_heard, unreached_by, unreached, broken_at}
+use Rattle.law_moves.proofs.Vocabulary.{broken_by, put_back, drawn_at, drawn_by, first_silent, passed_by, passed, is_working, give_where, take_where, close_where, recycle_where, Event, ComesUp, Hears, Ends, Breaks, Draws, Ticks, after_event}
 use Rattle.law_node_causes.proofs.HeardBytes.{hear_over, hear_first}
 use Rattle.law_node_causes.proofs.Sorts.{and_false, and_true}
+use Rattle.law_node_causes.specs.Moments.{hears_bytes, touches}
 
 -- ---- the leg of an end stays where bytes are heard, and its moment is the last one
 

@@ -1,11 +1,6 @@
 -- the role behind a move
-use Rattle.std.proofs.Common.{ℕ, List, [], ◌∷◌, Some, None, Ok, Err}
-use Rattle.std.specs.declared.option.Option.{Option}
-use Rattle.std.specs.declared.result.Result.{Result}
-use Rattle.rh_line.specs.declared.leg.Leg.{Leg}
-use Rattle.rh_shell.specs.declared.end_role.GiveRefused.{GiveRefused}
-use Rattle.rh_shell.specs.Rules.{Row, Message}
-use Rattle.law_moves.specs.Moves.{Passage, EndPassage, taken_by, put_by, given_by, with_first}
+use Rattle.law_order.proofs.Vocabulary.{ℕ, List, [], ◌∷◌, Some, None, Ok, Err, Option, Result}
+use Rattle.law_moves.proofs.Vocabulary.{Leg, GiveRefused, Row, Message, Passage, EndPassage, taken_by, put_by, given_by, with_first}
 
 -- of a row, whether it takes what came or not
 pub by_row : {S : Type 0} (P : S → Type 0) (p : Passage S) (leg : Leg) (message : Message)

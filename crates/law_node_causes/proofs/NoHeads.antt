@@ -1,18 +1,11 @@
 -- on which legs a role waits for a head: those that come up with one first
-use Rattle.std.proofs.Common.{◌≡◌, ◌⊎◌, inl, inr, ℕ, List, [], ◌∷◌, Some, sym, ap, ◌∙◌, subst}
-use Rattle.std.specs.Prelude.{true, ◌&&◌, slice_get}
-use Rattle.rh_line.specs.declared.leg.Leg.{Leg}
-use Rattle.rh_shell.specs.declared.rooms.Rooms.{Rooms}
+use Rattle.law_order.proofs.Vocabulary.{◌≡◌, ◌⊎◌, inl, inr, ℕ, List, [], ◌∷◌, Some, sym, ap, ◌∙◌, subst, true, ◌&&◌, slice_get}
 use Rattle.rh_shell.specs.declared.stage.Stage.TheVariants as stage
-use Rattle.rh_shell.specs.Ends.{cause_of}
-use Rattle.rh_shell.specs.NearEnds.{NearEnd, first_stage, new_end}
-use Rattle.rh_shell.specs.Rules.{Rules, Acts}
-use Rattle.rh_shell.specs.Shells.{Shell, begun, state_of, is_working, has_room, place, free_place}
-use Rattle.law_moves.specs.Moving.{Event, after_event, EndEvent, Happens, IsGiven, IsTaken, IsClosed, IsRecycled, after_end_event, after_end_events}
-use Rattle.law_node_causes.specs.Reasons.{StandsIn}
-use Rattle.law_node_causes.proofs.Sorts.{both}
+use Rattle.law_moves.proofs.Vocabulary.{Leg, Rooms, cause_of, NearEnd, first_stage, new_end, Rules, Acts, Shell, begun, state_of, is_working, has_room, place, free_place, Event, after_event, EndEvent, Happens, IsGiven, IsTaken, IsClosed, IsRecycled, after_end_event, after_end_events}
+use Rattle.law_moves.proofs.Lemmas.{both}
 use Rattle.law_node_causes.proofs.Places.{IsSet, WasThere, set_cases, seat_cases, seat}
 use Rattle.law_node_causes.proofs.LegChanges.{Makes, makes, given_legs, taken_legs, closed_legs, recycled_legs}
+use Rattle.law_node_causes.specs.Reasons.{StandsIn}
 
 -- an end waits for a head only on such a leg
 abbrev pub WaitOn : (Leg → Type 0) → List NearEnd → Type 0

@@ -1,25 +1,12 @@
 -- the moment of a node, and pieces that are not heard
-use Rattle.std.proofs.Common.{◌≡◌, ℕ, zero, suc, ◌≤◌, List, [], ◌∷◌, length, take, drop, cond, Bool, true, false, Some, None, arith, refl, sym, ap, ◌∙◌, subst}
-use Rattle.std.specs.Prelude.{◌&&◌, not, nat_le, slice_get, slice_set}
-use Rattle.std.specs.declared.option.Option.{Option}
-use Rattle.std.proofs.lemmas.Bool.{leb-true}
-use Rattle.rh_http.specs.declared.refusal.Refusal.{Refusal}
-use Rattle.rh_http.specs.declared.refusal.Refusal.TheVariants.{Unavailable}
-use Rattle.rh_line.specs.declared.cause.Cause.{Cause}
+use Rattle.law_order.proofs.Vocabulary.{◌≡◌, ℕ, zero, suc, ◌≤◌, List, [], ◌∷◌, length, take, drop, cond, Bool, true, false, Some, None, arith, refl, sym, ap, ◌∙◌, subst, ◌&&◌, not, nat_le, slice_get, slice_set, Option, leb-true}
 use Rattle.rh_line.specs.declared.cause.Cause.TheVariants as cause
-use Rattle.rh_line.specs.declared.leg.Leg.{Leg}
-use Rattle.rh_shell.specs.declared.course.Course.{Course}
-use Rattle.rh_shell.specs.declared.course.Course.TheVariants.{Going, Closed, Refusing}
-use Rattle.rh_shell.specs.declared.stop.Stop.{Stop}
-use Rattle.rh_shell.specs.Rules.{Rules}
-use Rattle.rh_shell.specs.NearEnds.{NearEnd, is_marked, is_empty, is_ended, is_finished, is_over}
-use Rattle.rh_shell.specs.Hearing.{goes, hear}
-use Rattle.rh_shell.specs.Drawing.{draw}
-use Rattle.rh_shell.specs.Shells.{Shell, same_leg, end_at, with_end, place, turned, close, refuse, stop_by, stopped, may_up, with_leg, bytes_at, bytes_by, lost, ended_at, ended_by, wants, is_heard, unreached_by, unreached, broken_at, broken_by, put_back, drawn_at, drawn_by, first_silent, passed_by, passed, is_working}
-use Rattle.law_moves.specs.Moving.{Event, ComesUp, Hears, Ends, Breaks, Draws, Ticks, after_event}
-use Rattle.law_node_causes.specs.Moments.{hears_bytes, moment_after}
-use Rattle.law_node_causes.proofs.Sorts.{both}
+use Rattle.rh_shell.specs.NearEnds.{is_empty}
+use Rattle.law_moves.proofs.Vocabulary.{Refusal, Unavailable, Cause, Leg, Course, Going, Closed, Refusing, Stop, Rules, NearEnd, is_marked, is_ended, is_finished, is_over, goes, hear, draw, Shell, same_leg, end_at, with_end, place, turned, close, refuse, stop_by, stopped, may_up, with_leg, bytes_at, bytes_by, lost, ended_at, ended_by, wants, is_heard, unreached_by, unreached, broken_at, broken_by, put_back, drawn_at, drawn_by, first_silent, passed_by, passed, is_working}
+use Rattle.law_moves.proofs.Vocabulary.{Event, ComesUp, Hears, Ends, Breaks, Draws, Ticks, after_event}
+use Rattle.law_moves.proofs.Lemmas.{both}
 use Rattle.law_node_causes.proofs.LegChanges.{piece_unheard}
+use Rattle.law_node_causes.specs.Moments.{hears_bytes, moment_after}
 
 module _ {S : Type 0} (rules : Rules S) where
   -- ---- what is not heard

@@ -1,34 +1,14 @@
 -- a leg comes up once at a node
-use Rattle.std.proofs.Common.{◌≡◌, ◌⊎◌, inl, inr, ℕ, List, [], ◌∷◌, true, Some, None, refl, sym, ap, ◌∙◌, subst}
-use Rattle.std.specs.Prelude.{◌&&◌, not, slice_get}
-use Rattle.std.specs.declared.option.Option.{Option}
-use Rattle.std.proofs.lemmas.List.Elements.{All-nil}
-use Rattle.rh_rts.specs.declared.command.Cookie.{Cookie}
-use Rattle.rh_line.specs.declared.leg.Leg.{Leg}
-use Rattle.rh_shell.specs.declared.answers.Phase.{Phase}
+use Rattle.law_order.proofs.Vocabulary.{◌≡◌, ◌⊎◌, inl, inr, ℕ, List, [], ◌∷◌, true, Some, None, refl, sym, ap, ◌∙◌, subst, ◌&&◌, slice_get, Option, All-nil}
 use Rattle.rh_shell.specs.declared.answers.Phase.TheVariants as phase
-use Rattle.rh_shell.specs.declared.course.Course.{Course}
-use Rattle.rh_shell.specs.declared.course.Course.TheVariants.{Going, Closed, Refusing}
-use Rattle.rh_shell.specs.declared.rooms.Rooms.{Rooms}
-use Rattle.rh_shell.specs.Ends.{cause_of}
-use Rattle.rh_shell.specs.NearEnds.{NearEnd, is_ended, new_end}
-use Rattle.rh_shell.specs.Rules.{Rules, Acts}
-use Rattle.rh_shell.specs.Shells.{Shell, begun, state_by, state_of, is_working, is_working_by, has_room, end_at, may_up, place, free_place}
-use Rattle.law_moves.specs.Moves.{Move, Up, Passage, EndMove, EndPassage, MayMove, AreAllowedAtEnd, moved, started, end_moved, end_started, all_end_moved}
-use Rattle.law_moves.specs.Moving.{Event, ComesUp, Hears, Ends, Breaks, Draws, Ticks, after_event, after_events, EndEvent, Happens, IsGiven, IsTaken, IsClosed, IsRecycled, after_end_event, after_end_events, IsHeld, AreHeld, Follows, EndFollows}
-use Rattle.law_moves.proofs.Leading.{leads_keep}
-use Rattle.law_node_causes.specs.Reasons.{StandsIn}
-use Rattle.law_node_causes.specs.Once.{ComesUpOnce, KeepsUp, AreUpOnce, WasUp, IsNewLeg, AreNewLegs, IsNewLegAtEnd, AreNewLegsAtEnd}
-use Rattle.law_node_causes.proofs.Sorts.{both, end_leg}
+use Rattle.law_moves.proofs.Vocabulary.{Cookie, Leg, Rooms, cause_of, NearEnd, new_end, Rules, Acts, Shell, begun, state_of, is_working, has_room, end_at, may_up, place, free_place, Move, Up, Passage, EndMove, EndPassage, MayMove, AreAllowedAtEnd, moved, started, end_moved, end_started, all_end_moved, Event, ComesUp, Hears, Ends, Breaks, Draws, Ticks, after_event, after_events, EndEvent, Happens, IsGiven, IsTaken, IsClosed, IsRecycled, after_end_event, after_end_events}
+use Rattle.law_moves.proofs.Vocabulary.{IsHeld, AreHeld, Follows, EndFollows}
+use Rattle.law_moves.proofs.Lemmas.{leads_keep, at_work, both}
+use Rattle.law_node_causes.proofs.Sorts.{end_leg}
 use Rattle.law_node_causes.proofs.Places.{IsSet, WasThere, set_cases, seat_cases, seat}
 use Rattle.law_node_causes.proofs.LegChanges.{Makes, makes, given_legs, taken_legs, closed_legs, recycled_legs}
-
-at_work : (c : Course) (f : Phase) → is_working_by (state_by c f) ≡ true → not (is_ended f) ≡ true
-at_work Going phase.Opening h = refl
-at_work Going phase.Open h = refl
-at_work Going phase.Ended h = absurd cc
-at_work (Closed why) f h = absurd cc
-at_work (Refusing why leg rest) f h = absurd cc
+use Rattle.law_node_causes.specs.Reasons.{StandsIn}
+use Rattle.law_node_causes.specs.Once.{ComesUpOnce, KeepsUp, AreUpOnce, WasUp, IsNewLeg, AreNewLegs, IsNewLegAtEnd, AreNewLegsAtEnd}
 
 -- what is said of each event of a node, and of an end's, by what a role's rules allow
 abbrev pub AllFollow : {S : Type 0} → Rules S → Type 0

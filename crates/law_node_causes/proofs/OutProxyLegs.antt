@@ -1,33 +1,10 @@
 -- an out proxy's two legs come up once each
-use Rattle.std.proofs.Common.{◌≡◌, ℕ, ◌+◌, ◌==◌, ◌&&◌, ◌||◌, List, [], ◌∷◌, length, Bool, true, false, not, Some, None, Ok, Err, refl, sym, ap, ◌∙◌, subst, rules}
-use Rattle.std.specs.Prelude.{nat_le, if◌then◌else◌}
-use Rattle.std.specs.declared.option.Option.{Option}
-use Rattle.std.specs.declared.result.Result.{Result}
-use Rattle.rh_window.specs.Sending.{may_send, after_sent}
-use Rattle.rh_window.specs.declared.recv_window.Ack.{Ack}
-use Rattle.law_order.proofs.ByNumber.{by_test}
-use Rattle.rh_rts.specs.declared.command.Cookie.{Cookie}
-use Rattle.rh_sig.specs.declared.named.Named.{Named}
-use Rattle.rh_sig.specs.declared.named.Named.TheVariants.{ConnA1, ConnC1, OutR1A3, OutR2C1, InR1A3, InR2A3, OutR1A1, OutR1A5, OutR1A9, OutR1A10, EndB1, EndB2, AckTo, Ping}
-use Rattle.rh_http.specs.Heads.Verdicts.{Asked, request_verdict}
-use Rattle.rh_http.specs.declared.fault.HttpFault.{HttpFault}
-use Rattle.rh_line.specs.declared.leg.Leg.{Leg}
-use Rattle.rh_line.specs.declared.leg.LegKind.{LegKind}
-use Rattle.rh_line.specs.declared.leg.LegKind.TheVariants.{ClientOut, OutServer, ClientIn, InServer}
-use Rattle.rh_line.specs.Lines.{after_take, is_empty}
-use Rattle.rh_shell.specs.declared.answers.Count.{Count}
-use Rattle.rh_shell.specs.declared.due.Due.{Due}
-use Rattle.rh_shell.specs.Rules.{Pdu, Packet}
-use Rattle.rh_shell.specs.Shells.{kind_number, same_leg}
+use Rattle.law_order.proofs.Vocabulary.{◌≡◌, ℕ, ◌+◌, ◌==◌, ◌&&◌, ◌||◌, List, [], ◌∷◌, length, Bool, true, false, not, Some, None, Ok, Err, refl, sym, ap, ◌∙◌, subst, rules, nat_le, if◌then◌else◌, Option, Result}
 use Rattle.rh_outproxy.specs.declared.state.OutProxyConfig.{OutProxyConfig}
 use Rattle.rh_outproxy.specs.declared.state.Answer.{Answer}
-use Rattle.rh_outproxy.specs.declared.state.Answer.TheVariants as answers
 use Rattle.rh_outproxy.specs.declared.state.ClientLeg.{ClientLeg}
-use Rattle.rh_outproxy.specs.declared.state.ClientLeg.TheVariants as clients
-use Rattle.rh_outproxy.specs.declared.state.Mark.TheVariants as marks
 use Rattle.rh_outproxy.specs.declared.state.Ping.TheVariants.{NotDue}
 use Rattle.rh_outproxy.specs.declared.state.ServerLeg.{ServerLeg}
-use Rattle.rh_outproxy.specs.declared.state.ServerLeg.TheVariants as servers
 use Rattle.rh_outproxy.specs.OutProxy.{OutProxy, is_due, is_ping_due, is_client_down, is_server_down, is_server_first, is_known, joined}
 use Rattle.rh_outproxy.specs.Rows.{Done, is_co, is_os, unexpected}
 use Rattle.rh_outproxy.specs.Opening.{may_up, was_up, up, head, head_by, on_conn_a1, on_out_r1_a3, on_out_r2_c1, on_conn_c1, first_packet}
@@ -36,12 +13,15 @@ use Rattle.rh_outproxy.specs.InReplacement.{on_in_r1_a3, on_in_r2_a3}
 use Rattle.rh_outproxy.specs.OutReplacement.{on_out_r1_a1, on_out_r1_a5, on_out_r1_a9}
 use Rattle.rh_outproxy.specs.Ending.{on_end_b1, drawn, mark}
 use Rattle.rh_outproxy.specs.Putting.{Pick, ping_room, or_else, answer_by, put_answer, put_waiting, waiting_by, pdu_by, put_pdu, put_end, put_handover, put_ping, put_mark, next_co, first_by, put_first, ack_by, put_ack, next_os, put}
-use Rattle.rh_outproxy.specs.Machine.{packet, pdu, on_co, on_os}
-use Rattle.rh_outproxy.specs.Machine.{rules as proxy_rules}
-use Rattle.law_moves.specs.Moves.{Move, Up, HeadCame, PduCame, PacketCame, Puts, IsDrawn, Marks, Pings, Passage, moved}
-use Rattle.law_node_causes.specs.Once.{ComesUpOnce}
+use Rattle.rh_outproxy.specs.Machine.{packet, pdu, on_co, on_os, rules as proxy_rules}
+use Rattle.rh_outproxy.specs.declared.state.Answer.TheVariants as answers
+use Rattle.rh_outproxy.specs.declared.state.ClientLeg.TheVariants as clients
+use Rattle.rh_outproxy.specs.declared.state.Mark.TheVariants as marks
+use Rattle.rh_outproxy.specs.declared.state.ServerLeg.TheVariants as servers
+use Rattle.law_moves.proofs.Vocabulary.{may_send, after_sent, Ack, by_test, Cookie, Named, ConnA1, ConnC1, OutR1A3, OutR2C1, InR1A3, InR2A3, OutR1A1, OutR1A5, OutR1A9, OutR1A10, EndB1, EndB2, AckTo, Ping, Asked, request_verdict, HttpFault, Leg, LegKind, ClientOut, OutServer, ClientIn, InServer, after_take, is_empty, Count, Due, Pdu, Packet, kind_number, same_leg, Move, Up, HeadCame, PduCame, PacketCame, Puts, IsDrawn, Marks, Pings, Passage, moved}
 use Rattle.law_node_causes.proofs.Sorts.{and_false}
 use Rattle.law_node_causes.proofs.MoveRoles.{by_row, behind_put, by_put}
+use Rattle.law_node_causes.specs.Once.{ComesUpOnce}
 
 -- its numbers and its two legs
 pub record Legs : Type 0 where

@@ -1,12 +1,7 @@
 -- a list of ends with another one in a place, or behind all
-use Rattle.std.proofs.Common.{◌≡◌, ◌⊎◌, inl, inr, ℕ, zero, suc, ◌+◌, List, [], ◌∷◌, ◌++◌, length, cond, Bool, true, false, nat_lt, Some, None, arith, refl, sym, ap, ◌∙◌, subst}
-use Rattle.std.specs.Prelude.{◌==◌, slice_get, slice_set}
-use Rattle.std.proofs.lemmas.Bool.Decides.{nat_tests}
-use Rattle.rh_line.specs.declared.leg.Leg.{Leg}
-use Rattle.rh_line.specs.declared.leg.LegKind.{LegKind}
-use Rattle.rh_line.specs.declared.leg.LegKind.TheVariants.{ClientOut, OutServer, ClientIn, InServer}
-use Rattle.rh_shell.specs.NearEnds.{NearEnd}
-use Rattle.rh_shell.specs.Shells.{kind_number, same_leg, first_where, seated_at}
+use Rattle.law_order.proofs.Vocabulary.{◌≡◌, ◌⊎◌, inl, inr, ℕ, zero, suc, ◌+◌, List, [], ◌∷◌, ◌++◌, length, cond, Bool, true, false, nat_lt, Some, None, arith, refl, sym, ap, ◌∙◌, subst, ◌==◌, slice_get, slice_set, nat_tests}
+use Rattle.law_moves.proofs.Vocabulary.{Leg, LegKind, ClientOut, OutServer, ClientIn, InServer, NearEnd, kind_number, same_leg, first_where, seated_at}
+use Rattle.law_moves.proofs.Lemmas.{itself as leg_itself}
 
 -- the end at a place is the one that was set there, or was there before at another place
 pub record IsSet (i j : ℕ) (new end : NearEnd) : Type 0 where
@@ -90,9 +85,6 @@ kind_same ClientOut = refl
 kind_same OutServer = refl
 kind_same ClientIn = refl
 kind_same InServer = refl
-
-pub leg_itself : (leg : Leg) → same_leg leg leg ≡ true
-leg_itself leg = rw (kind_same leg.kind, number_same leg.number) refl
 
 pub same_is : (a b : Leg) → a ≡ b → same_leg a b ≡ true
 same_is a b e = subst (λ (x : Leg). same_leg a x ≡ true) e (leg_itself a)

@@ -1,32 +1,15 @@
 -- why a node refuses a request
-use Rattle.std.proofs.Common.{◌≡◌, ◌⊎◌, inl, inr, ℕ, ◌+◌, List, [], ◌∷◌, length, take, drop, cond, Bool, true, false, Some, None, refl, sym, ap, ◌∙◌, subst}
-use Rattle.std.specs.Prelude.{◌&&◌, nat_le}
-use Rattle.std.specs.declared.option.Option.{Option}
-use Rattle.std.proofs.lemmas.List.{drop-drop}
-use Rattle.rh_rts.specs.declared.command.Cookie.{Cookie}
-use Rattle.rh_http.specs.declared.refusal.Refusal.{Refusal}
-use Rattle.rh_http.specs.declared.refusal.Refusal.TheVariants.{Unavailable}
-use Rattle.rh_http.specs.Texts.{refusal_text}
-use Rattle.rh_line.specs.declared.cause.Cause.{Cause}
+use Rattle.law_order.proofs.Vocabulary.{◌≡◌, ◌⊎◌, inl, inr, ℕ, ◌+◌, List, [], ◌∷◌, length, take, drop, cond, Bool, true, false, Some, None, refl, sym, ap, ◌∙◌, subst, ◌&&◌, nat_le, Option, drop-drop}
 use Rattle.rh_line.specs.declared.cause.Cause.TheVariants as cause
-use Rattle.rh_line.specs.declared.leg.Leg.{Leg}
-use Rattle.rh_shell.specs.declared.answers.Phase.{Phase}
-use Rattle.rh_shell.specs.declared.course.Course.{Course}
-use Rattle.rh_shell.specs.declared.course.Course.TheVariants.{Going, Closed, Refusing}
-use Rattle.rh_shell.specs.declared.rooms.Rooms.{Rooms}
 use Rattle.rh_shell.specs.declared.stage.Stage.TheVariants as stage
-use Rattle.rh_shell.specs.declared.stop.Stop.{Stop}
-use Rattle.rh_shell.specs.Rules.{Rules}
-use Rattle.rh_shell.specs.NearEnds.{NearEnd, first_stage, is_marked, is_ended, is_finished}
-use Rattle.rh_shell.specs.Hearing.{Turn, goes, hear}
-use Rattle.rh_shell.specs.Drawing.{draw}
-use Rattle.rh_shell.specs.Shells.{Shell, begun, same_leg, end_at, with_end, place, close, refuse, stop_by, stopped, has_room, may_up, with_leg, up, bytes_at, bytes_by, lost, ended_at, ended_by, wants, is_heard, unreached_by, unreached, broken_at, broken_by, put_back, drawn_at, drawn_by, first_silent, passed_by, passed, is_working, is_working_by, state_by}
-use Rattle.law_moves.specs.Moving.{Event, ComesUp, Hears, Ends, Breaks, Draws, Ticks, after_event, after_events}
-use Rattle.law_node_causes.specs.Reasons.{RefusesHead}
-use Rattle.law_node_causes.specs.Refusals.{IsRestOf, RefusesRequest, TellsUnreached, MayRefuse}
-use Rattle.law_node_causes.proofs.Sorts.{both, end_leg}
+use Rattle.law_moves.proofs.Vocabulary.{Cookie, Refusal, Unavailable, refusal_text, Cause, Leg, Phase, Course, Going, Closed, Refusing, Rooms, Stop, Rules, NearEnd, first_stage, is_marked, is_ended, is_finished, Turn, goes, hear, draw, Shell, begun, same_leg, end_at, with_end, place, close, refuse, stop_by, stopped, has_room, may_up, with_leg, up, bytes_at, bytes_by, lost, ended_at, ended_by, wants, is_heard, unreached_by, unreached, broken_at, broken_by, put_back, drawn_at}
+use Rattle.law_moves.proofs.Vocabulary.{drawn_by, first_silent, passed_by, passed, is_working, is_working_by, state_by, Event, ComesUp, Hears, Ends, Breaks, Draws, Ticks, after_event, after_events}
+use Rattle.law_moves.proofs.Lemmas.{both}
+use Rattle.law_node_causes.proofs.Sorts.{end_leg}
 use Rattle.law_node_causes.proofs.NoHeads.{WaitOn, event_waits, first_waits}
 use Rattle.law_node_causes.proofs.HeardBytes.{IsStop, piece_stops}
+use Rattle.law_node_causes.specs.Reasons.{RefusesHead}
+use Rattle.law_node_causes.specs.Refusals.{IsRestOf, RefusesRequest, TellsUnreached, MayRefuse}
 
 whole_text : (refusal : Refusal) → IsRestOf refusal (refusal_text refusal)
 whole_text refusal = record { drawn = 0; is = refl }

@@ -1,58 +1,39 @@
 -- what the four roles refuse
-use Rattle.std.proofs.Common.{◌≡◌, inl, inr, ℕ, List, ◌++◌, cond, Bool, true, false, Some, None, Ok, Err, refl, sym, ap, ◌∙◌, subst}
-use Rattle.std.specs.Prelude.{◌==◌, ◌&&◌, ◌||◌, nat_le}
-use Rattle.std.specs.declared.result.Result.{Result}
-use Rattle.std.proofs.lemmas.Bool.{eq-eqb}
-use Rattle.rh_sig.specs.declared.name.Pipe.TheVariants.{CiU, IsD, CoU, OsD}
-use Rattle.rh_http.specs.declared.fault.HttpFault.{HttpFault}
-use Rattle.rh_http.specs.declared.response.Response.{Response}
-use Rattle.rh_http.specs.Heads.Verdicts.{Asked, request_verdict, response_verdict}
-use Rattle.rh_http.specs.Lengths.{greatest_echo}
+use Rattle.law_order.proofs.Vocabulary.{◌≡◌, inl, inr, ℕ, List, ◌++◌, cond, Bool, true, false, Some, None, Ok, Err, refl, sym, ap, ◌∙◌, subst, ◌==◌, ◌&&◌, ◌||◌, nat_le, Result, eq-eqb}
 use Rattle.rh_line.specs.declared.cause.Cause.TheVariants as cause
-use Rattle.rh_line.specs.declared.leg.Leg.{Leg}
-use Rattle.rh_line.specs.declared.leg.LegKind.{LegKind}
-use Rattle.rh_line.specs.declared.leg.LegKind.TheVariants.{ClientOut, OutServer, ClientIn, InServer}
-use Rattle.rh_shell.specs.declared.answers.Behind.TheVariants as behinds
-use Rattle.rh_shell.specs.declared.answers.HeadRefused.{HeadRefused}
 use Rattle.rh_shell.specs.declared.answers.HeadRefused.TheVariants.{Status}
-use Rattle.rh_shell.specs.declared.answers.HeadTaken.{HeadTaken}
-use Rattle.rh_shell.specs.declared.course.Course.{Course}
-use Rattle.rh_shell.specs.declared.course.Course.TheVariants.{Going, Closed, Refusing}
+use Rattle.rh_shell.specs.declared.answers.Behind.TheVariants as behinds
 use Rattle.rh_shell.specs.declared.stage.Stage.TheVariants as stage
-use Rattle.rh_shell.specs.NearEnds.{first_stage}
-use Rattle.rh_shell.specs.Rules.{Rules}
-use Rattle.rh_shell.specs.Shells.{Shell, place}
 use Rattle.rh_inproxy.specs.declared.opening.TheConstants.{ECHO_LENGTH}
 use Rattle.rh_inproxy.specs.declared.state.InProxyConfig.{InProxyConfig}
 use Rattle.rh_inproxy.specs.State.{InProxy, first, is_client_leg, is_server_leg}
 use Rattle.rh_inproxy.specs.Opening.{head_by, echo_asked, channel_asked, wants_server, accepts}
 use Rattle.rh_inproxy.specs.Machine as in_proxy
-use Rattle.rh_outproxy.specs.declared.state.Answer.TheVariants as answers
 use Rattle.rh_outproxy.specs.declared.state.OutProxyConfig.{OutProxyConfig}
 use Rattle.rh_outproxy.specs.OutProxy.{OutProxy, new_proxy, is_client_up, is_known, is_server_down}
-use Rattle.rh_outproxy.specs.Opening as opening
 use Rattle.rh_outproxy.specs.Rows.{is_co, is_os, co}
+use Rattle.rh_outproxy.specs.declared.state.Answer.TheVariants as answers
+use Rattle.rh_outproxy.specs.Opening as opening
 use Rattle.rh_outproxy.specs.Machine as out_proxy
 use Rattle.rh_client.specs.declared.state.ClientRole.{ClientRole}
+use Rattle.rh_client.specs.Opening.{success}
 use Rattle.rh_client.specs.Client as client
 use Rattle.rh_client.specs.Opening as opens
-use Rattle.rh_client.specs.Opening.{success}
 use Rattle.rh_server.specs.States.{Server}
 use Rattle.rh_server.specs.Opening.{may_up_by}
 use Rattle.rh_server.specs.Servers as server
-use Rattle.rh_nodes.specs.declared.event.Event.{Event}
-use Rattle.law_moves.specs.Moves.{Move, Passage, MayMove, moved, started}
-use Rattle.law_moves.specs.Moving.{EndEvent, after_end_events, Follows}
-use Rattle.law_moves.proofs.Leading.{leads_keep}
-use Rattle.law_node_causes.specs.Closings.{ClosesWith, IsResponse}
-use Rattle.law_node_causes.specs.Numbers.{AreNumbered}
-use Rattle.law_node_causes.specs.Refusals.{MayRefuseOn, RefusesNoStatus, IsRefusedBy}
-use Rattle.law_node_causes.proofs.Sorts.{both, leg_is, of_kind, end_leg}
+use Rattle.rh_company.specs.declared.event.Event.{Event}
+use Rattle.law_moves.proofs.Vocabulary.{CiU, IsD, CoU, OsD, HttpFault, Response, Asked, request_verdict, response_verdict, greatest_echo, Leg, LegKind, ClientOut, OutServer, ClientIn, InServer, HeadRefused, HeadTaken, Course, Going, Closed, Refusing, first_stage, Rules, Shell, place, Move, Passage, MayMove, moved, started, EndEvent, after_end_events, Follows}
+use Rattle.law_moves.proofs.Lemmas.{leads_keep, both, leg_is}
+use Rattle.law_node_causes.proofs.Sorts.{of_kind, end_leg}
 use Rattle.law_node_causes.proofs.ClosedBy.{from_event}
 use Rattle.law_node_causes.proofs.NoHeads.{run_at_end, first_waits}
 use Rattle.law_node_causes.proofs.Refusing.{MayRefuseAt}
 use Rattle.law_node_causes.proofs.InProxyLegs as in_legs
 use Rattle.law_node_causes.proofs.OutProxyLegs as out_legs
+use Rattle.law_node_causes.specs.Closings.{ClosesWith, IsResponse}
+use Rattle.law_node_causes.specs.Numbers.{AreNumbered}
+use Rattle.law_node_causes.specs.Refusals.{MayRefuseOn, RefusesNoStatus, IsRefusedBy}
 
 -- ---- no status is refused
 

@@ -1,52 +1,29 @@
 -- a server's legs have the numbers behind those that were up
-use Rattle.std.proofs.Common.{◌≡◌, ℕ, ◌+◌, ◌==◌, ◌≤◌, ◌&&◌, List, [], ◌∷◌, Bool, true, false, Some, None, Ok, Err, nat_lt, not, refl, sym, ◌∙◌, subst, rules, arith}
-use Rattle.std.specs.declared.option.Option.{Option}
-use Rattle.std.specs.declared.result.Result.{Result}
-use Rattle.std.proofs.lemmas.Bool.Decides.{nat_tests}
-use Rattle.std.specs.Prelude.{slice_get, length, nat_le, ◌++◌}
-use Rattle.rh_window.specs.declared.recv_window.Ack.{Ack}
-use Rattle.law_order.proofs.ByNumber.{by_test}
-use Rattle.rh_pdu.specs.Checking.{pdu_fault}
-use Rattle.rh_pdu.specs.declared.fault.PduFault.{PduFault}
-use Rattle.rh_rts.specs.declared.command.Cookie.{Cookie}
-use Rattle.rh_sig.specs.declared.named.Named.{Named}
+use Rattle.law_order.proofs.Vocabulary.{◌≡◌, ℕ, ◌+◌, ◌==◌, ◌≤◌, ◌&&◌, List, [], ◌∷◌, Bool, true, false, Some, None, Ok, Err, nat_lt, not, refl, sym, ◌∙◌, subst, rules, arith, Option, Result, nat_tests, slice_get, length, nat_le, ◌++◌}
 use Rattle.rh_sig.specs.declared.named.Named.TheVariants as named
-use Rattle.rh_line.specs.declared.leg.Leg.{Leg}
-use Rattle.rh_line.specs.declared.leg.LegKind.{LegKind}
-use Rattle.rh_line.specs.declared.leg.LegKind.TheVariants.{ClientOut, OutServer, ClientIn, InServer}
-use Rattle.rh_line.specs.declared.which.Which.{Which}
-use Rattle.rh_line.specs.declared.which.Which.TheVariants.{Current, Next}
-use Rattle.rh_line.specs.Queue.{front_length, total, queue_bytes}
-use Rattle.rh_shell.specs.declared.answers.Count.{Count}
-use Rattle.rh_shell.specs.declared.due.Due.{Due}
-use Rattle.rh_shell.specs.Rules.{Text, Pdu, Packet}
-use Rattle.rh_shell.specs.Waiting.{Waiting, taken}
-use Rattle.rh_shell.specs.declared.end_role.GiveRefused.{GiveRefused}
 use Rattle.rh_shell.specs.declared.end_role.GiveRefused.TheVariants as give_refused
-use Rattle.rh_shell.specs.NearEnds.{first_of}
-use Rattle.rh_shell.specs.Hearing.{greeting as greeting_text}
-use Rattle.rh_server.specs.declared.state.EndMark.TheVariants as end_mark
-use Rattle.rh_server.specs.declared.state.Greeting.TheVariants as greeting
 use Rattle.rh_server.specs.declared.state.InLeg.{InLeg}
 use Rattle.rh_server.specs.declared.state.OutLeg.{OutLeg}
 use Rattle.rh_server.specs.declared.state.Leaving.{Leaving}
-use Rattle.rh_server.specs.declared.state.Leaving.TheVariants as leaving
 use Rattle.rh_server.specs.declared.state.Tells.{Tells}
-use Rattle.rh_server.specs.declared.state.Tells.TheVariants as tells
 use Rattle.rh_server.specs.States.{Server, is_open, is_closing, is_due, is_waiting, stays, in_leg, with_in, without_in, without_out, out_place}
 use Rattle.rh_server.specs.Opening.{Done, unexpected, is_first, may_up, may_up_by, was_up, was_up_by, up, up_by, has_room, on_conn_a2, on_conn_b2}
 use Rattle.rh_server.specs.OutLines.{Gate, lets, length_of, waits}
-use Rattle.rh_server.specs.declared.out_line.Kind.TheVariants as kind
 use Rattle.rh_server.specs.Acknowledging.{channel_at, on_ack_to, on_ack, on_ping_traffic}
 use Rattle.rh_server.specs.InReplacement.{take, in_r2_a2_on, on_in_r1_a2, on_in_r1_a6, on_in_r2_a2}
 use Rattle.rh_server.specs.OutReplacement.{recycle, on_out_r1_a4, on_out_r1_a8}
 use Rattle.rh_server.specs.Ending.{give, give_by, on_end_a2, drawn, drawn_by, in_is_drawn, mark, mark_by, lost_in, with_ack_dropped, settled}
 use Rattle.rh_server.specs.Putting.{Pick, or_else, put, put_by, put_in_by, put_in_greeting, put_tells, put_tells_by, put_b1, put_b1_by, put_ack, put_ack_by, ack_due, put_out, put_out_at, put_open, next_in, next_out, out_greeting_at, put_out_greeting, put_waiting, waiting_at, waiting_by, was_put, goes, with_out, counts, counts_at, may_go_at, may_end_at, is_end_due, gate, gate_at, put_pdu, pdu_by, put_end, put_pdu_or_end, settled_pick}
 use Rattle.rh_server.specs.Servers.{rules as server_rules, acts as server_acts, on_is, on_os, packet, packet_by, pdu}
-use Rattle.law_moves.specs.Moves.{Move, Up, HeadCame, PduCame, PacketCame, Puts, IsDrawn, Marks, Pings, Passage, EndMove, EndPassage, Moves, Gives, Takes, Closes, Recycles, moved, end_moved, end_now_at}
-use Rattle.law_node_causes.specs.Once.{ComesUpOnce, KeepsUp}
+use Rattle.rh_server.specs.declared.state.EndMark.TheVariants as end_mark
+use Rattle.rh_server.specs.declared.state.Greeting.TheVariants as greeting
+use Rattle.rh_server.specs.declared.state.Leaving.TheVariants as leaving
+use Rattle.rh_server.specs.declared.state.Tells.TheVariants as tells
+use Rattle.rh_server.specs.declared.out_line.Kind.TheVariants as kind
+use Rattle.law_moves.proofs.Vocabulary.{Ack, by_test, pdu_fault, PduFault, Cookie, Named, Leg, LegKind, ClientOut, OutServer, ClientIn, InServer, Which, Current, Next, front_length, total, queue_bytes, Count, Due, Text, Pdu, Packet, Waiting, taken, GiveRefused, first_of, greeting as greeting_text, Move, Up, HeadCame, PduCame, PacketCame, Puts, IsDrawn, Marks, Pings, Passage, EndMove, EndPassage, Moves, Gives, Takes, Closes, Recycles, moved, end_moved, end_now_at}
+use Rattle.law_moves.proofs.Lemmas.{both}
 use Rattle.law_node_causes.proofs.MoveRoles.{by_row, behind_put, by_put, by_given, by_first}
-use Rattle.law_node_causes.proofs.Sorts.{both}
+use Rattle.law_node_causes.specs.Once.{ComesUpOnce, KeepsUp}
 
 -- the newest number of each kind
 pub record Newest : Type 0 where

@@ -1,33 +1,26 @@
 -- which legs fall silent, since when, and for how long
-use Rattle.std.proofs.Common.{◌≡◌, ℕ, ◌≤◌, ◌-◌, List, cond, Bool, true, false, Some, None, refl, sym, ap, ◌∙◌, subst}
-use Rattle.std.specs.Prelude.{◌&&◌, not}
-use Rattle.rh_http.specs.declared.config.ClientConfig.{ClientConfig}
+use Rattle.law_order.proofs.Vocabulary.{◌≡◌, ℕ, ◌≤◌, ◌-◌, List, cond, Bool, true, false, Some, None, refl, sym, ap, ◌∙◌, subst, ◌&&◌, not}
 use Rattle.rh_line.specs.declared.cause.Cause.TheVariants as cause
-use Rattle.rh_line.specs.declared.leg.Leg.{Leg}
-use Rattle.rh_line.specs.declared.leg.LegKind.TheVariants.{ClientIn}
-use Rattle.rh_shell.specs.NearEnds.{NearEnd}
-use Rattle.rh_shell.specs.Rules.{Rules}
-use Rattle.rh_shell.specs.Shells.{Shell}
 use Rattle.rh_inproxy.specs.declared.state.InProxyConfig.{InProxyConfig}
 use Rattle.rh_inproxy.specs.State.{first, channel_of, is_client_leg}
 use Rattle.rh_inproxy.specs.Time.{a5_came}
 use Rattle.rh_inproxy.specs.Machine as in_proxy
 use Rattle.rh_client.specs.Client as client
 use Rattle.rh_client.specs.State as clients
-use Rattle.rh_nodes.specs.declared.event.Event as told
-use Rattle.rh_nodes.specs.declared.event.Event.TheVariants as happened
-use Rattle.law_moves.specs.Moving.{EndEvent, Event, after_end_events, after_events, Follows, EndFollows}
-use Rattle.law_moves.specs.Moves.{started, end_started}
+use Rattle.rh_company.specs.declared.event.Event as told
+use Rattle.rh_company.specs.declared.event.Event.TheVariants as happened
+use Rattle.law_moves.proofs.Vocabulary.{ClientConfig, Leg, ClientIn, NearEnd, Rules, Shell, EndEvent, Event, after_end_events, after_events, Follows, EndFollows, started, end_started}
+use Rattle.law_moves.proofs.Lemmas.{both}
+use Rattle.law_node_causes.proofs.Sorts.{not_so, of_kind}
+use Rattle.law_node_causes.proofs.ClientTimes.{watches}
+use Rattle.law_node_causes.proofs.ClosedBy.{closes, from_event}
+use Rattle.law_node_causes.proofs.RoleRefusals.{in_config}
+use Rattle.law_node_causes.proofs.Touches.{since_there, since_there_at_end}
 use Rattle.law_node_causes.specs.Closings.{ClosesWith}
 use Rattle.law_node_causes.specs.Moments.{last_touched, last_touched_at_end}
 use Rattle.law_node_causes.specs.Once.{AreNewLegs, AreNewLegsAtEnd}
 use Rattle.law_node_causes.specs.Reasons.{StandsIn, FallsSilent}
 use Rattle.law_node_causes.specs.Watching.{in_proxy_limit, InProxyFellSilent, ClientFellSilent}
-use Rattle.law_node_causes.proofs.Sorts.{both, not_so, of_kind}
-use Rattle.law_node_causes.proofs.ClientTimes.{watches}
-use Rattle.law_node_causes.proofs.ClosedBy.{closes, from_event}
-use Rattle.law_node_causes.proofs.RoleRefusals.{in_config}
-use Rattle.law_node_causes.proofs.Touches.{since_there, since_there_at_end}
 
 -- an end of the leg was silent as long as the role allows
 record IsSilentLeg {S : Type 0} (rules : Rules S) (node : Shell S) (leg : Leg) (since now : ℕ)

@@ -1,23 +1,11 @@
 -- a node that closed stays so, with its cause
-use Rattle.std.proofs.Common.{◌≡◌, ℕ, List, [], ◌∷◌, take, drop, cond, Bool, true, false, Some, None, refl, sym, subst}
-use Rattle.std.specs.Prelude.{◌&&◌, nat_le}
-use Rattle.std.specs.declared.option.Option.{Option}
-use Rattle.rh_rts.specs.declared.command.Cookie.{Cookie}
-use Rattle.rh_line.specs.declared.cause.Cause.{Cause}
-use Rattle.rh_line.specs.declared.leg.Leg.{Leg}
-use Rattle.rh_line.specs.declared.state.State.{State}
+use Rattle.law_order.proofs.Vocabulary.{◌≡◌, ℕ, List, [], ◌∷◌, take, drop, cond, Bool, true, false, Some, None, refl, sym, subst, ◌&&◌, nat_le, Option}
 use Rattle.rh_line.specs.declared.state.State.TheVariants as state
-use Rattle.rh_shell.specs.declared.course.Course.{Course}
-use Rattle.rh_shell.specs.declared.course.Course.TheVariants.{Going, Closed, Refusing}
-use Rattle.rh_shell.specs.Ends.{cause_of, give_where, take_where, close_where, recycle_where}
-use Rattle.rh_shell.specs.Rules.{Rules, Acts}
-use Rattle.rh_shell.specs.Shells.{Shell, same_leg, has_room, may_up, with_leg, up, bytes_by, ended_by, broken_by, drawn_by, is_working, state_of, passed}
-use Rattle.rh_nodes.specs.declared.event.Event as told
-use Rattle.rh_nodes.specs.declared.event.Event.TheVariants as happened
-use Rattle.rh_nodes.specs.Telling.{tell, happens}
-use Rattle.law_moves.specs.Laws.{ClosedWith}
-use Rattle.law_moves.specs.Moving.{Event, ComesUp, Hears, Ends, Breaks, Draws, Ticks, after_event, after_events, EndEvent, Happens, IsGiven, IsTaken, IsClosed, IsRecycled, after_end_event, after_end_events}
-use Rattle.law_node_causes.proofs.Sorts.{both}
+use Rattle.rh_company.specs.Telling.{tell, happens}
+use Rattle.rh_company.specs.declared.event.Event as told
+use Rattle.rh_company.specs.declared.event.Event.TheVariants as happened
+use Rattle.law_moves.proofs.Vocabulary.{Cookie, Cause, Leg, State, Course, Going, Closed, Refusing, cause_of, give_where, take_where, close_where, recycle_where, Rules, Acts, Shell, same_leg, has_room, may_up, with_leg, up, bytes_by, ended_by, broken_by, drawn_by, is_working, state_of, passed, ClosedWith, Event, ComesUp, Hears, Ends, Breaks, Draws, Ticks, after_event, after_events, EndEvent, Happens, IsGiven, IsTaken, IsClosed, IsRecycled, after_end_event, after_end_events}
+use Rattle.law_moves.proofs.Lemmas.{both}
 use Rattle.law_node_causes.proofs.Refusing.{not_working}
 use Rattle.law_node_causes.proofs.ClosedBy.{told_is}
 

@@ -1,20 +1,13 @@
 -- the moment at which each leg of a node was last touched
-use Rattle.std.proofs.Common.{◌≡◌, ◌⊎◌, inl, inr, ℕ, List, [], ◌∷◌, cond, Bool, true, false, Some, None, refl, sym, ap, ◌∙◌, subst}
-use Rattle.std.specs.Prelude.{◌&&◌, slice_get}
-use Rattle.std.specs.declared.option.Option.{Option}
-use Rattle.rh_line.specs.declared.leg.Leg.{Leg}
-use Rattle.rh_shell.specs.declared.rooms.Rooms.{Rooms}
-use Rattle.rh_shell.specs.Ends.{cause_of}
-use Rattle.rh_shell.specs.NearEnds.{NearEnd, new_end}
-use Rattle.rh_shell.specs.Rules.{Rules, Acts}
-use Rattle.rh_shell.specs.Shells.{Shell, begun, state_of, same_leg, is_at, place, free_place, end_at, may_up}
-use Rattle.law_moves.specs.Moving.{Event, ComesUp, after_event, after_events, EndEvent, Happens, IsGiven, IsTaken, IsClosed, IsRecycled, after_end_event, after_end_events}
+use Rattle.law_order.proofs.Vocabulary.{◌≡◌, ◌⊎◌, inl, inr, ℕ, List, [], ◌∷◌, cond, Bool, true, false, Some, None, refl, sym, ap, ◌∙◌, subst, ◌&&◌, slice_get, Option}
+use Rattle.law_moves.proofs.Vocabulary.{Leg, Rooms, cause_of, NearEnd, new_end, Rules, Acts, Shell, begun, state_of, same_leg, is_at, place, free_place, end_at, may_up, Event, ComesUp, after_event, after_events, EndEvent, Happens, IsGiven, IsTaken, IsClosed, IsRecycled, after_end_event, after_end_events}
+use Rattle.law_moves.proofs.Lemmas.{leg_is, itself as leg_itself}
+use Rattle.law_node_causes.proofs.Sorts.{end_leg}
+use Rattle.law_node_causes.proofs.Places.{IsSet, WasThere, set_cases, seat_cases, seat, found, same_is}
+use Rattle.law_node_causes.proofs.LegChanges.{Stay, Changes, Comes, Makes, makes, given_legs, taken_legs, closed_legs, recycled_legs}
 use Rattle.law_node_causes.specs.Reasons.{StandsIn}
 use Rattle.law_node_causes.specs.Once.{IsNewLeg, AreNewLegs, AreNewLegsAtEnd}
 use Rattle.law_node_causes.specs.Moments.{touches, moment_if, last_touched, last_touched_at_end}
-use Rattle.law_node_causes.proofs.Sorts.{leg_is, end_leg}
-use Rattle.law_node_causes.proofs.Places.{IsSet, WasThere, set_cases, seat_cases, seat, found, leg_itself, same_is}
-use Rattle.law_node_causes.proofs.LegChanges.{Stay, Changes, Comes, Makes, makes, given_legs, taken_legs, closed_legs, recycled_legs}
 
 -- the ends of a list are of different legs
 abbrev Differ : List NearEnd → Type 0
@@ -127,9 +120,6 @@ module _ {S : Type 0} (rules : Rules S) (s : Shell S) (last : Leg → Option ℕ
     apart j end at true e = absurd (absent j end at (leg_is c.leg end.leg e))
     apart j end at false e = refl
 
-    place_of : ℕ
-    place_of = seat s.legs (free_place rules s.role c.leg.kind s.legs)
-
     abbrev Seated : ℕ → NearEnd → Type 0
     Seated j end =
         IsSet (seat s.legs (free_place rules s.role c.leg.kind s.legs)) j
@@ -220,9 +210,6 @@ module _ {S : Type 0} (rules : Rules S) where
   -- ---- and at an end
 
   module _ (acts : Acts S) where
-    abbrev call_touched : Shell S → Shell S → (Leg → Option ℕ) → Type 0
-    call_touched s t last = AreTouched t.legs last
-
     by_legs : (s t : Shell S) (last : Leg → Option ℕ) → t.legs ≡ s.legs
         → AreTouched s.legs last → AreTouched t.legs last
     by_legs s t last same are =

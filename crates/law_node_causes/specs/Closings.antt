@@ -7,9 +7,9 @@ use Rattle.rh_shell.specs.NearEnds.{NearEnd}
 use Rattle.rh_shell.specs.Rules.{Rules}
 use Rattle.rh_shell.specs.Shells.{Shell, end_at}
 use Rattle.rh_client.specs.declared.state.ClientRole.{ClientRole}
-use Rattle.rh_nodes.specs.declared.event.Event.{Event}
-use Rattle.rh_nodes.specs.declared.event.Event.TheVariants.{Comes, Ends, Breaks, Passes}
-use Rattle.rh_nodes.specs.Telling.{tell}
+use Rattle.rh_company.specs.declared.event.Event.{Event}
+use Rattle.rh_company.specs.declared.event.Event.TheVariants.{Comes, Ends, Breaks, Passes}
+use Rattle.rh_company.specs.Telling.{tell}
 use Rattle.law_node_causes.specs.Refusals.{IsRefusedBy}
 use Rattle.law_node_causes.specs.Reasons.{EndsPartly, FallsSilent, RefusesHead, ComesAmiss}
 

@@ -17,8 +17,8 @@ use Rattle.rh_inproxy.specs.Machine as in_proxy
 use Rattle.rh_client.specs.declared.state.ClientRole.{ClientRole}
 use Rattle.rh_client.specs.Client.{rules, acts, first_client}
 use Rattle.rh_client.specs.State.{first}
-use Rattle.rh_nodes.specs.declared.event.Event as told
-use Rattle.rh_nodes.specs.declared.event.Event.TheVariants as happened
+use Rattle.rh_company.specs.declared.event.Event as told
+use Rattle.rh_company.specs.declared.event.Event.TheVariants as happened
 use Rattle.law_moves.specs.Moves.{OnLeg, EndPassage, end_started}
 use Rattle.law_moves.specs.Moving.{EndEvent, EndLeads, Event, after_end_events, after_events}
 use Rattle.law_node_causes.specs.Moments.{last_touched, last_touched_at_end}

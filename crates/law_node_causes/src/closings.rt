@@ -4,8 +4,8 @@
 ghost use Rattle.std.specs.Prelude.{◌≡◌, List, None};
 ghost use Rattle.rh_line.specs.declared.cause.Cause.{Cause};
 ghost use Rattle.rh_shell.specs.Shells.{Shell};
-ghost use Rattle.rh_nodes.specs.declared.event.Event as told;
-ghost use Rattle.rh_nodes.specs.Telling.{tell};
+ghost use Rattle.rh_company.specs.declared.event.Event as told;
+ghost use Rattle.rh_company.specs.Telling.{tell};
 ghost use Rattle.law_moves.specs.Laws.{ClosedWith};
 ghost use Rattle.law_moves.specs.Moving.{EndEvent, Event, after_end_events, after_events};
 ghost use Rattle.law_node_causes.specs.Closings.{ClosesWith, ComesFrom, MayClose};

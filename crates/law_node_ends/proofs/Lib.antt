@@ -1,3 +1,3 @@
 mod Passed
-mod Stops
+pub mod Stops
 mod Unused

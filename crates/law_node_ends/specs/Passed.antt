@@ -7,7 +7,7 @@ use Rattle.rh_http.specs.Heads.Verdicts.{Asked, request_verdict}
 use Rattle.rh_line.specs.declared.leg.Leg.{Leg}
 use Rattle.rh_line.specs.declared.leg.LegKind.TheVariants.{ClientIn, InServer}
 use Rattle.rh_shell.specs.Rules.{Rules}
-use Rattle.law_moves.specs.Moves.{Move, HeadCame, Marks, is_in_use}
+use Rattle.law_moves.specs.Moves.{Move, HeadCame, is_in_use}
 
 -- the legs of an IN channel
 abbrev pub ci_leg : ℕ → Leg
@@ -29,17 +29,7 @@ abbrev pub HeadsAre : (List ℕ → Type 0) → Move → Type 0
 HeadsAre Heads (HeadCame leg text) = Heads text
 HeadsAre Heads move = Unit {0}
 
--- no leg is marked, as one is that ended or broke; and a head that comes is such
-abbrev pub LosesNone : (List ℕ → Type 0) → Move → Type 0
-LosesNone Heads (HeadCame leg text) = Heads text
-LosesNone Heads (Marks leg) = ⊥
-LosesNone Heads move = Unit {0}
-
 -- ---- legs
-
--- where the leg is in use no more, the handover mark is among what came there
-abbrev pub IsDoneBehindMark : {S : Type 0} → Rules S → S → Leg → List Item → Type 0
-IsDoneBehindMark rules s leg came = is_in_use rules s leg ≡ false → has_handover came ≡ true
 
 -- or END is
 abbrev pub IsDoneBehindEnd : {S : Type 0} → Rules S → S → Leg → List Item → Type 0

@@ -1,15 +1,14 @@
 -- an end that was told to close gives no more; one that closed neither gives nor takes; and what a
 -- take tells that ends (profile)
-use Rattle.std.specs.Prelude.{ℕ, ◌≡◌, ◌++◌, List, [], ◌∷◌, Bool, true, None}
+use Rattle.std.specs.Prelude.{◌≡◌, List, [], Bool, true, None}
 use Rattle.rh_line.specs.Lines.{is_ended}
 use Rattle.rh_line.specs.declared.cause.Cause.{Cause}
-use Rattle.rh_shell.specs.Ends.{cause_of, give}
+use Rattle.rh_shell.specs.Ends.{cause_of}
 use Rattle.rh_shell.specs.Rules.{Rules, Acts}
 use Rattle.rh_shell.specs.Shells.{Shell}
-use Rattle.law_moves.specs.Carrying.{accepted, handed}
 use Rattle.law_moves.specs.Laws.{ClosedWith}
 use Rattle.law_moves.specs.Moves.{EndMove, EndPassage, all_end_moved}
-use Rattle.law_moves.specs.Moving.{AreHeld, EndEvent, IsGiven, IsTaken, after_end_event, after_end_events}
+use Rattle.law_moves.specs.Moving.{AreHeld, EndEvent, after_end_events}
 use Rattle.law_node_streams.specs.Streams.{all_given, all_taken}
 
 -- ---- an end that was told to close

@@ -10,9 +10,8 @@ pub use leaving::{
     a_leg_that_an_in_proxy_left_stays_unused, a_leg_that_an_out_proxy_left_stays_unused,
 };
 pub use passing::{
-    a_server_is_done_behind_a_mark, an_in_proxy_is_done_behind_a_mark,
-    an_in_proxy_is_done_behind_a_mark_or_end, an_in_proxy_puts_a_mark,
-    an_out_proxy_is_done_behind_a_mark, an_out_proxy_puts_a_mark,
+    a_server_is_done_behind_a_mark, an_in_proxy_is_done_behind_a_mark_or_end,
+    an_in_proxy_puts_a_mark, an_out_proxy_is_done_behind_a_mark, an_out_proxy_puts_a_mark,
 };
 pub use stopping::{
     a_client_that_closes_gives_no_more, a_server_that_closes_gives_no_more,

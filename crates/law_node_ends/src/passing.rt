@@ -5,7 +5,7 @@ pub mod proxies;
 pub mod server;
 
 pub use proxies::{
-    an_in_proxy_is_done_behind_a_mark, an_in_proxy_is_done_behind_a_mark_or_end,
-    an_in_proxy_puts_a_mark, an_out_proxy_is_done_behind_a_mark, an_out_proxy_puts_a_mark,
+    an_in_proxy_is_done_behind_a_mark_or_end, an_in_proxy_puts_a_mark,
+    an_out_proxy_is_done_behind_a_mark, an_out_proxy_puts_a_mark,
 };
 pub use server::a_server_is_done_behind_a_mark;

@@ -1,17 +1,6 @@
 -- changes of one kind, and answers of one kind
-use Rattle.std.proofs.Common.{◌≡◌, List, [], ◌∷◌, Bool, true, false, refl, ◌∙◌}
-use Rattle.std.specs.List.{list_all}
-use Rattle.std.proofs.lemmas.List.Folds.{list_all-append}
-use Rattle.std.proofs.lemmas.Bool.{and_from}
-use Rattle.rh_record.specs.declared.answer.Answer.{Answer}
-use Rattle.rh_record.specs.declared.answer.Answer.TheVariants.{NodeClosed}
-use Rattle.rh_nodes.specs.Company.{Rulebook}
-use Rattle.rh_nodes.specs.Giving.{Deeds}
-use Rattle.rh_nodes.specs.Opening.{Makers}
-use Rattle.rh_nodes.specs.Reports.{and_then}
-use Rattle.rh_nodes.specs.World.{World}
-use Rattle.law_node_history.specs.Changes.{Change, is_work, is_quiet, is_silent, GoesBy}
-use Rattle.law_node_history.specs.Drawn.{DrawsBy}
+use Rattle.law_order.proofs.Vocabulary.{◌≡◌, List, [], ◌∷◌, Bool, true, false, refl, ◌∙◌, list_all, list_all-append, and_from}
+use Rattle.law_node_history.proofs.Vocabulary.{Answer, NodeClosed, Rulebook, Deeds, Makers, and_then, World, Change, is_work, is_quiet, is_silent, GoesBy, DrawsBy}
 use Rattle.law_node_history.proofs.Working.{all_wider}
 use Rattle.law_node_history.proofs.Drawing.{draws_none, draws_then, draws_quietly}
 

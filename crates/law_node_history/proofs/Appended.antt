@@ -1,17 +1,9 @@
 -- what a node did on a leg, over events behind events
-use Rattle.std.proofs.Common.{◌≡◌, List, [], ◌∷◌, ◌++◌, ◌||◌, map, refl, sym, ap, ◌∙◌, subst, append_assoc}
-use Rattle.std.proofs.lemmas.List.{append-nil}
-use Rattle.std.proofs.lemmas.List.Folds.{list_any-append}
-use Rattle.rh_text.specs.declared.ends.Side.{Side}
 use Rattle.rh_text.specs.declared.ends.Side.TheVariants as side
-use Rattle.rh_line.specs.declared.leg.Leg.{Leg}
-use Rattle.rh_shell.specs.Rules.{Rules, Acts}
-use Rattle.rh_shell.specs.Shells.{Shell}
+use Rattle.law_order.proofs.Vocabulary.{◌≡◌, List, [], ◌∷◌, ◌++◌, ◌||◌, map, refl, sym, ap, ◌∙◌, subst, append_assoc, append-nil, list_any-append}
+use Rattle.law_moves.proofs.Vocabulary.{Side, Leg, Rules, Acts, Shell, EndEvent, Happens, IsGiven, IsTaken, IsClosed, IsRecycled, after_event, after_events, after_end_event, after_end_events}
 use Rattle.law_moves.specs.Moving as moving
-use Rattle.law_moves.specs.Moving.{EndEvent, Happens, IsGiven, IsTaken, IsClosed, IsRecycled, after_event, after_events, after_end_event, after_end_events}
-use Rattle.law_node_history.specs.Changes.{Change, Gives, Takes, Closes, RecyclesIn, RecyclesOut}
-use Rattle.law_node_history.specs.Histories.{act_at, acts_by}
-use Rattle.law_node_history.specs.Carried.{drawn_in, drawn_on, drawn_at_end, end_drawn_on, heard_in, heard_on, is_up_of, came_up, happened, AreAccepted, AreAcceptedAtEnd}
+use Rattle.law_node_history.proofs.Vocabulary.{Change, Gives, Takes, Closes, RecyclesIn, RecyclesOut, act_at, acts_by, drawn_in, drawn_on, drawn_at_end, end_drawn_on, heard_in, heard_on, is_up_of, came_up, happened, AreAccepted, AreAcceptedAtEnd}
 
 -- ---- events behind events
 

@@ -1,11 +1,7 @@
 -- what happens in one direction of a leg keeps it carried
-use Rattle.std.proofs.Common.{◌≡◌, ℕ, List, [], ◌∷◌, ◌++◌, Bool, true, false, refl, sym, ap, ◌∙◌, subst, ◌⊎◌, inl, inr}
-use mathlib.Core.List.{IsPrefix}
-use Rattle.std.proofs.lemmas.Bool.{false≢true, true≢false}
-use Rattle.std.proofs.lemmas.List.{append-nil}
-use Rattle.law_order.specs.Wires.{WireLaw, Draws, Feeds}
+use Rattle.law_order.proofs.Vocabulary.{◌≡◌, ℕ, List, [], ◌∷◌, ◌++◌, Bool, true, false, refl, sym, ap, ◌∙◌, subst, ◌⊎◌, inl, inr, false≢true, true≢false, append-nil, IsPrefix, WireLaw, Draws, Feeds}
 use Rattle.law_order.proofs.WireKeeps.{wire_step}
-use Rattle.law_node_history.specs.Carriages.{Carriage, IsCarried, IsDone, wire_of}
+use Rattle.law_node_history.proofs.Vocabulary.{Carriage, IsCarried, IsDone, wire_of}
 
 -- not both
 not_down : {A : Type 0} (is : Bool) → is ≡ true → is ≡ false → A
@@ -148,32 +144,3 @@ module _ (c : Carriage) (k : IsCarried c) where
           → (IsDone c.did_put false × (◌≡◌ {A = List ℕ} [] [])) ⊎ IsDone c.did_take false
       by (inl e) = inl ((k.put_up e, refl), refl)
       by (inr e) = inr (k.take_up e, refl)
-
--- the same in every part
-pub same_carriage : (c d : Carriage) → c.drawn ≡ d.drawn → c.fed ≡ d.fed → c.flight ≡ d.flight
-    → c.puts ≡ d.puts → c.takes ≡ d.takes → c.did_put ≡ d.did_put → c.did_take ≡ d.did_take
-    → IsCarried c → IsCarried d
-same_carriage c d drawn fed flight puts takes did_put did_take k =
-    let same : c ≡ d = λ i. record {
-      drawn = drawn i;
-      fed = fed i;
-      flight = flight i;
-      puts = puts i;
-      takes = takes i;
-      did_put = did_put i;
-      did_take = did_take i;
-    } in
-    subst IsCarried same k
-
--- nothing was lost while both ends have the leg up
-pub loses_nothing : (c : Carriage) → IsCarried c → c.puts ≡ true → c.takes ≡ true
-    → c.drawn ≡ c.fed ++ c.flight
-loses_nothing c k puts takes = by k.lost refl
-  where
-    not_over : (IsDone c.did_put c.puts × (c.flight ≡ [])) ⊎ IsDone c.did_take c.takes → ⊥
-    not_over (inl done) = up_goes_on c.did_put c.puts puts done.0
-    not_over (inr done) = up_goes_on c.did_take c.takes takes done
-
-    by : (lost : Bool) → k.lost ≡ lost → c.drawn ≡ c.fed ++ c.flight
-    by false e = k.wire.whole e
-    by true e = absurd (not_over (k.over e))

@@ -1,57 +1,23 @@
 -- nodes that closed stay closed, with their first cause
-use Rattle.std.proofs.Common.{◌≡◌, ℕ, List, [], ◌∷◌, Bool, true, false, ◌||◌, cond, if◌then◌else◌, get_or, take, drop, Some, None, Err, refl, sym, ap, ◌∙◌, subst, ◌⊎◌, inl, inr}
-use Rattle.std.specs.Prelude.{nat_lt}
-use Rattle.std.specs.declared.result.Result.{Result}
-use Rattle.std.proofs.lemmas.Bool.{cases_eq}
-use Rattle.rh_text.specs.declared.ends.Side.{Side}
 use Rattle.rh_text.specs.declared.ends.Side.TheVariants as side
-use Rattle.rh_rts.specs.declared.command.Cookie.{Cookie}
-use Rattle.rh_line.specs.declared.cause.Cause.{Cause}
-use Rattle.rh_line.specs.declared.give_fault.GiveFault.{GiveFault}
-use Rattle.rh_line.specs.declared.give_fault.GiveFault.TheVariants as give_fault
-use Rattle.rh_line.specs.declared.leg.LegKind.TheVariants.{ClientIn, ClientOut}
+use Rattle.law_order.proofs.Vocabulary.{◌≡◌, ℕ, List, [], ◌∷◌, Bool, true, false, ◌||◌, cond, if◌then◌else◌, get_or, take, drop, Some, None, Err, refl, sym, ap, ◌∙◌, subst, ◌⊎◌, inl, inr, nat_lt, Result, cases_eq}
 use Rattle.rh_line.specs.declared.recycle_fault.RecycleFault.{RecycleFault}
+use Rattle.rh_line.specs.declared.give_fault.GiveFault.TheVariants as give_fault
 use Rattle.rh_line.specs.declared.recycle_fault.RecycleFault.TheVariants as recycle_fault
-use Rattle.rh_line.specs.declared.state.State.{State}
 use Rattle.rh_line.specs.declared.state.State.TheVariants as state
 use Rattle.rh_line.specs.declared.state.Take.TheVariants as taken
-use Rattle.rh_line.specs.declared.state.Verdict.{Verdict}
-use Rattle.rh_line.specs.declared.leg.Leg.{Leg}
 use Rattle.rh_record.specs.declared.answer.Answer.TheVariants as answer
-use Rattle.rh_record.specs.declared.answer.Who.{Who}
-use Rattle.rh_record.specs.declared.answer.Who.TheVariants.{Client, Server, In, Out}
-use Rattle.rh_shell.specs.declared.answers.Phase.{Phase}
 use Rattle.rh_shell.specs.declared.answers.Phase.TheVariants as phase
-use Rattle.rh_shell.specs.declared.course.Course.{Course}
-use Rattle.rh_shell.specs.declared.course.Course.TheVariants.{Going, Closed, Refusing}
 use Rattle.rh_shell.specs.Ends as ends
-use Rattle.rh_shell.specs.Rules.{Rules, Acts}
 use Rattle.rh_shell.specs.Shells as shell
-use Rattle.rh_shell.specs.Shells.{Shell, same_leg, state_by, verdict_by, state_of}
-use Rattle.rh_nodes.specs.declared.event.Event.{Event}
-use Rattle.rh_nodes.specs.declared.event.Event.TheVariants.{Comes, Ends, Breaks, Passes}
-use Rattle.rh_nodes.specs.declared.place.Place.{Place}
-use Rattle.rh_nodes.specs.declared.place.Place.TheVariants.{Absent, Here, Gone}
-use Rattle.rh_nodes.specs.Company as company
-use Rattle.rh_nodes.specs.Company.{Company, Rulebook}
-use Rattle.rh_nodes.specs.Giving.{Deeds, give_answer, take_answer}
-use Rattle.rh_nodes.specs.Legs as legs
-use Rattle.rh_nodes.specs.Numbered.{change, put_at}
-use Rattle.rh_nodes.specs.Opening.{Makers, reader_before}
-use Rattle.rh_nodes.specs.Places as places
-use Rattle.rh_nodes.specs.Places.{is_absent, is_working, one_fewer}
-use Rattle.rh_nodes.specs.Settling.{leg_at}
-use Rattle.rh_nodes.specs.Steps.{last_with}
-use Rattle.rh_nodes.specs.Telling as telling
-use Rattle.rh_nodes.specs.Telling.{closing, happens}
-use Rattle.rh_nodes.specs.Wires.{sender, receiver}
-use Rattle.rh_nodes.specs.World.{World, at}
-use Rattle.law_moves.specs.Laws.{ClosedWith}
+use Rattle.rh_wires.specs.Legs as legs
+use Rattle.rh_company.specs.Company as company
+use Rattle.rh_company.specs.Places as places
+use Rattle.rh_company.specs.Telling as telling
+use Rattle.law_moves.proofs.Vocabulary.{Side, Cookie, Cause, GiveFault, ClientIn, ClientOut, State, Verdict, Leg, Phase, Course, Going, Closed, Refusing, Rules, Acts, Shell, same_leg, state_by, verdict_by, state_of, ClosedWith, after_event, after_events}
 use Rattle.law_moves.specs.Moving as moving
-use Rattle.law_moves.specs.Moving.{after_event, after_events}
-use Rattle.law_node_history.specs.Changes.{Change, IsTold, IsFed, IsDrawn, GoesUp, RaisesAlone, GoesDown, OpensIn, OpensOut, OpensSame, Gives, Takes, Closes, RecyclesIn, RecyclesOut, MovesTo, Draws, Reports, MayChange, changed, Leads}
-use Rattle.law_node_history.specs.Closes.{ClosedPlace, HasClosed, ClientTells, ServerTells}
-use Rattle.law_node_history.specs.Histories.{heard, to_node, in_place, out_place}
+use Rattle.law_node_history.proofs.Vocabulary.{Who, Client, Server, In, Out, change, put_at, sender, receiver, Event, Comes, Ends, Breaks, Passes, Place, Absent, Here, Gone, Company, Rulebook, is_absent, is_working, one_fewer, closing, happens, Deeds, give_answer, take_answer, Makers, reader_before, leg_at, last_with, World, at, Change, IsTold, IsFed, IsDrawn, GoesUp, RaisesAlone, GoesDown, OpensIn, OpensOut, OpensSame, Gives, Takes, Closes, RecyclesIn, RecyclesOut, MovesTo}
+use Rattle.law_node_history.proofs.Vocabulary.{Draws, Reports, MayChange, changed, Leads, ClosedPlace, HasClosed, ClientTells, ServerTells, heard, to_node, in_place, out_place}
 use Rattle.law_node_history.proofs.Leading.{leads_keep}
 use Rattle.law_node_history.proofs.Noting.{absent_is}
 use Rattle.law_node_history.proofs.Numbers.{asked, acted, answered, put_elsewhere, changed_here, changes_elsewhere}

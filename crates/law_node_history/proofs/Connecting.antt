@@ -1,34 +1,12 @@
 -- the lines and half steps that connect a leg are changes
-use Rattle.std.proofs.Common.{◌≡◌, ℕ, Bool, true, false, ◌&&◌, ◌||◌, not, if◌then◌else◌, get_or, IsTrue, refl, sym, subst, ap, ◌∙◌, inl}
-use Rattle.std.specs.Prelude.{nat_lt}
-use Rattle.std.proofs.lemmas.Bool.{and_from, and_parts}
-use Rattle.rh_text.specs.declared.ends.Side.{Side}
 use Rattle.rh_text.specs.declared.ends.Side.TheVariants as side
-use Rattle.rh_rts.specs.declared.command.Cookie.{Cookie}
-use Rattle.rh_rts.specs.declared.command.TheConstants.{NO_COOKIE}
-use Rattle.rh_line.specs.declared.leg.Leg.{Leg}
-use Rattle.rh_line.specs.declared.leg.LegKind.{LegKind}
-use Rattle.rh_line.specs.declared.leg.LegKind.TheVariants.{ClientOut, OutServer, ClientIn, InServer}
+use Rattle.law_order.proofs.Vocabulary.{◌≡◌, ℕ, Bool, true, false, ◌&&◌, ◌||◌, not, if◌then◌else◌, get_or, IsTrue, refl, sym, subst, ap, ◌∙◌, inl, nat_lt, and_from, and_parts}
 use Rattle.rh_record.specs.declared.answer.Who.TheVariants as who
-use Rattle.rh_shell.specs.Rules.{Rules}
 use Rattle.rh_shell.specs.Shells as shell
-use Rattle.rh_shell.specs.Shells.{Shell}
-use Rattle.rh_nodes.specs.declared.place.Place.{Place}
-use Rattle.rh_nodes.specs.declared.place.Place.TheVariants.{Absent, Here, Gone}
-use Rattle.rh_nodes.specs.Company as company
-use Rattle.rh_nodes.specs.Company.{Rulebook}
-use Rattle.rh_nodes.specs.Cookies.{draw}
-use Rattle.rh_nodes.specs.Giving.{Deeds}
-use Rattle.rh_nodes.specs.Halves.{up_at}
-use Rattle.rh_nodes.specs.Numbered.{ask, change}
-use Rattle.rh_nodes.specs.Opening.{Makers, at_moment, with_in, with_out, connect, up_at_both, connect_client, may_make, is_wanted, open_server, open_leg, reader_before, may_open_same, read_on, open_same}
-use Rattle.rh_nodes.specs.Places as places
-use Rattle.rh_nodes.specs.Places.{is_absent}
-use Rattle.rh_nodes.specs.Readers.{reader_of, with_reader}
-use Rattle.rh_nodes.specs.Settling.{leg_at}
-use Rattle.rh_nodes.specs.World.{World, at}
-use Rattle.law_node_history.specs.Changes.{Change, GoesUp, OpensIn, OpensOut, OpensSame, Draws, may_have, is_led, is_quiet, is_whole, changed, WorksBy}
-use Rattle.law_node_history.specs.Drawn.{DrawsBy}
+use Rattle.rh_company.specs.Company as company
+use Rattle.rh_company.specs.Places as places
+use Rattle.law_moves.proofs.Vocabulary.{Side, Cookie, NO_COOKIE, Leg, LegKind, ClientOut, OutServer, ClientIn, InServer, Rules, Shell}
+use Rattle.law_node_history.proofs.Vocabulary.{ask, change, reader_of, with_reader, Place, Absent, Here, Gone, Rulebook, draw, is_absent, Deeds, up_at, Makers, at_moment, with_in, with_out, connect, up_at_both, connect_client, may_make, is_wanted, open_server, open_leg, reader_before, may_open_same, read_on, open_same, leg_at, World, at, Change, GoesUp, OpensIn, OpensOut, OpensSame, Draws, may_have, is_led, is_quiet, is_whole, changed, WorksBy, DrawsBy}
 use Rattle.law_node_history.proofs.Working.{all_wider}
 use Rattle.law_node_history.proofs.Drawing.{DrawsQuietly, is_steady, draws_none, draws_one, draws_more, draws_leg}
 use Rattle.law_node_history.proofs.Numbers.{put_here, asked, changed_here}

@@ -1,29 +1,12 @@
 -- a node is reported as closed once
-use Rattle.std.proofs.Common.{◌≡◌, ℕ, zero, suc, ◌+◌, ◌≤◌, List, [], ◌∷◌, ◌++◌, true, false, if◌then◌else◌, Some, None, refl, sym, ap, ◌∙◌, subst, ◌⊎◌, inl, inr, ⊎_elim, arith}
-use Rattle.std.specs.List.{insert, list_all}
-use Rattle.std.specs.declared.option.Option.{Option}
-use Rattle.std.proofs.lemmas.Bool.{and_parts, false≢true, cases_Bool}
 use Rattle.rh_text.specs.declared.ends.Side.TheVariants as side
-use Rattle.rh_line.specs.declared.cause.Cause.{Cause}
-use Rattle.rh_record.specs.declared.answer.Answer.{Answer}
+use Rattle.law_order.proofs.Vocabulary.{◌≡◌, ℕ, zero, suc, ◌+◌, ◌≤◌, List, [], ◌∷◌, ◌++◌, true, false, if◌then◌else◌, Some, None, refl, sym, ap, ◌∙◌, subst, ◌⊎◌, inl, inr, ⊎_elim, arith, insert, list_all, Option, and_parts, false≢true, cases_Bool}
 use Rattle.rh_record.specs.declared.answer.Answer.TheVariants as answer
-use Rattle.rh_record.specs.declared.answer.Who.{Who}
-use Rattle.rh_record.specs.declared.line.Line.{Line}
-use Rattle.rh_nodes.specs.declared.closing.Closing.{Closing}
-use Rattle.rh_nodes.specs.declared.event.Event.{Event}
-use Rattle.rh_nodes.specs.declared.event.Event.TheVariants.{Comes}
-use Rattle.rh_nodes.specs.Closings.{noted, place, lines}
-use Rattle.rh_nodes.specs.Company as company
-use Rattle.rh_nodes.specs.Company.{Rulebook}
-use Rattle.rh_nodes.specs.Giving.{Deeds}
-use Rattle.rh_nodes.specs.Halves.{is_same}
-use Rattle.rh_nodes.specs.Legs as legs
-use Rattle.rh_nodes.specs.Opening.{Makers}
-use Rattle.rh_nodes.specs.Steps.{step, step_line, told}
-use Rattle.rh_nodes.specs.Wires.{receiver}
-use Rattle.rh_nodes.specs.World.{World, at}
-use Rattle.law_node_history.specs.Changes.{Change, IsTold, IsFed, IsDrawn, GoesUp, RaisesAlone, GoesDown, OpensIn, OpensOut, OpensSame, Gives, Takes, Closes, RecyclesIn, RecyclesOut, MovesTo, Draws, Reports, MayChange, changed}
-use Rattle.law_node_history.specs.Closes.{HasClosed, closing_of, closings_of}
+use Rattle.rh_wires.specs.Legs as legs
+use Rattle.rh_company.specs.Closings.{noted}
+use Rattle.rh_company.specs.Company as company
+use Rattle.law_moves.proofs.Vocabulary.{Cause}
+use Rattle.law_node_history.proofs.Vocabulary.{Answer, Who, Line, receiver, Closing, Event, Comes, place, lines, Rulebook, Deeds, is_same, Makers, step, step_line, told, World, at, Change, IsTold, IsFed, IsDrawn, GoesUp, RaisesAlone, GoesDown, OpensIn, OpensOut, OpensSame, Gives, Takes, Closes, RecyclesIn, RecyclesOut, MovesTo, Draws, Reports, MayChange, changed, HasClosed, closing_of, closings_of}
 use Rattle.law_node_history.proofs.Answering.{is_other}
 use Rattle.law_node_history.proofs.Closed.{tell_closes, tell_silent, closed_stays}
 use Rattle.law_node_history.proofs.Leading.{leads_keep}
@@ -48,7 +31,7 @@ times_insert node (y ∷ list) (suc i) x =
     swap : (a b c : ℕ) → a + (b + c) ≡ b + (a + c)
     swap a b c = omega arith
 
-some_none : {A : Type 0} (x : A) → Some x ≡ None → ⊥
+pub some_none : {A : Type 0} (x : A) → Some x ≡ None → ⊥
 some_none x e = absurd cc
 
 -- ---- reports

@@ -1,21 +1,11 @@
 -- changes of one kind behind each other, by which the legs of the client come up with cookies that
 -- are drawn
-use Rattle.std.proofs.Common.{◌≡◌, ◌≤◌, ◌<◌, ◌+◌, ◌-◌, ◌^◌, ◌&&◌, ◌++◌, append_assoc, arith, Bool, ℕ, zero, suc, List, [], ◌∷◌, length-append, true, false, refl, sym, subst, ap, ◌∙◌}
-use Rattle.std.proofs.lemmas.Bool.{and_parts}
-use Rattle.std.proofs.lemmas.Bool.Decides.{nat_tests}
+use Rattle.std.proofs.Common.{length-append}
 use Rattle.rh_text.specs.declared.ends.Side.TheVariants as side
-use Rattle.law_order.proofs.ByNumber.{by_test}
-use Rattle.rh_rts.specs.declared.command.Cookie.{Cookie}
-use Rattle.rh_line.specs.declared.leg.Leg.{Leg}
+use Rattle.law_order.proofs.Vocabulary.{◌≡◌, ◌≤◌, ◌<◌, ◌+◌, ◌-◌, ◌^◌, ◌&&◌, ◌++◌, append_assoc, arith, Bool, ℕ, zero, suc, List, [], ◌∷◌, true, false, refl, sym, subst, ap, ◌∙◌, and_parts, nat_tests}
 use Rattle.rh_record.specs.declared.answer.Who.TheVariants as who
-use Rattle.rh_nodes.specs.Company.{Rulebook}
-use Rattle.rh_nodes.specs.Cookies.{Cookies, behind, is_one_of, past_one, past, draw}
-use Rattle.rh_nodes.specs.Giving.{Deeds}
-use Rattle.rh_nodes.specs.Opening.{Makers}
-use Rattle.rh_nodes.specs.Time.{for_each}
-use Rattle.rh_nodes.specs.World.{World}
-use Rattle.law_node_history.specs.Changes.{Change, IsTold, IsFed, IsDrawn, GoesUp, RaisesAlone, GoesDown, OpensIn, OpensOut, OpensSame, Gives, Takes, Closes, RecyclesIn, RecyclesOut, MovesTo, Draws, Reports, MayChange, changed, is_work, is_quiet}
-use Rattle.law_node_history.specs.Drawn.{AreDrawn, AreDrawnFor, AreLeft, DrawnByLines, DrawsBy, all_risen, risen}
+use Rattle.law_moves.proofs.Vocabulary.{by_test, Cookie, Leg}
+use Rattle.law_node_history.proofs.Vocabulary.{Rulebook, Cookies, behind, is_one_of, past_one, past, draw, Deeds, Makers, for_each, World, Change, IsTold, IsFed, IsDrawn, GoesUp, RaisesAlone, GoesDown, OpensIn, OpensOut, OpensSame, Gives, Takes, Closes, RecyclesIn, RecyclesOut, MovesTo, Draws, Reports, MayChange, changed, is_work, is_quiet, AreDrawn, AreDrawnFor, AreLeft, DrawnByLines, DrawsBy, all_risen, risen}
 use Rattle.law_node_history.proofs.Working.{works_none, works_one, works_then, works_more, works_quietly, works_by_lines}
 
 -- ---- numbers that rise

@@ -1,24 +1,11 @@
 -- the legs of the client that came up with cookies that were drawn have cookies of their own
-use Rattle.std.proofs.Common.{◌≡◌, ◌≤◌, ◌<◌, ◌+◌, ◌^◌, ◌++◌, ◌⊎◌, inl, inr, arith, ℕ, List, [], ◌∷◌, Bool, drop, map, sym, subst, ap, ◌∙◌}
 use Rattle.std.specs.Int.{w64, from_be_bytes}
 use Rattle.std.proofs.lemmas.Nat.{from_be_bytes-to_be_bytes_8}
 use Rattle.rh_text.specs.declared.ends.Side.TheVariants as side
-use Rattle.rh_rts.specs.declared.command.Cookie.{Cookie}
-use Rattle.rh_line.specs.declared.leg.Leg.{Leg}
-use Rattle.rh_record.specs.declared.answer.Who.{Who}
-use Rattle.rh_record.specs.declared.answer.Who.TheVariants.{Client, Server, In, Out}
-use Rattle.rh_nodes.specs.declared.event.Event.TheVariants.{Comes, Ends, Breaks, Passes}
-use Rattle.rh_nodes.specs.Company.{Rulebook}
-use Rattle.rh_nodes.specs.Cookies.{cookie_of}
-use Rattle.rh_nodes.specs.Giving.{Deeds}
-use Rattle.rh_nodes.specs.Opening.{Makers}
-use Rattle.rh_nodes.specs.World.{World}
+use Rattle.law_order.proofs.Vocabulary.{◌≡◌, ◌≤◌, ◌<◌, ◌+◌, ◌^◌, ◌++◌, ◌⊎◌, inl, inr, arith, ℕ, List, [], ◌∷◌, Bool, drop, map, sym, subst, ap, ◌∙◌}
+use Rattle.law_moves.proofs.Vocabulary.{Cookie, Leg, ComesUp, Happens}
 use Rattle.law_moves.specs.Moving as moving
-use Rattle.law_moves.specs.Moving.{ComesUp, Happens}
-use Rattle.law_node_history.specs.Carried.{happened}
-use Rattle.law_node_history.specs.Changes.{Change, IsTold, IsFed, IsDrawn, GoesUp, RaisesAlone, GoesDown, OpensIn, OpensOut, OpensSame, Gives, Takes, Closes, RecyclesIn, RecyclesOut, MovesTo, Draws, Reports, changed}
-use Rattle.law_node_history.specs.Drawn.{AreDrawn, AreLeft, DrawsBy, HaveOwnCookies, RoseWith, all_risen, risen}
-use Rattle.law_node_history.specs.Histories.{History, acts_by, all_noted, noted, nothing, to_node, told_to}
+use Rattle.law_node_history.proofs.Vocabulary.{Who, Client, Server, In, Out, Comes, Ends, Breaks, Passes, Rulebook, cookie_of, Deeds, Makers, World, happened, Change, IsTold, IsFed, IsDrawn, GoesUp, RaisesAlone, GoesDown, OpensIn, OpensOut, OpensSame, Gives, Takes, Closes, RecyclesIn, RecyclesOut, MovesTo, Draws, Reports, changed, AreDrawn, AreLeft, DrawsBy, HaveOwnCookies, RoseWith, all_risen, risen, History, acts_by, all_noted, noted, nothing, to_node, told_to}
 use Rattle.law_node_history.proofs.Appended.{happened_append}
 use Rattle.law_node_history.proofs.Drawing.{drawn_rises, risen_append}
 

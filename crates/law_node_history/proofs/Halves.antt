@@ -1,33 +1,13 @@
 -- each half step is a list of changes of a kind; and lines and half steps in any order are changes
-use Rattle.std.proofs.Common.{◌≡◌, ℕ, Bool, true, false, List, [], ◌∷◌, ◌&&◌, not, IsTrue, Some, None, refl, sym, inl, inr}
-use Rattle.std.specs.Prelude.{IfSome, if◌then◌else◌, nat_le, nat_lt}
-use Rattle.std.specs.declared.option.Option.{Option}
-use Rattle.std.proofs.lemmas.Bool.{and_parts}
-use Rattle.rh_text.specs.declared.ends.Side.{Side}
 use Rattle.rh_text.specs.declared.ends.Side.TheVariants as side
-use Rattle.law_order.proofs.ByNumber.{by_test}
-use Rattle.rh_rts.specs.declared.command.Cookie.{Cookie}
-use Rattle.rh_line.specs.declared.leg.Leg.{Leg}
-use Rattle.rh_line.specs.declared.leg.LegKind.{LegKind}
-use Rattle.rh_line.specs.declared.leg.LegKind.TheVariants.{ClientOut, OutServer, ClientIn, InServer}
-use Rattle.rh_record.specs.declared.answer.Who.{Who}
-use Rattle.rh_record.specs.declared.answer.Who.TheVariants.{Client, Server, In, Out}
-use Rattle.rh_nodes.specs.declared.event.Event.TheVariants.{Breaks, Ends, Passes}
-use Rattle.rh_nodes.specs.declared.half.Half.{Half}
+use Rattle.law_order.proofs.Vocabulary.{◌≡◌, ℕ, Bool, true, false, List, [], ◌∷◌, ◌&&◌, not, IsTrue, Some, None, refl, sym, inl, inr, IfSome, if◌then◌else◌, nat_le, nat_lt, Option, and_parts}
+use Rattle.rh_wires.specs.Legs as legs
+use Rattle.rh_company.specs.Company as company
+use Rattle.rh_nodes.specs.World.{tell}
 use Rattle.rh_nodes.specs.declared.half.Half.TheVariants as halves
-use Rattle.rh_nodes.specs.Breaking.{lose}
-use Rattle.rh_nodes.specs.Company as company
-use Rattle.rh_nodes.specs.Company.{Rulebook}
-use Rattle.rh_nodes.specs.Cookies.{was_had, with_other}
-use Rattle.rh_nodes.specs.Giving.{Deeds}
-use Rattle.rh_nodes.specs.Halves.{is_same, end_of, make_by, make_proxy, up_at, with_cookie, up_client, up_end, up_half, refused_half, broken_end, ended_end, tick_from, half_by, half}
-use Rattle.rh_nodes.specs.Legs as legs
-use Rattle.rh_nodes.specs.Numbered.{ask}
-use Rattle.rh_nodes.specs.Opening.{Makers, at_moment, with_in, with_out}
-use Rattle.rh_nodes.specs.Places.{is_absent}
-use Rattle.rh_nodes.specs.Settling.{leg_at}
-use Rattle.rh_nodes.specs.World.{World, at, tell}
-use Rattle.law_node_history.specs.Changes.{Change, IsTold, RaisesAlone, OpensIn, OpensOut, Draws, Reports, Leads, Turn, IsLine, IsHalf, Quietly, WorksBy, is_quiet, may_have, after_turn, after_turns}
+use Rattle.law_moves.proofs.Vocabulary.{Side, by_test, Cookie, Leg, LegKind, ClientOut, OutServer, ClientIn, InServer}
+use Rattle.law_node_history.proofs.Vocabulary.{Who, Client, Server, In, Out, ask, Breaks, Ends, Passes, Rulebook, was_had, with_other, is_absent, Half, lose, Deeds, is_same, end_of, make_by, make_proxy, up_at, with_cookie, up_client, up_end, up_half, refused_half, broken_end, ended_end, tick_from, half_by, half, Makers, at_moment, with_in, with_out, leg_at, World, at, Change, IsTold, RaisesAlone, OpensIn, OpensOut, Draws, Reports, Leads, Turn, IsLine, IsHalf, Quietly, WorksBy}
+use Rattle.law_node_history.proofs.Vocabulary.{is_quiet, may_have, after_turn, after_turns}
 use Rattle.law_node_history.proofs.Connecting.{or_left}
 use Rattle.law_node_history.proofs.Leading.{leads_none, leads_then}
 use Rattle.law_node_history.proofs.Lines.{leads_step, same_who}

@@ -1,20 +1,9 @@
 -- a node that is there heard all that it was fed
-use Rattle.std.proofs.Common.{◌≡◌, ℕ, List, [], ◌∷◌, ◌++◌, Bool, true, false, ◌&&◌, ◌||◌, if◌then◌else◌, get_or, refl, sym, ap, ap₂, ◌∙◌, subst, ◌⊎◌, inl, inr, append_assoc}
-use Rattle.std.specs.Prelude.{nat_lt, ◌==◌}
-use mathlib.Core.List.{IsPrefix}
-use Rattle.std.proofs.lemmas.Bool.{true≢false, cases_eq, ne_eqb}
-use Rattle.std.proofs.lemmas.List.{append-nil}
-use Rattle.rh_line.specs.declared.leg.Leg.{Leg}
+use Rattle.law_order.proofs.Vocabulary.{◌≡◌, ℕ, List, [], ◌∷◌, ◌++◌, Bool, true, false, ◌&&◌, ◌||◌, if◌then◌else◌, get_or, refl, sym, ap, ap₂, ◌∙◌, subst, ◌⊎◌, inl, inr, append_assoc, nat_lt, ◌==◌, true≢false, cases_eq, ne_eqb, append-nil, IsPrefix}
+use Rattle.rh_company.specs.Places as places
+use Rattle.law_moves.proofs.Vocabulary.{Leg, Rules, Shell, same_leg}
 use Rattle.law_moves.specs.Moving as moving
-use Rattle.rh_shell.specs.Rules.{Rules}
-use Rattle.rh_shell.specs.Shells.{Shell, same_leg}
-use Rattle.rh_nodes.specs.declared.place.Place.{Place}
-use Rattle.rh_nodes.specs.declared.place.Place.TheVariants.{Absent, Here, Gone}
-use Rattle.rh_nodes.specs.Numbered.{change, put_at}
-use Rattle.rh_nodes.specs.Places as places
-use Rattle.rh_nodes.specs.Places.{is_working, one_fewer}
-use Rattle.law_node_history.specs.Histories.{at_place, IsRun}
-use Rattle.law_node_history.specs.Carried.{heard_on, IsHeard}
+use Rattle.law_node_history.proofs.Vocabulary.{change, put_at, Place, Absent, Here, Gone, is_working, one_fewer, at_place, IsRun, heard_on, IsHeard}
 use Rattle.law_node_history.proofs.Appended.{heard_append}
 use Rattle.law_node_history.proofs.Numbers.{changed_here, changes_elsewhere, put_here, put_elsewhere}
 use Rattle.law_node_history.proofs.Runs.{Runs}

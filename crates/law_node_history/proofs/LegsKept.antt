@@ -1,40 +1,22 @@
 -- whatever happens, legs are carried by nodes that had them up
-use Rattle.std.proofs.Common.{◌≡◌, ℕ, List, ◌++◌, Bool, true, false, ◌||◌, take, refl, sym, ap, ◌∙◌, subst, ⊎_elim}
-use Rattle.std.specs.Prelude.{◌≢◌}
-use Rattle.std.proofs.lemmas.Bool.{true≢false, cases_eq, cases_Bool, or_cases, and_parts, eq-eqb}
-use Rattle.rh_text.specs.declared.ends.Dir.{Dir}
-use Rattle.rh_text.specs.declared.ends.Side.{Side}
 use Rattle.rh_text.specs.declared.ends.Side.TheVariants as side
-use Rattle.law_order.proofs.ItemLists.{neither}
-use Rattle.rh_line.specs.declared.leg.Leg.{Leg}
-use Rattle.rh_line.specs.declared.leg.LegKind.{LegKind}
-use Rattle.rh_line.specs.declared.leg.LegKind.TheVariants.{ClientOut, OutServer, ClientIn, InServer}
-use Rattle.rh_record.specs.declared.answer.Who.{Who}
+use Rattle.law_order.proofs.Vocabulary.{◌≡◌, ℕ, List, ◌++◌, Bool, true, false, ◌||◌, take, refl, sym, ap, ◌∙◌, subst, ⊎_elim, ◌≢◌, true≢false, cases_eq, cases_Bool, or_cases, and_parts, eq-eqb}
 use Rattle.rh_record.specs.declared.answer.Who.TheVariants as who
-use Rattle.rh_shell.specs.Shells.{same_leg}
-use Rattle.rh_nodes.specs.declared.legs.Legs.{Legs}
-use Rattle.rh_nodes.specs.Halves.{is_same}
-use Rattle.rh_nodes.specs.Legs as legs
-use Rattle.rh_nodes.specs.Readers.{reader_of, with_reader}
-use Rattle.rh_nodes.specs.Settling.{leg_at}
-use Rattle.rh_nodes.specs.Wires as wires
-use Rattle.rh_nodes.specs.Wires.{sender, receiver}
-use Rattle.law_node_history.specs.Carriages.{IsCarried}
-use Rattle.law_node_history.specs.Carried.{Ledger, AreCarried, carriage, wire_at, end_node}
+use Rattle.rh_wires.specs.Legs as legs
+use Rattle.rh_wires.specs.Wires as wires
+use Rattle.law_moves.proofs.Vocabulary.{Dir, Side, neither, Leg, LegKind, ClientOut, OutServer, ClientIn, InServer, same_leg}
+use Rattle.law_node_history.proofs.Vocabulary.{Who, Legs, reader_of, with_reader, sender, receiver, is_same, leg_at, IsCarried, Ledger, AreCarried, carriage, wire_at, end_node}
 use Rattle.law_node_history.proofs.Lines.{same_who}
-use Rattle.law_node_history.proofs.Numbers.{asked, put_here, put_elsewhere}
+use Rattle.law_node_history.proofs.Numbers.{asked, put_elsewhere}
 use Rattle.law_node_history.proofs.Seen.{seen_as}
 use Rattle.law_node_history.proofs.Wired.{cases_leg}
 use Rattle.law_node_history.proofs.Ledgers.{Each, is_here, bytes_here, here_itself, not_other, none_added, or_false, or_true, same_on, each_drawn, each_fed, each_raised, each_lowered}
+use Rattle.law_node_history.proofs.Connecting.{or_left as or_first}
 
 -- ---- tests
 
-not_both : {A : Type 0} (b : Bool) → b ≡ true → b ≡ false → A
+pub not_both : {A : Type 0} (b : Bool) → b ≡ true → b ≡ false → A
 not_both b e f = absurd (true≢false (sym e ∙ f))
-
-or_first : (a b : Bool) → a ≡ true → (a || b) ≡ true
-or_first true b e = refl
-or_first false b e = absurd cc
 
 -- the node and the leg at which something is
 here_is : (node : Who) (leg : Leg) (other : Who) (beside : Leg)
@@ -213,9 +195,6 @@ module _ (g new : Ledger) (all : Legs) (readers : List ℕ) (k : AreCarried g al
           (ap (λ x. g.was_up (who.In x) in_leg)
           (sym (read_by g all readers k i n t) ∙ no_reader)
           ∙ k.none in_leg)) (λ f. f) (cases_Bool (g.was_up (who.In i) in_leg))
-
-      reader_there : reader_of later n ≡ j
-      reader_there = asked 0 (λ x. x) later n ∙ put_here 0 readers n j
 
       reader_apart : (i : ℕ) → i ≢ n → reader_of later i ≡ reader_of readers i
       reader_apart i e =

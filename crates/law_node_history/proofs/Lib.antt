@@ -1,3 +1,5 @@
+pub mod Lemmas
+pub mod Vocabulary
 pub mod Leading
 pub mod Working
 pub mod Drawing
@@ -27,3 +29,4 @@ pub mod Once
 pub mod Counting
 pub mod Reported
 pub mod ToReport
+pub mod StoodClosed

@@ -1,21 +1,8 @@
 -- each line is a list of changes
-use Rattle.std.proofs.Common.{◌≡◌, Bool, true, Some, None, refl, ap}
-use Rattle.std.specs.declared.option.Option.{Option}
-use Rattle.std.proofs.lemmas.Bool.{eqb-true}
 use Rattle.rh_text.specs.declared.ends.Side.TheVariants as side
-use Rattle.rh_record.specs.declared.answer.Answer.{Answer}
-use Rattle.rh_record.specs.declared.answer.Who.{Who}
-use Rattle.rh_record.specs.declared.answer.Who.TheVariants.{Client, Server, In, Out}
-use Rattle.rh_record.specs.declared.line.Line.{Line}
+use Rattle.law_order.proofs.Vocabulary.{◌≡◌, Bool, true, Some, None, refl, ap, Option, eqb-true}
 use Rattle.rh_record.specs.declared.line.Line.TheVariants as line
-use Rattle.rh_nodes.specs.Company.{Rulebook}
-use Rattle.rh_nodes.specs.Giving.{Deeds}
-use Rattle.rh_nodes.specs.Halves.{is_same}
-use Rattle.rh_nodes.specs.Opening.{Makers}
-use Rattle.rh_nodes.specs.Steps.{reported, ending_answer, leg_answer, answer_of, step_line, step}
-use Rattle.rh_nodes.specs.World.{World}
-use Rattle.law_node_history.specs.Changes.{Gives, Takes, Closes, RecyclesIn, RecyclesOut, Reports, is_silent, Change, ByLines, GoesQuietly, Leads}
-use Rattle.law_node_history.specs.Drawn.{DrawnByLines, DrawsBy}
+use Rattle.law_node_history.proofs.Vocabulary.{Answer, Who, Client, Server, In, Out, Line, Rulebook, Deeds, is_same, Makers, reported, ending_answer, leg_answer, answer_of, step_line, step, World, Gives, Takes, Closes, RecyclesIn, RecyclesOut, Reports, is_silent, Change, ByLines, GoesQuietly, Leads, DrawnByLines, DrawsBy}
 use Rattle.law_node_history.proofs.Drawing.{DrawsQuietly, DrawsWork, draws_none, draws_one, draws_more, draws_quietly, draws_by_lines}
 use Rattle.law_node_history.proofs.Losing.{draws_break_leg, draws_end_leg, draws_send, draws_feed, draws_tick}
 use Rattle.law_node_history.proofs.Connecting.{draws_open_leg, draws_open_same}

@@ -1,30 +1,12 @@
 -- what a change is to the legs of each node
-use Rattle.std.proofs.Common.{◌≡◌, ◌==◌, ℕ, List, [], ◌∷◌, ◌++◌, Bool, true, false, ◌&&◌, ◌||◌, if◌then◌else◌, get_or, IsTrue, refl, sym, ap, ◌∙◌, subst, ⊎_elim}
-use Rattle.std.proofs.lemmas.Bool.{true≢false, false≢true, cases_Bool, or_cases, eq-eqb}
-use Rattle.std.proofs.lemmas.List.{append-nil}
 use Rattle.rh_text.specs.declared.ends.Side.TheVariants as side
-use Rattle.rh_rts.specs.declared.command.Cookie.{Cookie}
-use Rattle.rh_line.specs.declared.leg.Leg.{Leg}
-use Rattle.rh_record.specs.declared.answer.Who.{Who}
-use Rattle.rh_record.specs.declared.answer.Who.TheVariants.{Client, Server, In, Out}
-use Rattle.rh_shell.specs.Rules.{Rules}
+use Rattle.law_order.proofs.Vocabulary.{◌≡◌, ◌==◌, ℕ, List, [], ◌∷◌, ◌++◌, Bool, true, false, ◌&&◌, ◌||◌, if◌then◌else◌, get_or, IsTrue, refl, sym, ap, ◌∙◌, subst, ⊎_elim, true≢false, false≢true, cases_Bool, or_cases, eq-eqb, append-nil}
 use Rattle.rh_shell.specs.Shells as shell
-use Rattle.rh_shell.specs.Shells.{Shell, same_leg}
-use Rattle.rh_nodes.specs.declared.place.Place.{Place}
-use Rattle.rh_nodes.specs.declared.place.Place.TheVariants.{Absent, Here, Gone}
-use Rattle.rh_nodes.specs.Company as company
-use Rattle.rh_nodes.specs.Company.{Company, Rulebook}
-use Rattle.rh_nodes.specs.Giving.{Deeds}
-use Rattle.rh_nodes.specs.Halves.{is_same}
-use Rattle.rh_nodes.specs.Opening.{Makers}
-use Rattle.rh_nodes.specs.Numbered.{act}
-use Rattle.rh_nodes.specs.Places as places
-use Rattle.rh_nodes.specs.World.{World}
+use Rattle.rh_company.specs.Company as company
+use Rattle.rh_company.specs.Places as places
+use Rattle.law_moves.proofs.Vocabulary.{Cookie, Leg, Rules, Shell, same_leg, after_events}
 use Rattle.law_moves.specs.Moving as moving
-use Rattle.law_moves.specs.Moving.{after_events}
-use Rattle.law_node_history.specs.Changes.{Change, OpensIn, OpensOut, may_have}
-use Rattle.law_node_history.specs.Histories.{History, to_node, told_to, made_by, at_place, in_place, out_place, noted, IsRun, AreRuns}
-use Rattle.law_node_history.specs.Carried.{drawn_in, drawn_on, heard_on, came_up, events_of, drawn_by, AllAccepted, IsAccepted, AreAccepted, ComesUpOnce, LegsComeUpOnce}
+use Rattle.law_node_history.proofs.Vocabulary.{Who, Client, Server, In, Out, act, Place, Absent, Here, Gone, Company, Rulebook, Deeds, is_same, Makers, World, Change, OpensIn, OpensOut, may_have, History, to_node, told_to, made_by, at_place, in_place, out_place, noted, IsRun, AreRuns, drawn_in, drawn_on, heard_on, came_up, events_of, drawn_by, AllAccepted, IsAccepted, AreAccepted, ComesUpOnce, LegsComeUpOnce}
 use Rattle.law_node_history.proofs.Appended.{drawn_append, came_append, accepted_append, end_drawn_more, happened_more, end_accepted_more}
 use Rattle.law_node_history.proofs.Ledgers.{is_here, bytes_here, not_other}
 use Rattle.law_node_history.proofs.Lines.{same_who}

@@ -1,13 +1,8 @@
 -- what stands at a number, where something is put there, acts or changes
-use Rattle.std.proofs.Common.{◌≡◌, ℕ, zero, suc, ◌+◌, ◌-◌, ◌<◌, ◌≤◌, List, [], ◌∷◌, ◌++◌, length, get_or, Some, None, Bool, true, false, refl, sym, ap, ◌∙◌, arith, ◌⊎◌, inl, inr}
-use Rattle.std.specs.Prelude.{slice_get, ◌≢◌}
-use Rattle.std.specs.declared.option.Option.{Option}
 use Rattle.std.specs.Option.{unwrap_or}
-use Rattle.std.proofs.lemmas.Bool.{true≢false, cases_lt}
-use Rattle.std.proofs.lemmas.List.{length_push, get_or-set_same, get_or-set_other, get_or_past}
-use Rattle.std.proofs.lemmas.Option.{slice_get_within, get_or_from_slice_get, unwrap_or-slice_get, slice_get-get_or}
-use Rattle.rh_nodes.specs.Numbered.{more, grown, put_at, ask, act, act_by, change, change_by}
-use Rattle.rh_nodes.proofs.Grown.{get_or-blank}
+use Rattle.law_order.proofs.Vocabulary.{◌≡◌, ℕ, zero, suc, ◌+◌, ◌-◌, ◌<◌, ◌≤◌, List, [], ◌∷◌, ◌++◌, length, get_or, Some, None, Bool, true, false, refl, sym, ap, ◌∙◌, arith, ◌⊎◌, inl, inr, slice_get, ◌≢◌, Option, true≢false, cases_lt, length_push, get_or-set_same, get_or-set_other, get_or_past, slice_get_within, get_or_from_slice_get, unwrap_or-slice_get, slice_get-get_or}
+use Rattle.rh_wires.proofs.Grown.{get_or-blank}
+use Rattle.law_node_history.proofs.Vocabulary.{more, grown, put_at, ask, act, act_by, change, change_by}
 
 module _ {X : Type 0} (blank : X) where
   -- ---- lengths

@@ -1,16 +1,11 @@
 -- how a role shows that each leg comes up once at a node
-use Rattle.std.proofs.Common.{◌≡◌, List, [], ◌∷◌, ◌++◌, true, false, ◌&&◌, refl, sym, ap, ◌∙◌, subst, ⊎_elim}
-use Rattle.std.proofs.lemmas.Bool.{true≢false, or_cases, and_parts, and_from}
-use Rattle.rh_rts.specs.declared.command.Cookie.{Cookie}
-use Rattle.rh_line.specs.declared.leg.Leg.{Leg}
-use Rattle.rh_shell.specs.Rules.{Rules, Acts}
-use Rattle.rh_shell.specs.Shells.{Shell, has_room, is_working, may_up, wants}
+use Rattle.law_order.proofs.Vocabulary.{◌≡◌, List, [], ◌∷◌, ◌++◌, true, false, ◌&&◌, refl, sym, ap, ◌∙◌, subst, ⊎_elim, true≢false, or_cases, and_parts, and_from}
+use Rattle.law_moves.proofs.Vocabulary.{Cookie, Leg, Rules, Acts, Shell, has_room, is_working, may_up, wants, EndEvent, Happens, IsGiven, IsTaken, IsClosed, IsRecycled, after_event, after_events, after_end_event, after_end_events}
 use Rattle.law_moves.specs.Moving as moving
-use Rattle.law_moves.specs.Moving.{EndEvent, Happens, IsGiven, IsTaken, IsClosed, IsRecycled, after_event, after_events, after_end_event, after_end_events}
-use Rattle.law_node_history.specs.Carried.{is_up_of, came_up, happened, IsAccepted, AreAccepted, IsAcceptedAtEnd, AreAcceptedAtEnd, ComesUpOnce, ComesUpOnceAtEnd, RemembersLegs, RemembersLegsAtEnd}
 use Rattle.law_node_history.proofs.Ledgers.{and_false}
 use Rattle.law_node_history.proofs.Runs.{events_append, end_events_append}
 use Rattle.law_node_history.proofs.Wired.{cases_leg}
+use Rattle.law_node_history.proofs.Vocabulary.{is_up_of, came_up, happened, IsAccepted, AreAccepted, IsAcceptedAtEnd, AreAcceptedAtEnd, ComesUpOnce, ComesUpOnceAtEnd, RemembersLegs, RemembersLegsAtEnd}
 
 -- what holds of a node, and what of a leg that came up there
 record KeepsLegs {S : Type 0} (rules : Rules S) (Holds : Shell S → Type 0)

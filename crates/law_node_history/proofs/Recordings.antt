@@ -1,34 +1,8 @@
 -- lists of changes, and whole recordings, have their traces
-use Rattle.std.proofs.Common.{◌≡◌, ℕ, List, [], ◌∷◌, ◌++◌, true, false, get_or, refl, sym, ap, ◌∙◌, subst, ⊎_elim}
-use mathlib.Core.List.{IsPrefix}
-use Rattle.std.proofs.lemmas.Bool.{false≢true, cases_Bool}
-use Rattle.std.proofs.lemmas.List.{append-nil}
-use Rattle.rh_text.specs.declared.ends.Dir.{Dir}
-use Rattle.rh_text.specs.declared.ends.Dir.TheVariants.{U, D}
-use Rattle.rh_text.specs.declared.ends.Side.{Side}
-use Rattle.rh_line.specs.declared.leg.Leg.{Leg}
-use Rattle.rh_line.specs.declared.leg.LegKind.{LegKind}
-use Rattle.rh_line.specs.declared.leg.LegKind.TheVariants.{ClientOut, OutServer, ClientIn, InServer}
-use Rattle.rh_record.specs.declared.answer.Who.{Who}
-use Rattle.rh_record.specs.declared.answer.Who.TheVariants.{Client, Server, In, Out}
-use Rattle.rh_nodes.specs.declared.legs.Legs.{Legs}
-use Rattle.rh_nodes.specs.declared.place.Place.{Place}
-use Rattle.rh_nodes.specs.declared.place.Place.TheVariants.{Absent, Here, Gone}
-use Rattle.rh_nodes.specs.Company.{Company, Rulebook}
-use Rattle.rh_nodes.specs.Giving.{Deeds}
-use Rattle.rh_nodes.specs.Legs as legs
-use Rattle.rh_nodes.specs.Numbered.{change}
-use Rattle.rh_nodes.specs.Opening.{Makers}
-use Rattle.rh_nodes.specs.Readers.{reader_of}
-use Rattle.rh_nodes.specs.Settling.{leg_at}
-use Rattle.rh_nodes.specs.Wires.{sender, receiver}
-use Rattle.rh_nodes.specs.World.{World}
-use Rattle.law_order.proofs.Prefixes.{prefix_trans}
-use Rattle.law_node_history.specs.Changes.{Change, AreAllowed, all_changed, Leads, Turn, after_turns, changed}
-use Rattle.law_node_history.specs.Histories.{History, heard, in_place, out_place, noted, all_noted, nothing, IsRun, IsNew}
-use Rattle.law_node_history.specs.Carriages.{IsCarried}
-use Rattle.law_node_history.specs.Carried.{carriage, ledger, drawn_by, heard_on, events_of, end_node, IsHeard, LegsComeUpOnce, IsTraced, HasTrace}
-use Rattle.law_node_history.proofs.Halves.{leads_turns}
+use Rattle.law_order.proofs.Vocabulary.{◌≡◌, ℕ, List, [], ◌∷◌, ◌++◌, true, false, get_or, refl, sym, ap, ◌∙◌, subst, ⊎_elim, false≢true, cases_Bool, append-nil, IsPrefix}
+use Rattle.rh_wires.specs.Legs as legs
+use Rattle.law_moves.proofs.Vocabulary.{Dir, U, D, Side, prefix_trans, Leg, LegKind, ClientOut, OutServer, ClientIn, InServer}
+use Rattle.law_node_history.proofs.Vocabulary.{Who, Client, Server, In, Out, Legs, change, reader_of, sender, receiver, Place, Absent, Here, Gone, Company, Rulebook, Deeds, Makers, leg_at, World, Change, AreAllowed, all_changed, Leads, changed, History, heard, in_place, out_place, noted, all_noted, nothing, IsRun, IsNew, IsCarried, carriage, ledger, drawn_by, heard_on, events_of, end_node, IsHeard, LegsComeUpOnce, IsTraced}
 use Rattle.law_node_history.proofs.Noting.{begins}
 use Rattle.law_node_history.proofs.Leading.{cast_stays}
 use Rattle.law_node_history.proofs.Tracing.{change_is_traced}
@@ -202,17 +176,3 @@ module _ {K C S I O : Type 0} (r : Rulebook C S I O) (m : Makers K I O) (d : Dee
       (cases_Bool (g.was_up node leg)) in
       let none = t.carried.idle node leg down in
       (none.0, nothing_heard node leg none.1)
-
--- ---- recordings
-
-module _ {K C S I O : Type 0} (r : Rulebook C S I O) (m : Makers K I O) (d : Deeds C S) where
-  pub recording_traced : (turns : List Turn) (w : World K C S I O) → IsNew w
-      → LegsComeUpOnce r m d w.company w.cast
-      → HasTrace r m d w (after_turns r m d w turns)
-  recording_traced turns w new once =
-      let leads = leads_turns r m d turns w in
-      record {
-        leads = leads;
-        traced = changes_are_traced r m d w.company w (after_turns r m d w turns) nothing leads once
-            (traced_first r m d w new);
-      }

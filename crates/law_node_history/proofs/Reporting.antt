@@ -1,29 +1,12 @@
 -- each node that a line reports as closed was closed by one of its changes
-use Rattle.std.proofs.Common.{◌≡◌, ℕ, zero, suc, List, [], ◌∷◌, ◌++◌, true, Some, None, refl, sym, ap, ◌∙◌, subst, ◌⊎◌, inl, inr, ⊎_elim, ap₂}
-use Rattle.std.specs.List.{insert, list_all}
-use Rattle.std.specs.declared.option.Option.{Option}
-use Rattle.std.proofs.lemmas.Bool.{and_parts, false≢true}
 use Rattle.rh_text.specs.declared.ends.Side.TheVariants as side
-use Rattle.rh_line.specs.declared.cause.Cause.{Cause}
-use Rattle.rh_record.specs.declared.answer.Answer.{Answer}
-use Rattle.rh_record.specs.declared.answer.Answer.TheVariants.{NodeClosed}
-use Rattle.rh_record.specs.declared.answer.Who.{Who}
+use Rattle.law_order.proofs.Vocabulary.{◌≡◌, ℕ, zero, suc, List, [], ◌∷◌, ◌++◌, true, Some, None, refl, sym, ap, ◌∙◌, subst, ◌⊎◌, inl, inr, ⊎_elim, ap₂, insert, list_all, Option, and_parts, false≢true}
 use Rattle.rh_record.specs.declared.answer.Who.TheVariants as who
-use Rattle.rh_record.specs.declared.line.Line.{Line}
-use Rattle.rh_nodes.specs.declared.closing.Closing.{Closing}
-use Rattle.rh_nodes.specs.declared.event.Event.{Event}
-use Rattle.rh_nodes.specs.declared.event.Event.TheVariants.{Comes}
-use Rattle.rh_nodes.specs.Closings.{noted, place, lines}
-use Rattle.rh_nodes.specs.Company as company
-use Rattle.rh_nodes.specs.Company.{Rulebook}
-use Rattle.rh_nodes.specs.Giving.{Deeds}
-use Rattle.rh_nodes.specs.Legs as legs
-use Rattle.rh_nodes.specs.Opening.{Makers}
-use Rattle.rh_nodes.specs.Steps.{step, step_line}
-use Rattle.rh_nodes.specs.Wires.{receiver}
-use Rattle.rh_nodes.specs.World.{World, at}
-use Rattle.law_node_history.specs.Changes.{Change, IsTold, IsFed, IsDrawn, GoesUp, RaisesAlone, GoesDown, OpensIn, OpensOut, OpensSame, Gives, Takes, Closes, RecyclesIn, RecyclesOut, MovesTo, Draws, Reports, changed, all_changed}
-use Rattle.law_node_history.specs.Closes.{told_by, IsOneOf, ClosesNode, IsClosedBy, LineCloses}
+use Rattle.rh_wires.specs.Legs as legs
+use Rattle.rh_company.specs.Closings.{noted}
+use Rattle.rh_company.specs.Company as company
+use Rattle.law_moves.proofs.Vocabulary.{Cause}
+use Rattle.law_node_history.proofs.Vocabulary.{Answer, NodeClosed, Who, Line, receiver, Closing, Event, Comes, place, lines, Rulebook, Deeds, Makers, step, step_line, World, at, Change, IsTold, IsFed, IsDrawn, GoesUp, RaisesAlone, GoesDown, OpensIn, OpensOut, OpensSame, Gives, Takes, Closes, RecyclesIn, RecyclesOut, MovesTo, Draws, Reports, changed, all_changed, told_by, IsOneOf, ClosesNode, IsClosedBy, LineCloses}
 use Rattle.law_node_history.proofs.Answering.{is_other}
 use Rattle.law_node_history.proofs.Lines.{goes_step_line}
 

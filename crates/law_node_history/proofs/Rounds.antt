@@ -1,28 +1,11 @@
 -- each round of settling is a list of changes, and reports no closed node
-use Rattle.std.proofs.Common.{ℕ, zero, suc, ◌+◌, List, [], ◌∷◌, Bool, true, false, ◌&&◌, if◌then◌else◌, length, Some, None, refl}
-use Rattle.std.specs.Prelude.{nat_le}
-use Rattle.std.specs.declared.option.Option.{Option}
-use Rattle.rh_text.specs.declared.ends.Dir.{Dir}
-use Rattle.rh_text.specs.declared.ends.Dir.TheVariants.{U, D}
-use Rattle.rh_text.specs.declared.ends.Side.{Side}
-use Rattle.rh_text.specs.declared.ends.Side.TheVariants.{Client, Server}
-use Rattle.rh_line.specs.declared.leg.Leg.{Leg}
-use Rattle.rh_line.specs.declared.leg.LegKind.{LegKind}
-use Rattle.rh_line.specs.declared.leg.LegKind.TheVariants.{ClientOut, OutServer, ClientIn, InServer}
-use Rattle.rh_record.specs.declared.answer.Answer.{Answer}
+use Rattle.law_order.proofs.Vocabulary.{ℕ, zero, suc, ◌+◌, List, [], ◌∷◌, Bool, true, false, ◌&&◌, if◌then◌else◌, length, Some, None, refl, nat_le, Option}
 use Rattle.rh_record.specs.declared.answer.Answer.TheVariants as answer
-use Rattle.rh_record.specs.declared.answer.TakeAnswer.{TakeAnswer}
 use Rattle.rh_record.specs.declared.answer.TakeAnswer.TheVariants as takes
-use Rattle.rh_nodes.specs.Breaking.{end_leg}
-use Rattle.rh_nodes.specs.Carrying.{send, feed}
-use Rattle.rh_nodes.specs.Company.{Rulebook}
-use Rattle.rh_nodes.specs.Giving.{Deeds, take, has_ended}
-use Rattle.rh_nodes.specs.Legs as legs
-use Rattle.rh_nodes.specs.Opening.{Makers, open_leg, open_same, may_open_same}
-use Rattle.rh_nodes.specs.Reports.{and_then, each}
-use Rattle.rh_nodes.specs.Settling.{leg_at, opened, opened_same, open_next, open_next_in, next_number, open_client_outs, open_client_ins, open_out_servers, open_in_servers, open_all, most_bytes, carry_bytes, carried, carry, carry_both, carry_kind, carry_all, took, take_one, take_both, ends_now, ended, end_where, end_one, end_kind, end_all, round, behind_round, rounds_from, settle}
-use Rattle.rh_nodes.specs.World.{World}
-use Rattle.law_node_history.specs.Changes.{Takes, GoesQuietly}
+use Rattle.rh_wires.specs.Legs as legs
+use Rattle.law_moves.proofs.Vocabulary.{Dir, U, D, Side, Client, Server, Leg, LegKind, ClientOut, OutServer, ClientIn, InServer}
+use Rattle.law_node_history.proofs.Vocabulary.{Answer, TakeAnswer, Rulebook, end_leg, send, feed, Deeds, take, has_ended, Makers, open_leg, open_same, may_open_same, and_then, each, leg_at, opened, opened_same, open_next, open_next_in, next_number, open_client_outs, open_client_ins, open_out_servers, open_in_servers, open_all, most_bytes, carry_bytes, carried, carry, carry_both, carry_kind, carry_all, took, take_one, take_both, ends_now, ended, end_where, end_one, end_kind}
+use Rattle.law_node_history.proofs.Vocabulary.{end_all, round, behind_round, rounds_from, settle, World, Takes, GoesQuietly}
 use Rattle.law_node_history.proofs.Drawing.{DrawsQuietly, DrawsWork, draws_none, draws_one, draws_then}
 use Rattle.law_node_history.proofs.Answering.{Goes, GoesDrawing, QuietlyDrawing, goes_quietly, goes_none, goes_quiet, goes_one, goes_and_then, goes_plainly}
 use Rattle.law_node_history.proofs.Losing.{draws_end_leg, draws_send, draws_feed}

@@ -1,26 +1,11 @@
 -- what a change does to each node is what its events do
-use Rattle.std.proofs.Common.{◌≡◌, ℕ, List, [], ◌∷◌, ◌++◌, Bool, if◌then◌else◌, get_or, map, None, refl, sym, ap, ◌∙◌, subst, ◌⊎◌, inl, inr}
-use Rattle.std.specs.Prelude.{◌≢◌, ◌==◌}
-use Rattle.std.proofs.lemmas.Bool.{cases_eq, eq-eqb, ne_eqb}
-use Rattle.std.proofs.lemmas.List.{append-nil}
-use Rattle.rh_rts.specs.declared.command.Cookie.{Cookie}
-use Rattle.rh_line.specs.declared.leg.Leg.{Leg}
-use Rattle.rh_record.specs.declared.answer.Who.{Who}
-use Rattle.rh_record.specs.declared.answer.Who.TheVariants.{Client, Server, In, Out}
-use Rattle.rh_shell.specs.Rules.{Rules, Acts}
-use Rattle.rh_shell.specs.Shells.{Shell}
-use Rattle.rh_nodes.specs.declared.event.Event.{Event}
-use Rattle.rh_nodes.specs.declared.event.Event.TheVariants.{Comes, Ends, Breaks, Passes}
-use Rattle.rh_nodes.specs.declared.place.Place.{Place}
-use Rattle.rh_nodes.specs.declared.place.Place.TheVariants.{Absent, Here, Gone}
-use Rattle.rh_nodes.specs.Company as company
-use Rattle.rh_nodes.specs.Company.{Company, Rulebook}
-use Rattle.rh_nodes.specs.Numbered.{act, change}
-use Rattle.rh_nodes.specs.Places as places
-use Rattle.rh_nodes.specs.Telling as telling
+use Rattle.law_order.proofs.Vocabulary.{◌≡◌, ℕ, List, [], ◌∷◌, ◌++◌, Bool, if◌then◌else◌, get_or, map, None, refl, sym, ap, ◌∙◌, subst, ◌⊎◌, inl, inr, ◌≢◌, ◌==◌, cases_eq, eq-eqb, ne_eqb, append-nil}
+use Rattle.rh_company.specs.Company as company
+use Rattle.rh_company.specs.Places as places
+use Rattle.rh_company.specs.Telling as telling
+use Rattle.law_moves.proofs.Vocabulary.{Cookie, Leg, Rules, Acts, Shell, EndEvent, Happens, after_event, after_events, after_end_event, after_end_events}
 use Rattle.law_moves.specs.Moving as moving
-use Rattle.law_moves.specs.Moving.{EndEvent, Happens, after_event, after_events, after_end_event, after_end_events}
-use Rattle.law_node_history.specs.Histories.{heard, to_node, at_place, in_place, out_place, IsRun, WasLetGo}
+use Rattle.law_node_history.proofs.Vocabulary.{Who, Client, Server, In, Out, act, change, Event, Comes, Ends, Breaks, Passes, Place, Absent, Here, Gone, Company, Rulebook, heard, to_node, at_place, in_place, out_place, IsRun, WasLetGo}
 use Rattle.law_node_history.proofs.Numbers.{acted, acts_elsewhere, changed_here, changes_elsewhere}
 
 -- ---- events behind events

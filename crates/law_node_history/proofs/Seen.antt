@@ -1,13 +1,8 @@
 -- one direction of a leg, by its wire
-use Rattle.std.proofs.Common.{◌≡◌, ℕ, List, ◌++◌, Bool, true, false, if◌then◌else◌, take, drop, refl, sym, subst, inl, inr}
-use Rattle.std.proofs.lemmas.List.{take-append-drop}
-use Rattle.rh_text.specs.declared.ends.Dir.{Dir}
-use Rattle.rh_text.specs.declared.ends.Dir.TheVariants.{U, D}
-use Rattle.rh_text.specs.declared.ends.Side.{Side}
-use Rattle.rh_text.specs.declared.ends.Side.TheVariants.{Client, Server}
-use Rattle.rh_nodes.specs.declared.wire.Wire.{Wire}
-use Rattle.rh_nodes.specs.Wires.{blank, in_flight, is_up, lower, put, raise, receiver, sender, take_out}
-use Rattle.law_node_history.specs.Carriages.{Carriage, IsCarried}
+use Rattle.law_order.proofs.Vocabulary.{◌≡◌, ℕ, List, ◌++◌, Bool, true, false, if◌then◌else◌, take, drop, refl, sym, subst, inl, inr, take-append-drop}
+use Rattle.rh_wires.specs.Wires.{is_up}
+use Rattle.law_moves.proofs.Vocabulary.{Dir, U, D, Side, Client, Server}
+use Rattle.law_node_history.proofs.Vocabulary.{Wire, blank, in_flight, lower, put, raise, receiver, sender, take_out, Carriage, IsCarried}
 use Rattle.law_node_history.proofs.Carriages.{carry_drawn, carry_fed, carry_up_put, carry_up_take, carry_down_put, carry_down_take, carry_lost}
 
 -- what was drawn and fed, whether the leg was up for the end that puts and for the one that takes,

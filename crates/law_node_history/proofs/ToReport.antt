@@ -1,19 +1,9 @@
 -- what is still to be reported are nodes that are closed
-use Rattle.std.proofs.Common.{◌≡◌, [], Some, sym, subst, ⊎_elim}
-use Rattle.rh_line.specs.declared.cause.Cause.{Cause}
-use Rattle.rh_record.specs.declared.answer.Who.{Who}
-use Rattle.rh_nodes.specs.declared.closing.Closing.{Closing}
-use Rattle.rh_nodes.specs.declared.event.Event.{Event}
-use Rattle.rh_nodes.specs.declared.event.Event.TheVariants.{Comes}
-use Rattle.rh_nodes.specs.Company as company
-use Rattle.rh_nodes.specs.Company.{Rulebook}
-use Rattle.rh_nodes.specs.Giving.{Deeds}
-use Rattle.rh_nodes.specs.Legs as legs
-use Rattle.rh_nodes.specs.Opening.{Makers}
-use Rattle.rh_nodes.specs.Wires.{receiver}
-use Rattle.rh_nodes.specs.World.{World, at}
-use Rattle.law_node_history.specs.Changes.{Change, IsTold, IsFed, MayChange, Leads, changed}
-use Rattle.law_node_history.specs.Closes.{IsOneOf, ClosesNode, HasClosed}
+use Rattle.law_order.proofs.Vocabulary.{◌≡◌, [], Some, sym, subst, ⊎_elim}
+use Rattle.rh_wires.specs.Legs as legs
+use Rattle.rh_company.specs.Company as company
+use Rattle.law_moves.proofs.Vocabulary.{Cause}
+use Rattle.law_node_history.proofs.Vocabulary.{Who, receiver, Closing, Event, Comes, Rulebook, Deeds, Makers, World, at, Change, IsTold, IsFed, MayChange, Leads, changed, IsOneOf, ClosesNode, HasClosed}
 use Rattle.law_node_history.proofs.Leading.{leads_keep}
 use Rattle.law_node_history.proofs.Closed.{tell_closes, closed_stays}
 use Rattle.law_node_history.proofs.Reported.{told_is, none_told}

@@ -1,42 +1,15 @@
 -- every change keeps the legs carried, and notes all that was heard
-use Rattle.std.proofs.Common.{◌≡◌, ℕ, List, [], ◌++◌, Bool, true, false, ◌&&◌, ◌||◌, if◌then◌else◌, IsTrue, get_or, refl, sym, ap, ap₂, ◌∙◌, subst, inl, inr, ⊎_elim, arith}
-use Rattle.std.specs.Prelude.{◌<◌}
-use Rattle.std.proofs.lemmas.Bool.{true≢false, false≢true, cases_eq, cases_Bool, ltb-true, and_parts}
-use Rattle.std.proofs.lemmas.List.{append-nil}
-use Rattle.rh_text.specs.declared.ends.Dir.{Dir}
-use Rattle.rh_text.specs.declared.ends.Side.{Side}
 use Rattle.rh_text.specs.declared.ends.Side.TheVariants as side
-use Rattle.rh_rts.specs.declared.command.Cookie.{Cookie}
-use Rattle.rh_line.specs.declared.leg.Leg.{Leg}
-use Rattle.rh_line.specs.declared.leg.LegKind.{LegKind}
-use Rattle.rh_line.specs.declared.leg.LegKind.TheVariants.{ClientOut, OutServer, ClientIn, InServer}
-use Rattle.rh_record.specs.declared.answer.Who.{Who}
-use Rattle.rh_record.specs.declared.answer.Who.TheVariants.{Client, Server, In, Out}
-use Rattle.rh_shell.specs.Rules.{Rules}
+use Rattle.law_order.proofs.Vocabulary.{◌≡◌, ℕ, List, [], ◌++◌, Bool, true, false, ◌&&◌, ◌||◌, if◌then◌else◌, IsTrue, get_or, refl, sym, ap, ap₂, ◌∙◌, subst, inl, inr, ⊎_elim, arith, ◌<◌, true≢false, false≢true, cases_eq, cases_Bool, ltb-true, and_parts, append-nil}
 use Rattle.rh_shell.specs.Shells as shell
-use Rattle.rh_shell.specs.Shells.{Shell, same_leg}
-use Rattle.rh_nodes.specs.declared.event.Event.{Event}
-use Rattle.rh_nodes.specs.declared.event.Event.TheVariants.{Comes, Ends, Breaks, Passes}
-use Rattle.rh_nodes.specs.declared.place.Place.{Place}
-use Rattle.rh_nodes.specs.declared.place.Place.TheVariants.{Absent, Here, Gone}
-use Rattle.rh_nodes.specs.Company as company
-use Rattle.rh_nodes.specs.Company.{Company, Rulebook}
-use Rattle.rh_nodes.specs.Giving.{Deeds}
-use Rattle.rh_nodes.specs.Halves.{is_same}
-use Rattle.rh_nodes.specs.Legs as legs
-use Rattle.rh_nodes.specs.Numbered.{change}
-use Rattle.rh_nodes.specs.Opening.{Makers, reader_before}
-use Rattle.rh_nodes.specs.Places as places
-use Rattle.rh_nodes.specs.Places.{is_absent}
-use Rattle.rh_nodes.specs.Readers.{with_reader}
-use Rattle.rh_nodes.specs.Settling.{leg_at}
-use Rattle.rh_nodes.specs.Wires as wires
-use Rattle.rh_nodes.specs.Wires.{sender, receiver}
-use Rattle.rh_nodes.specs.World.{World, at}
+use Rattle.rh_wires.specs.Legs as legs
+use Rattle.rh_wires.specs.Wires as wires
+use Rattle.rh_company.specs.Company as company
+use Rattle.rh_company.specs.Places as places
+use Rattle.law_moves.proofs.Vocabulary.{Dir, Side, Cookie, Leg, LegKind, ClientOut, OutServer, ClientIn, InServer, Rules, Shell, same_leg}
 use Rattle.law_moves.specs.Moving as moving
-use Rattle.law_node_history.specs.Changes.{Change, may_have, IsTold, IsFed, IsDrawn, GoesUp, RaisesAlone, GoesDown, OpensIn, OpensOut, OpensSame, Gives, Takes, Closes, RecyclesIn, RecyclesOut, MovesTo, Draws, Reports, MayChange, StandsAt, changed}
-use Rattle.law_node_history.specs.Histories.{History, heard, to_node, told_to, made_by, at_place, fed_by, in_place, out_place, noted, IsRun}
-use Rattle.law_node_history.specs.Carried.{Ledger, ledger, heard_on, came_up, happened, wire_at, end_node, AreCarried, IsHeard, AreHeard, LegsComeUpOnce, AllAccepted, IsTraced, is_of_client}
+use Rattle.law_node_history.proofs.Vocabulary.{Who, Client, Server, In, Out, change, with_reader, sender, receiver, Event, Comes, Ends, Breaks, Passes, Place, Absent, Here, Gone, Company, Rulebook, is_absent, Deeds, is_same, Makers, reader_before, leg_at, World, at, Change, may_have, IsTold, IsFed, IsDrawn, GoesUp, RaisesAlone, GoesDown, OpensIn, OpensOut, OpensSame, Gives, Takes, Closes, Draws, MayChange, StandsAt, changed, History, heard, to_node, told_to, made_by, at_place}
+use Rattle.law_node_history.proofs.Vocabulary.{fed_by, in_place, out_place, noted, IsRun, Ledger, ledger, heard_on, came_up, happened, wire_at, end_node, AreCarried, IsHeard, AreHeard, LegsComeUpOnce, AllAccepted, IsTraced, is_of_client}
 use Rattle.law_node_history.proofs.Leading.{cast_stays}
 use Rattle.law_node_history.proofs.Appended.{heard_append, happened_more}
 use Rattle.law_node_history.proofs.HeardAll.{is_hears, unheard, heard_piece, hear_on, hear_none, hear_leaving, hear_made}
@@ -57,13 +30,13 @@ told_draws (Ends leg) = refl
 told_draws (Breaks leg) = refl
 told_draws (Passes now) = refl
 
-told_comes : (event : Event) → is_comes (heard event) ≡ false
+pub told_comes : (event : Event) → is_comes (heard event) ≡ false
 told_comes (Comes leg piece) = refl
 told_comes (Ends leg) = refl
 told_comes (Breaks leg) = refl
 told_comes (Passes now) = refl
 
-or_assoc : (a b c : Bool) → (a || (b || c)) ≡ ((a || b) || c)
+pub or_assoc : (a b c : Bool) → (a || (b || c)) ≡ ((a || b) || c)
 or_assoc true b c = refl
 or_assoc false b c = refl
 
@@ -86,7 +59,7 @@ absent_leaves rules list k n e =
     (λ other. changes_elsewhere Absent (places.leave rules) list k n other ∙ e) (cases_eq n k)
 
 -- the client has its own end of its legs
-client_end : (readers : List ℕ) (leg : Leg) → is_of_client leg.kind ≡ true
+pub client_end : (readers : List ℕ) (leg : Leg) → is_of_client leg.kind ≡ true
     → end_node readers leg side.Client ≡ Client
 client_end readers leg e = by leg.kind e
   where

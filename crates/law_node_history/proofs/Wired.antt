@@ -1,23 +1,11 @@
 -- the wire of each leg, where that of one leg changes
-use Rattle.std.proofs.Common.{◌≡◌, ℕ, ◌+◌, ◌<◌, List, [], length, arith, Bool, true, false, ◌&&◌, get_or, refl, sym, ap, ◌∙◌, ◌⊎◌, inl, inr}
-use Rattle.std.specs.Prelude.{◌≢◌, ◌==◌}
-use Rattle.std.proofs.lemmas.Bool.{cases_eq, eq-eqb, ne_eqb, eqb-false}
-use Rattle.rh_text.specs.declared.ends.Dir.{Dir}
-use Rattle.rh_text.specs.declared.ends.Side.{Side}
 use Rattle.rh_text.specs.declared.ends.Side.TheVariants as side
-use Rattle.rh_line.specs.declared.leg.Leg.{Leg}
-use Rattle.rh_line.specs.declared.leg.LegKind.{LegKind}
-use Rattle.rh_line.specs.declared.leg.LegKind.TheVariants.{ClientOut, OutServer, ClientIn, InServer}
-use Rattle.rh_shell.specs.Shells.{same_leg}
-use Rattle.rh_nodes.specs.declared.legs.Legs.{Legs}
-use Rattle.rh_nodes.specs.declared.wire.Wire.{Wire}
-use Rattle.rh_nodes.specs.Legs as legs
-use Rattle.rh_nodes.specs.Legs.{with_kind}
-use Rattle.rh_nodes.specs.Numbered.{change, act, grown}
-use Rattle.rh_nodes.specs.Settling.{leg_at}
-use Rattle.rh_nodes.specs.Wires as wires
-use Rattle.rh_nodes.specs.Wires.{blank}
-use Rattle.law_node_history.specs.Carried.{wire_at}
+use Rattle.law_order.proofs.Vocabulary.{◌≡◌, ℕ, ◌+◌, ◌<◌, List, [], length, arith, Bool, true, false, ◌&&◌, get_or, refl, sym, ap, ◌∙◌, ◌⊎◌, inl, inr, ◌≢◌, ◌==◌, cases_eq, eq-eqb, ne_eqb, eqb-false}
+use Rattle.rh_wires.specs.Legs.{with_kind}
+use Rattle.rh_wires.specs.Legs as legs
+use Rattle.rh_wires.specs.Wires as wires
+use Rattle.law_moves.proofs.Vocabulary.{Dir, Side, Leg, LegKind, ClientOut, OutServer, ClientIn, InServer, same_leg}
+use Rattle.law_node_history.proofs.Vocabulary.{Legs, Wire, change, act, grown, blank, leg_at, wire_at}
 use Rattle.law_node_history.proofs.Numbers.{asked, within, changed_within, acted_within, answered_within, acts_elsewhere, changed_here, changes_elsewhere, grown_at, grown_length}
 
 -- ---- legs that are the same, or not

@@ -1,14 +1,6 @@
 -- changes of one kind behind each other
-use Rattle.std.proofs.Common.{◌≡◌, Bool, ℕ, zero, suc, List, [], ◌∷◌, true, refl, ◌∙◌}
-use Rattle.std.specs.List.{list_all}
-use Rattle.std.proofs.lemmas.Bool.{and_from, and_parts}
-use Rattle.std.proofs.lemmas.List.Folds.{list_all-append}
-use Rattle.rh_nodes.specs.Company.{Rulebook}
-use Rattle.rh_nodes.specs.Giving.{Deeds}
-use Rattle.rh_nodes.specs.Opening.{Makers}
-use Rattle.rh_nodes.specs.Time.{for_each}
-use Rattle.rh_nodes.specs.World.{World}
-use Rattle.law_node_history.specs.Changes.{Change, Gives, Takes, Closes, RecyclesIn, RecyclesOut, Reports, MayChange, changed, of_line, is_work, is_quiet, WorksBy, ByLines, Works, Quietly}
+use Rattle.law_order.proofs.Vocabulary.{◌≡◌, Bool, List, [], ◌∷◌, true, refl, ◌∙◌, list_all, and_from, and_parts, list_all-append}
+use Rattle.law_node_history.proofs.Vocabulary.{Rulebook, Deeds, Makers, World, Change, Gives, Takes, Closes, RecyclesIn, RecyclesOut, Reports, MayChange, changed, of_line, is_work, is_quiet, WorksBy, ByLines, Works, Quietly}
 use Rattle.law_node_history.proofs.Leading.{leads_none, leads_one, leads_then}
 
 -- what each passes that passes the first test
@@ -63,20 +55,7 @@ module _ {K C S I O : Type 0} {kind : Change → Bool} (r : Rulebook C S I O) (m
   works_more w v change a may is =
       works_then w v (changed r m d v change) a (works_one v change may is)
 
-  -- something is done for each number
-  pub works_for_each : (n : ℕ) (act : ℕ → World K C S I O → World K C S I O)
-      (w : World K C S I O) → ((k : ℕ) (v : World K C S I O) → WorksBy kind r m d v (act k v))
-      → WorksBy kind r m d w (for_each n act w)
-  works_for_each zero act w a = works_none w
-  works_for_each (suc n) act w a =
-      works_then w (for_each n act w) (act n (for_each n act w)) (works_for_each n act w a)
-      (a n (for_each n act w))
-
 module _ {K C S I O : Type 0} (r : Rulebook C S I O) (m : Makers K I O) (d : Deeds C S) where
-  -- quiet changes to the world behind something that was done or refused
-  abbrev pub QuietlyOk : World K C S I O → World K C S I O × Bool → Type 0
-  QuietlyOk w did = Quietly r m d w did.0
-
   -- quiet changes are no report
   abbrev pub works_quietly : (w v : World K C S I O) → Quietly r m d w v → Works r m d w v
   works_quietly w v a = record {

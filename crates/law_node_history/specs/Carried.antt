@@ -12,26 +12,25 @@ use Rattle.rh_line.specs.declared.leg.LegKind.TheVariants.{ClientOut, OutServer,
 use Rattle.rh_record.specs.declared.answer.Who.{Who}
 use Rattle.rh_record.specs.declared.answer.Who.TheVariants as who
 use Rattle.law_moves.specs.Moving as moving
-use Rattle.law_moves.specs.Moving.{EndEvent, Happens, IsGiven, IsTaken, IsClosed, IsRecycled, after_event, after_events, after_end_event, after_end_events}
+use Rattle.law_moves.specs.Moving.{EndEvent, Happens, after_event, after_events, after_end_event, after_end_events}
 use Rattle.rh_shell.specs.Rules.{Rules, Acts}
 use Rattle.rh_shell.specs.Shells as shell
 use Rattle.rh_shell.specs.Shells.{Shell, same_leg, may_up, wants}
-use Rattle.rh_nodes.specs.declared.legs.Legs.{Legs}
-use Rattle.rh_nodes.specs.declared.place.Place.{Place}
-use Rattle.rh_nodes.specs.declared.place.Place.TheVariants.{Absent, Here, Gone}
-use Rattle.rh_nodes.specs.declared.wire.Wire.{Wire}
-use Rattle.rh_nodes.specs.Company.{Company, Rulebook}
+use Rattle.rh_wires.specs.declared.legs.Legs.{Legs}
+use Rattle.rh_wires.specs.declared.wire.Wire.{Wire}
+use Rattle.rh_wires.specs.Legs as legs
+use Rattle.rh_wires.specs.Readers.{reader_of}
+use Rattle.rh_wires.specs.Wires as wires
+use Rattle.rh_wires.specs.Wires.{sender, receiver}
+use Rattle.rh_company.specs.declared.place.Place.{Place}
+use Rattle.rh_company.specs.declared.place.Place.TheVariants.{Absent, Here, Gone}
+use Rattle.rh_company.specs.Company.{Company, Rulebook}
 use Rattle.rh_nodes.specs.Giving.{Deeds}
-use Rattle.rh_nodes.specs.Legs as legs
 use Rattle.rh_nodes.specs.Opening.{Makers}
-use Rattle.rh_nodes.specs.Readers.{reader_of}
 use Rattle.rh_nodes.specs.Settling.{leg_at}
-use Rattle.rh_nodes.specs.Wires as wires
-use Rattle.rh_nodes.specs.Wires.{sender, receiver}
 use Rattle.rh_nodes.specs.World.{World, node_at}
 use Rattle.law_node_history.specs.Carriages.{Carriage, IsCarried}
-use Rattle.law_node_history.specs.Changes.{Leads}
-use Rattle.law_node_history.specs.Histories.{History, AreRuns, all_noted, nothing, in_place, out_place}
+use Rattle.law_node_history.specs.Histories.{History, AreRuns, in_place, out_place}
 
 -- ---- what a node did on a leg, by its events
 
@@ -274,10 +273,3 @@ pub record IsTraced {K C S I O : Type 0} (r : Rulebook C S I O) (m : Makers K I 
   pub heard : AreHeard w h
   -- proxies have the numbers from 1
   pub zero : in_place w.company 0 ≡ Absent
-
--- changes lead from a world in which nothing happened yet, and their history traces the nodes and
--- the legs
-pub record HasTrace {K C S I O : Type 0} (r : Rulebook C S I O) (m : Makers K I O) (d : Deeds C S)
-    (w v : World K C S I O) : Type 0 where
-  pub leads : Leads r m d w v
-  pub traced : IsTraced r m d w.company v (all_noted r m d w nothing leads.changes)

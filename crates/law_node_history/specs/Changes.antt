@@ -15,24 +15,24 @@ use Rattle.rh_record.specs.declared.answer.Answer.TheVariants as answer
 use Rattle.rh_record.specs.declared.answer.Who.{Who}
 use Rattle.rh_record.specs.declared.answer.Who.TheVariants as who
 use Rattle.rh_record.specs.declared.line.Line.{Line}
-use Rattle.rh_nodes.specs.declared.event.Event.{Event}
-use Rattle.rh_nodes.specs.declared.event.Event.TheVariants.{Comes, Ends, Breaks, Passes}
+use Rattle.rh_wires.specs.Legs as legs
+use Rattle.rh_wires.specs.Numbered.{ask}
+use Rattle.rh_wires.specs.Wires.{sender, receiver}
+use Rattle.rh_company.specs.declared.event.Event.{Event}
+use Rattle.rh_company.specs.declared.event.Event.TheVariants.{Comes, Ends, Breaks, Passes}
+use Rattle.rh_company.specs.Company as company
+use Rattle.rh_company.specs.Company.{Rulebook}
+use Rattle.rh_company.specs.Cookies.{Cookies}
+use Rattle.rh_company.specs.Places.{is_absent}
 use Rattle.rh_nodes.specs.declared.half.Half.{Half}
 use Rattle.rh_nodes.specs.Breaking.{without}
 use Rattle.rh_nodes.specs.Carrying.{sent, draw_into, fed}
-use Rattle.rh_nodes.specs.Company as company
-use Rattle.rh_nodes.specs.Company.{Rulebook}
-use Rattle.rh_nodes.specs.Cookies.{Cookies}
 use Rattle.rh_nodes.specs.Giving.{Deeds, give, take, close, recycle_in, recycle_out}
 use Rattle.rh_nodes.specs.Halves.{up_at, half}
-use Rattle.rh_nodes.specs.Legs as legs
-use Rattle.rh_nodes.specs.Numbered.{ask}
 use Rattle.rh_nodes.specs.Opening.{Makers, at_moment, with_in, with_out, read_on, reader_before}
-use Rattle.rh_nodes.specs.Places.{is_absent}
 use Rattle.rh_nodes.specs.Settling.{leg_at}
 use Rattle.rh_nodes.specs.Steps.{step}
 use Rattle.rh_nodes.specs.Time as time
-use Rattle.rh_nodes.specs.Wires.{sender, receiver}
 use Rattle.rh_nodes.specs.World.{World, at, tell}
 
 pub data Change : Type 0 where

@@ -13,18 +13,18 @@ use Rattle.rh_record.specs.declared.answer.Who.{Who}
 use Rattle.rh_record.specs.declared.answer.Who.TheVariants as who
 use Rattle.rh_record.specs.declared.line.Line.{Line}
 use Rattle.rh_shell.specs.Shells.{state_of}
-use Rattle.rh_nodes.specs.declared.event.Event.{Event}
-use Rattle.rh_nodes.specs.declared.event.Event.TheVariants.{Comes}
-use Rattle.rh_nodes.specs.declared.place.Place.{Place}
-use Rattle.rh_nodes.specs.declared.place.Place.TheVariants.{Absent, Here, Gone}
-use Rattle.rh_nodes.specs.Company as company
-use Rattle.rh_nodes.specs.Company.{Company, Rulebook}
+use Rattle.rh_wires.specs.Legs as legs
+use Rattle.rh_wires.specs.Wires.{receiver}
+use Rattle.rh_company.specs.declared.event.Event.{Event}
+use Rattle.rh_company.specs.declared.event.Event.TheVariants.{Comes}
+use Rattle.rh_company.specs.declared.place.Place.{Place}
+use Rattle.rh_company.specs.declared.place.Place.TheVariants.{Absent, Here, Gone}
+use Rattle.rh_company.specs.Company as company
+use Rattle.rh_company.specs.Company.{Company, Rulebook}
 use Rattle.rh_nodes.specs.Giving.{Deeds, give, take, recycle_in, recycle_out}
 use Rattle.rh_nodes.specs.Halves.{is_same}
-use Rattle.rh_nodes.specs.Legs as legs
 use Rattle.rh_nodes.specs.Opening.{Makers}
 use Rattle.rh_nodes.specs.Steps.{last_with, last_of, step_line}
-use Rattle.rh_nodes.specs.Wires.{receiver}
 use Rattle.rh_nodes.specs.World.{World, at}
 use Rattle.law_moves.specs.Laws.{ClosedWith}
 use Rattle.law_node_history.specs.Changes.{Change, IsTold, IsFed, all_changed, Works}

@@ -4,3 +4,4 @@ pub mod Histories
 pub mod Closes
 pub mod Carriages
 pub mod Carried
+pub mod Standing

@@ -1,12 +1,9 @@
 //! What happened at each node. These functions do nothing: their contracts are the laws.
 
-ghost use Rattle.std.specs.Prelude.{ℕ, Bool};
-ghost use Rattle.rh_rts.specs.declared.command.Cookie.{Cookie};
-ghost use Rattle.rh_shell.specs.Shells.{Shell};
-ghost use Rattle.rh_nodes.specs.Company.{Company, Rulebook};
+ghost use Rattle.rh_company.specs.Company.{Company, Rulebook};
 ghost use Rattle.rh_nodes.specs.Giving.{Deeds};
 ghost use Rattle.rh_nodes.specs.Opening.{Makers};
-ghost use Rattle.rh_nodes.specs.World.{World, started};
+ghost use Rattle.rh_nodes.specs.World.{World};
 ghost use Rattle.law_node_history.specs.Changes.{Change, Leads, MayChange, changed};
 ghost use Rattle.law_node_history.specs.Histories.{AreRuns, History, IsNew, all_noted, noted, nothing};
 
@@ -26,10 +23,4 @@ pub fn each_node_is_what_its_history_made<K, C, S, I, O>()
         (first : Company C S I O) (w v : World K C S I O) (h : History)
         (leads : Leads r m d w v) → AreRuns r m d first w h
         → AreRuns r m d first v (all_noted r m d w h leads.changes) }
-{}
-
-/// A recording begins with no proxy.
-pub fn a_recording_begins_new<K, C, S, I, O>()
-    ensures { (client : K → Cookie → Cookie → Shell C) (server : K → Shell S) (cast : K) (base : ℕ)
-        (same : Bool) → IsNew {I = I} {O = O} (started client server cast base same) }
 {}

@@ -1,24 +1,19 @@
 //! What each leg carried. These functions do nothing: their contracts are the laws.
 
-ghost use Rattle.std.specs.Prelude.{◌≡◌, ◌++◌, List, [], true};
+ghost use Rattle.std.specs.Prelude.{◌≡◌, []};
 ghost use mathlib.Core.List.{IsPrefix};
 ghost use Rattle.rh_text.specs.declared.ends.Dir.{Dir};
 ghost use Rattle.rh_text.specs.declared.ends.Side.{Side};
 ghost use Rattle.rh_line.specs.declared.leg.Leg.{Leg};
 ghost use Rattle.rh_record.specs.declared.answer.Who.{Who};
-ghost use Rattle.rh_shell.specs.Rules.{Acts, Rules};
-ghost use Rattle.rh_shell.specs.Shells.{Shell};
-ghost use Rattle.rh_nodes.specs.Company.{Company, Rulebook};
+ghost use Rattle.rh_wires.specs.Wires.{receiver, sender};
+ghost use Rattle.rh_company.specs.Company.{Company, Rulebook};
 ghost use Rattle.rh_nodes.specs.Giving.{Deeds};
 ghost use Rattle.rh_nodes.specs.Opening.{Makers};
-ghost use Rattle.rh_nodes.specs.Wires.{receiver, sender};
 ghost use Rattle.rh_nodes.specs.World.{World};
-ghost use Rattle.law_node_history.specs.Carriages.{Carriage, IsCarried};
-ghost use Rattle.law_node_history.specs.Carried.{HasTrace, IsTraced, LegsComeUpOnce};
-ghost use Rattle.law_node_history.specs.Carried.{ComesUpOnce, ComesUpOnceAtEnd};
-ghost use Rattle.law_node_history.specs.Carried.{RemembersLegs, RemembersLegsAtEnd};
+ghost use Rattle.law_node_history.specs.Carried.{IsTraced, LegsComeUpOnce};
 ghost use Rattle.law_node_history.specs.Carried.{drawn_by, end_node, events_of, heard_on};
-ghost use Rattle.law_node_history.specs.Changes.{Change, Leads, MayChange, Turn, after_turns, changed};
+ghost use Rattle.law_node_history.specs.Changes.{Change, Leads, MayChange, changed};
 ghost use Rattle.law_node_history.specs.Histories.{History, IsNew, all_noted, noted, nothing};
 
 /// On each leg and in each direction, what was fed at the one end is a front of what was drawn at
@@ -45,13 +40,6 @@ pub fn legs_are_carried<K, C, S, I, O>()
         → IsTraced r m d first v (all_noted r m d w h leads.changes) }
 {}
 
-/// So each recording, with half steps among its lines, has a history that traces it.
-pub fn a_recording_is_traced<K, C, S, I, O>()
-    ensures { (r : Rulebook C S I O) (m : Makers K I O) (d : Deeds C S) (turns : List Turn)
-        (w : World K C S I O) → IsNew w → LegsComeUpOnce r m d w.company w.cast
-        → HasTrace r m d w (after_turns r m d w turns) }
-{}
-
 /// What the node at one end of a leg heard is a front of what the node at the other drew there,
 /// whatever broke the leg.
 pub fn what_is_heard_was_drawn<K, C, S, I, O>()
@@ -69,19 +57,4 @@ pub fn a_leg_is_read_at_its_ends<K, C, S, I, O>()
         → ((end : Side) → end_node w.readers leg end ≡ node → ⊥)
         → (drawn_by r m d first w.cast h node leg ≡ [])
         × (heard_on leg (events_of h node) ≡ []) }
-{}
-
-/// A role that knows which legs were up, and keeps them so, lets each come up at most once: what
-/// the laws of the world of roles ask of each of the four.
-pub fn a_leg_that_is_remembered_comes_up_once<S>()
-    ensures node { (rules : Rules S) (first : Shell S) → RemembersLegs rules first
-        → ComesUpOnce rules first }
-    ensures end { (rules : Rules S) (acts : Acts S) (first : Shell S)
-        → RemembersLegsAtEnd rules acts first → ComesUpOnceAtEnd rules acts first }
-{}
-
-/// While a leg is up for both of its ends, what was drawn is what was fed and what is in flight.
-pub fn a_leg_that_is_up_loses_nothing()
-    ensures { (c : Carriage) → IsCarried c → c.puts ≡ true → c.takes ≡ true
-        → c.drawn ≡ c.fed ++ c.flight }
 {}

@@ -7,6 +7,7 @@ pub mod closes;
 pub mod cookies;
 pub mod histories;
 pub mod legs;
+pub mod standing;
 
 pub use changing::{
     a_half_step_is_changes, a_line_is_changes, lines_are_changes, lines_make_changes_of_lines,
@@ -17,10 +18,7 @@ pub use closes::{
     a_node_is_reported_closed_once, what_is_reported_closed_was_closed,
     what_is_to_be_reported_has_closed,
 };
-pub use cookies::{cookies_of_lines_differ, lines_draw_cookies};
-pub use histories::{a_recording_begins_new, each_node_is_what_its_history_made};
-pub use legs::{
-    a_leg_is_read_at_its_ends, a_leg_that_is_remembered_comes_up_once,
-    a_leg_that_is_up_loses_nothing, a_recording_is_traced, legs_are_carried,
-    what_is_heard_was_drawn,
-};
+pub use cookies::cookies_of_lines_differ;
+pub use histories::each_node_is_what_its_history_made;
+pub use legs::{a_leg_is_read_at_its_ends, legs_are_carried, what_is_heard_was_drawn};
+pub use standing::what_stands_closed_was_closed;

@@ -1,5 +1,5 @@
 mod Lists
-mod Standing
+pub mod Standing
 mod Counts
 mod Counting
 pub mod NoneUp

@@ -1,3 +1,4 @@
+pub mod Vocabulary
 pub mod Traced
 mod LetGo
 pub mod OwnLegs

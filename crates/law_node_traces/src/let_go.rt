@@ -3,9 +3,9 @@
 ghost use Rattle.std.specs.Prelude.{◌≡◌, false, true};
 ghost use Rattle.rh_text.specs.declared.ends.Side.{Side};
 ghost use Rattle.rh_line.specs.declared.leg.Leg.{Leg};
-ghost use Rattle.rh_nodes.specs.Company.{Rulebook};
+ghost use Rattle.rh_wires.specs.Legs as legs;
+ghost use Rattle.rh_company.specs.Company.{Rulebook};
 ghost use Rattle.rh_nodes.specs.Giving.{Deeds};
-ghost use Rattle.rh_nodes.specs.Legs as legs;
 ghost use Rattle.rh_nodes.specs.Opening.{Makers};
 ghost use Rattle.rh_nodes.specs.World.{World, at};
 ghost use Rattle.law_node_history.specs.Carried.{LegsComeUpOnce};

@@ -13,8 +13,8 @@ pub use own_legs::{
     each_node_refuses_on_its_own_legs,
 };
 pub use traces::{
-    a_node_that_lost_a_leg_was_told, a_proxy_draws_503_where_its_server_is_lost,
-    a_recording_of_roles_is_known, a_refusal_is_of_a_leg_that_failed, channels_come_up_in_order,
-    legs_of_roles_come_up_once, nodes_hear_in_turn, proxies_are_numbered, turns_are_changes,
-    what_a_node_draws_goes_on_or_refuses, what_is_heard_was_drawn_before,
+    a_proxy_draws_503_where_its_server_is_lost, a_recording_of_roles_is_known,
+    channels_come_up_in_order, legs_of_roles_come_up_once, nodes_hear_in_turn,
+    proxies_are_numbered, turns_are_changes, what_a_node_draws_goes_on_or_refuses,
+    what_is_heard_was_drawn_before,
 };

@@ -13,7 +13,6 @@ pub use numbers::{channels_come_up_in_order, proxies_are_numbered};
 pub use once::legs_of_roles_come_up_once;
 pub use recordings::a_recording_of_roles_is_known;
 pub use refusals::{
-    a_node_that_lost_a_leg_was_told, a_proxy_draws_503_where_its_server_is_lost,
-    a_refusal_is_of_a_leg_that_failed, what_a_node_draws_goes_on_or_refuses,
+    a_proxy_draws_503_where_its_server_is_lost, what_a_node_draws_goes_on_or_refuses,
 };
 pub use turns::{nodes_hear_in_turn, what_is_heard_was_drawn_before};

@@ -1,11 +1,5 @@
 -- laws of values by number, and of logs
-use Rattle.std.proofs.Common.{◌≡◌, ◌≢◌, ℕ, zero, suc, ◌+◌, ◌-◌, ◌<◌, ◌≤◌, Bool, true, false, nat_eq, if◌then◌else◌, List, [], ◌∷◌, ◌++◌, arith, refl, sym, subst}
-use Rattle.std.proofs.lemmas.List.{append_assoc, append-nil}
-use Rattle.std.proofs.lemmas.Bool.Decides.{nat_tests}
-use mathlib.Core.Path.{fun_ext}
-use mathlib.Core.List.{IsPrefix}
-use Rattle.law_order.specs.Items.{Item}
-use Rattle.law_order.specs.Logs.{Log, change, more, below, seen, seen_log}
+use Rattle.law_order.proofs.Vocabulary.{◌≡◌, ◌≢◌, ℕ, zero, suc, ◌+◌, ◌-◌, ◌<◌, ◌≤◌, Bool, true, false, nat_eq, if◌then◌else◌, List, [], ◌∷◌, ◌++◌, arith, refl, sym, subst, append_assoc, append-nil, nat_tests, fun_ext, IsPrefix, Item, Log, change, more, below, seen}
 use Rattle.law_order.proofs.Prefixes.{prefix_self, prefix_more, prefix_trans}
 
 -- a fact of either side of a test
@@ -60,17 +54,6 @@ more_none n log =
     fun_ext (λ k. change_each (λ j items. items ≡ log j) n (λ before. before ++ []) log
     (λ j. refl) (append-nil (log n)) k)
 
--- more, and then more again
-pub more_twice : {X : Type 0} (n : ℕ) (a b : List X) (log : ℕ → List X)
-    → more n b (more n a log) ≡ more n (a ++ b) log
-more_twice n a b log = fun_ext (λ k. twice (nat_eq k n) (log k) a b)
-  where
-    twice : {X : Type 0} (t : Bool) (items a b : List X)
-        → (if t then (if t then items ++ a else items) ++ b else (if t then items ++ a else items))
-        ≡ (if t then items ++ (a ++ b) else items)
-    twice true items a b = append_assoc items a b
-    twice false items a b = refl
-
 -- ---- what order sees
 
 pub seen-append : {M : Type 0} (view : M → List Item) (a b : List M)
@@ -78,25 +61,6 @@ pub seen-append : {M : Type 0} (view : M → List Item) (a b : List M)
 seen-append view [] b = refl
 seen-append view (m ∷ a) b =
     rw (seen-append view a b) (sym (append_assoc (view m) (seen view a) (seen view b)))
-
--- of a log with more messages
-pub seen_more : {M : Type 0} (view : M → List Item) (n : ℕ) (ms : List M) (log : ℕ → List M)
-    → seen_log view (more n ms log) ≡ more n (seen view ms) (seen_log view log)
-seen_more view n ms log = fun_ext (λ k. here view (nat_eq k n) (log k) ms)
-  where
-    here : {M : Type 0} (view : M → List Item) (t : Bool) (log ms : List M)
-        → seen view (if t then log ++ ms else log)
-        ≡ (if t then seen view log ++ seen view ms else seen view log)
-    here view true log ms = seen-append view log ms
-    here view false log ms = refl
-
--- a front stays one while its log grows
-pub prefix_grows : {X : Type 0} (front : List X) (k n : ℕ) (items : List X) (log : ℕ → List X)
-    → IsPrefix front (log k) → IsPrefix front (more n items log k)
-prefix_grows front k n items log p =
-    by_test (IsPrefix front) (nat_eq k n) (log k ++ items) (log k)
-    (λ t. prefix_trans front (log k) (log k ++ items) p (prefix_more (log k) items))
-    (λ t. p)
 
 -- ---- joined
 

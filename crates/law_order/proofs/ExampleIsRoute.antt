@@ -1,15 +1,8 @@
 -- the laws of a route are met by one that was replaced twice and ended
-use Rattle.std.proofs.Common.{◌≡◌, ℕ, zero, suc, ◌<◌, ◌≤◌, Bool, true, false, List, [], ◌∙◌, arith, rules, refl}
-use Rattle.law_order.specs.Items.{IsChannel, has_handover, pdus}
-use Rattle.law_order.specs.Logs.{Log, IsLeg, below}
-use Rattle.law_order.specs.Giving.{GiverLaw}
-use Rattle.law_order.specs.Shelves.{Shelves, Holds, ShelvedAt}
-use Rattle.law_order.specs.Passing.{PasserLaw, from_first}
-use Rattle.law_order.specs.Taking.{TakerLaw}
-use Rattle.law_order.specs.Routes.{IsRoute}
-use Rattle.law_order.specs.Examples.{sent, came, put, has_far_leg, proxies, replaced_twice}
+use Rattle.law_order.proofs.Vocabulary.{◌≡◌, ℕ, zero, suc, ◌<◌, ◌≤◌, Bool, true, false, List, [], ◌∙◌, arith, rules, refl, IsChannel, has_handover, pdus, Log, IsLeg, below, GiverLaw, Shelves, Holds, ShelvedAt, PasserLaw, from_first, TakerLaw, IsRoute}
 use Rattle.law_order.proofs.Prefixes.{prefix_self}
 use Rattle.law_order.proofs.PasserKeeps.{passer_starts}
+use Rattle.law_order.specs.Examples.{sent, came, put, has_far_leg, proxies, replaced_twice}
 
 sent_channel : (n : ℕ) → IsChannel (sent n)
 sent_channel zero = tt

@@ -1,9 +1,5 @@
 -- whatever an end that gives may do keeps its law
-use Rattle.std.proofs.Common.{◌≡◌, ◌≢◌, ℕ, suc, Bool, true, false, nat_eq, List, [], ◌∷◌, ◌++◌, arith, refl, sym, ◌∙◌, subst}
-use Rattle.std.proofs.lemmas.List.{append_assoc, append-nil}
-use Rattle.law_order.specs.Items.{Item, Piece, Stop, Handover, pdus, has_end, has_handover, IsChannel, IsJoined}
-use Rattle.law_order.specs.Logs.{Log, empty, more, below}
-use Rattle.law_order.specs.Giving.{Giver, GiverAt, GiverLaw, new_giver, Giving, Accepts, Closes, PutsPdu, PutsEnd, HandsOver, MayGive, gives, sent_by}
+use Rattle.law_order.proofs.Vocabulary.{◌≡◌, ◌≢◌, ℕ, suc, Bool, true, false, nat_eq, List, [], ◌∷◌, ◌++◌, arith, refl, sym, ◌∙◌, subst, append_assoc, append-nil, Item, Piece, Stop, Handover, pdus, has_end, has_handover, IsChannel, IsJoined, Log, empty, more, below, Giver, GiverAt, GiverLaw, new_giver, Giving, Accepts, Closes, PutsPdu, PutsEnd, HandsOver, MayGive, gives, sent_by}
 use Rattle.law_order.proofs.ItemLists.{pdus-append, has_end-append, has_handover-append, channel_push, channel_push_handover, joined_push, joined_push_pdu, neither}
 use Rattle.law_order.proofs.ByNumber.{by_test, other_number, more_here, more_other, below_more, change_each}
 

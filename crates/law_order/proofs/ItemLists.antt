@@ -1,6 +1,5 @@
 -- laws of lists of items
-use Rattle.std.proofs.Common.{◌≡◌, ℕ, Bool, true, false, ◌||◌, List, [], ◌∷◌, ◌++◌, refl, sym, ap, ◌∙◌}
-use Rattle.law_order.specs.Items.{Item, Piece, Stop, Handover, pdus, has_end, has_handover, IsBehindEnd, IsChannel, IsJoined}
+use Rattle.law_order.proofs.Vocabulary.{◌≡◌, ℕ, Bool, true, false, ◌||◌, List, [], ◌∷◌, ◌++◌, refl, sym, ap, ◌∙◌, Item, Piece, Stop, Handover, pdus, has_end, has_handover, IsBehindEnd, IsChannel, IsJoined}
 
 -- ---- what is among joined items
 
@@ -38,20 +37,7 @@ nil_front (x ∷ a) b e = absurd (cc)
 
 -- ---- one channel
 
-behind_front : (a b : List Item) → IsBehindEnd (a ++ b) → IsBehindEnd a
-behind_front [] b c = tt
-behind_front (Piece p ∷ a) b c = absurd c
-behind_front (Stop ∷ a) b c = absurd c
-behind_front (Handover ∷ a) b c = nil_front a b c
-
--- a front of a channel's items
-pub channel_front : (a b : List Item) → IsChannel (a ++ b) → IsChannel a
-channel_front [] b c = tt
-channel_front (Piece p ∷ a) b c = channel_front a b c
-channel_front (Stop ∷ a) b c = behind_front a b c
-channel_front (Handover ∷ a) b c = nil_front a b c
-
-behind_channel : (a : List Item) → IsBehindEnd a → IsChannel a
+pub behind_channel : (a : List Item) → IsBehindEnd a → IsChannel a
 behind_channel [] c = tt
 behind_channel (Piece p ∷ a) c = absurd c
 behind_channel (Stop ∷ a) c = absurd c

@@ -1,3 +1,4 @@
+pub mod Vocabulary
 pub mod ItemLists
 pub mod Prefixes
 pub mod ByNumber
@@ -5,7 +6,6 @@ pub mod GiverKeeps
 pub mod ShelvesKeep
 pub mod PasserKeeps
 pub mod TakerKeeps
-pub mod Hearing
 pub mod Streams
 pub mod OnTheWay
 pub mod Reaching

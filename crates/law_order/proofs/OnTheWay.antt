@@ -1,12 +1,5 @@
 -- while no leg loses anything, what was given is what was taken, and then what is on its way
-use Rattle.std.proofs.Common.{◌≡◌, ◌≢◌, ℕ, zero, suc, ◌+◌, ◌-◌, ◌<◌, ◌≤◌, Bool, true, false, nat_eq, nat_lt, nat_le, if◌then◌else◌, List, [], ◌++◌, arith, refl, sym, ap, ◌∙◌, subst}
-use Rattle.std.proofs.lemmas.List.{append_assoc, append-nil}
-use Rattle.std.proofs.lemmas.Bool.Decides.{nat_tests}
-use Rattle.law_order.specs.Items.{Item, pdus, has_handover}
-use Rattle.law_order.specs.Logs.{Log, below, through}
-use Rattle.law_order.specs.Shelves.{Shelves, Shelved}
-use Rattle.law_order.specs.Routes.{Route, IsRoute}
-use Rattle.law_order.specs.Paths.{reader, OnLegs, IsWhole, held_of, part, path}
+use Rattle.law_order.proofs.Vocabulary.{◌≡◌, ◌≢◌, ℕ, zero, suc, ◌+◌, ◌-◌, ◌<◌, ◌≤◌, Bool, true, false, nat_eq, nat_lt, nat_le, if◌then◌else◌, List, [], ◌++◌, arith, refl, sym, ap, ◌∙◌, subst, append_assoc, append-nil, nat_tests, Item, pdus, has_handover, Log, below, through, Shelves, Shelved, Route, IsRoute, reader, OnLegs, IsWhole, held_of, part, path}
 use Rattle.law_order.proofs.ItemLists.{pdus-append}
 use Rattle.law_order.proofs.Prefixes.{nothing_more}
 use Rattle.law_order.proofs.ByNumber.{same_number, other_number, test_same, test_other, below_empty}

@@ -1,14 +1,9 @@
 -- whatever a proxy may do keeps its law
-use Rattle.std.proofs.Common.{◌≡◌, ◌≢◌, ℕ, ◌≤◌, Bool, true, false, ◌||◌, List, [], ◌∷◌, ◌++◌, arith, refl, sym, ◌∙◌, subst}
-use Rattle.std.proofs.lemmas.List.{append-nil}
-use Rattle.std.proofs.lemmas.Bool.Decides.{nat_tests}
-use Rattle.law_order.specs.Items.{Item, Piece, Stop, Handover, pdus, has_end, has_handover}
-use Rattle.law_order.specs.Logs.{Log, empty}
-use Rattle.law_order.specs.Shelves.{Shelves, Alike, is_ended, Coming, PduNow, PduNext, EndNow, EndNext, EndLater, HandoverNow, HandoverNext, Follows, MovesOn, MayCome, comes, channel_of, items_of, came_by}
-use Rattle.law_order.specs.Passing.{Passer, PasserLaw, from_first, new_passer, Passing, Takes, PassesPdu, PassesEnd, PassesHandover, MayPass, passes, came_at, passed_items}
+use Rattle.law_order.proofs.Vocabulary.{◌≡◌, ◌≢◌, ℕ, ◌≤◌, Bool, true, false, ◌||◌, List, [], ◌∷◌, ◌++◌, arith, refl, sym, ◌∙◌, append-nil, nat_tests, Item, Piece, Stop, Handover, pdus, has_end, has_handover, Log, empty, is_ended, Coming, PduNow, PduNext, EndNow, EndNext, EndLater, HandoverNow, HandoverNext, Follows, MovesOn, MayCome, comes, channel_of, items_of, came_by, Passer, PasserLaw, from_first, new_passer, Passing, Takes, PassesPdu, PassesEnd, PassesHandover, MayPass}
+use Rattle.law_order.proofs.Vocabulary.{passes, came_at, passed_items}
 use Rattle.law_order.proofs.ItemLists.{pdus-append, has_end-append, has_handover-append, channel_push, channel_push_handover}
 use Rattle.law_order.proofs.ByNumber.{more_other}
-use Rattle.law_order.proofs.ShelvesKeep.{shelves_step, shelves_start, passed_on, shelves_alike}
+use Rattle.law_order.proofs.ShelvesKeep.{shelves_step, shelves_start, passed_on}
 
 -- what comes, comes on a near leg
 at_least : (x : Passer) (first : ℕ) (came : Log) (put : List Item) (what : Coming)
@@ -85,7 +80,7 @@ still_over x first came put HandoverNext may l e = l.over e
 still_over x first came put (Follows n) may l e = refl
 still_over x first came put (MovesOn n) may l e = refl
 
-passer_takes : (x : Passer) (first : ℕ) (came : Log) (put : List Item) (what : Coming)
+pub passer_takes : (x : Passer) (first : ℕ) (came : Log) (put : List Item) (what : Coming)
     → PasserLaw x first came put → MayPass x first (Takes what)
     → PasserLaw (passes x (Takes what)) first (came_by x.shelves what came) put
 passer_takes x first came put what l may = record {
@@ -183,25 +178,3 @@ passer_starts first = record {
   handover_came = λ t. absurd (cc);
   over = λ t. refl;
 }
-
-pub passer_alike : (x : Passer) (shelves : Shelves) (first : ℕ) (came : Log) (put : List Item)
-    → PasserLaw x first came put → Alike x.shelves shelves
-    → PasserLaw (record x { shelves = shelves }) first came put
-passer_alike x shelves first came put l e =
-    let ended : is_ended shelves ≡ is_ended x.shelves = rw (e.was_ended, e.now) refl in
-    record {
-      shelved = shelves_alike x.shelves shelves (from_first first) (pdus put) came e l.shelved;
-      from = rw e.current l.from;
-      unused = l.unused;
-      channel = l.channel;
-      end_put = l.end_put;
-      handover_put = l.handover_put;
-      end_came = λ t. let old = l.end_came t in (ended ∙ old.0, rw e.now old.1);
-      handover_came = λ t. let old = l.handover_came t in (rw e.now old.0, rw e.now old.1);
-      over = λ t. rw e.next (l.over (sym ended ∙ t));
-    }
-
--- what leaves the picture as it is, keeps its law
-pub passer_same : (x y : Passer) (first : ℕ) (came : Log) (put : List Item) → y ≡ x
-    → PasserLaw x first came put → PasserLaw y first came put
-passer_same x y first came put e l = subst (λ z. PasserLaw z first came put) (sym e) l

@@ -1,8 +1,5 @@
 -- laws of prefixes
-use Rattle.std.proofs.Common.{◌≡◌, List, [], ◌++◌, refl, sym, ap, ◌∙◌}
-use Rattle.std.proofs.lemmas.List.{append_assoc, append-nil, append_cancel_left}
-use mathlib.Core.List.{IsPrefix}
-use Rattle.law_order.specs.Items.{Item, pdus}
+use Rattle.law_order.proofs.Vocabulary.{◌≡◌, List, [], ◌++◌, refl, sym, ap, ◌∙◌, append_assoc, append-nil, append_cancel_left, IsPrefix, Item, pdus}
 use Rattle.law_order.proofs.ItemLists.{pdus-append, nil_front}
 
 pub prefix_self : {X : Type 0} (a : List X) → IsPrefix a a

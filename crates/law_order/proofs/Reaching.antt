@@ -1,11 +1,5 @@
 -- what was given begins with what was taken and what can still be taken
-use Rattle.std.proofs.Common.{◌≡◌, ℕ, zero, suc, ◌<◌, Bool, true, false, not, ◌||◌, nat_lt, if◌then◌else◌, List, [], ◌++◌, arith, refl, sym, ap, ◌∙◌, subst}
-use Rattle.std.proofs.lemmas.List.{append_assoc, append-nil, append_cancel_left}
-use Rattle.std.proofs.lemmas.Bool.Decides.{nat_tests}
-use mathlib.Core.List.{IsPrefix}
-use Rattle.law_order.specs.Items.{Item, pdus, has_end, has_handover, IsChannel}
-use Rattle.law_order.specs.Routes.{Route, IsRoute}
-use Rattle.law_order.specs.Paths.{reader, OnLegs, IsWhole, held_of, part, Losses, Arrives, Walk, advance, stops_at, arriving, walk_over, walk, with_queue, reach}
+use Rattle.law_order.proofs.Vocabulary.{◌≡◌, ℕ, zero, suc, ◌<◌, Bool, true, false, not, ◌||◌, nat_lt, if◌then◌else◌, List, [], ◌++◌, arith, refl, sym, ap, ◌∙◌, subst, append_assoc, append-nil, append_cancel_left, nat_tests, IsPrefix, Item, pdus, has_end, has_handover, IsChannel, Route, IsRoute, reader, OnLegs, IsWhole, held_of, part, Losses, Arrives, Walk, advance, stops_at, arriving, walk_over, walk, with_queue, reach}
 use Rattle.law_order.proofs.ItemLists.{handed_whole, ended_whole}
 use Rattle.law_order.proofs.Prefixes.{prefix_self, prefix_more, prefix_trans, prefix_behind}
 use Rattle.law_order.proofs.ByNumber.{by_test}

@@ -1,17 +1,12 @@
 -- whatever may come to a machine that is fed on several channels keeps its shelves
-use Rattle.std.proofs.Common.{◌||◌, ◌≡◌, ◌≢◌, ℕ, zero, suc, ◌+◌, ◌-◌, ◌<◌, Bool, true, false, nat_eq, nat_lt, if◌then◌else◌, List, [], ◌∷◌, ◌++◌, arith, refl, sym, ap, ◌∙◌, subst}
-use Rattle.std.proofs.lemmas.List.{append_assoc, append-nil}
-use Rattle.std.proofs.lemmas.Bool.Decides.{nat_tests}
-use Rattle.law_order.specs.Items.{Item, Piece, Stop, Handover, pdus, has_end, has_handover, IsChannel}
-use Rattle.law_order.specs.Logs.{Log, empty, change, more, below, through}
-use Rattle.law_order.specs.Shelves.{Shelves, Holds, ShelvedAt, Shelved, Alike, new_shelves, Coming, PduNow, PduNext, EndNow, EndNext, EndLater, HandoverNow, HandoverNext, Follows, MovesOn, MayCome, comes, came_by}
-use Rattle.law_order.specs.Passing.{with_held}
+use Rattle.law_order.proofs.Vocabulary.{◌||◌, ◌≡◌, ◌≢◌, ℕ, zero, suc, ◌+◌, ◌-◌, ◌<◌, Bool, true, false, nat_eq, nat_lt, if◌then◌else◌, List, [], ◌∷◌, ◌++◌, arith, refl, sym, ap, ◌∙◌, subst, append_assoc, append-nil, nat_tests, Item, Piece, Stop, Handover, pdus, has_end, has_handover, IsChannel, Log, empty, change, more, below, through, Shelves, Holds, ShelvedAt, Shelved, Alike, new_shelves, Coming, PduNow, PduNext, EndNow, EndNext, EndLater, HandoverNow, HandoverNext, Follows}
+use Rattle.law_order.proofs.Vocabulary.{MovesOn, MayCome, comes, came_by, with_held}
 use Rattle.law_order.proofs.ItemLists.{pdus-append, has_end-append, has_handover-append, channel_push, channel_push_handover, no_items}
 use Rattle.law_order.proofs.ByNumber.{by_test, same_number, more_here, more_other, more_none, below_more, change_each, below_empty}
 
 -- ---- one item more, on plain lists
 
-or_none : (b : Bool) → b ≡ b || false
+pub or_none : (b : Bool) → b ≡ b || false
 or_none true = refl
 or_none false = refl
 

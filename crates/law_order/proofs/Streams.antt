@@ -1,12 +1,5 @@
 -- one direction joined of its machines and legs: what was taken is a front of what was given
-use Rattle.std.proofs.Common.{◌≡◌, ℕ, zero, suc, ◌+◌, ◌-◌, ◌<◌, ◌≤◌, Bool, true, false, ◌||◌, nat_eq, nat_lt, nat_le, List, [], ◌++◌, arith, refl, sym, ap, ◌∙◌, subst}
-use Rattle.std.proofs.lemmas.List.{append_assoc, append-nil}
-use Rattle.std.proofs.lemmas.Bool.Decides.{nat_tests}
-use mathlib.Core.List.{IsPrefix}
-use Rattle.law_order.specs.Items.{Item, pdus, has_end, has_handover, IsChannel}
-use Rattle.law_order.specs.Logs.{Log, below, through}
-use Rattle.law_order.specs.Taking.{ReportsEnd}
-use Rattle.law_order.specs.Routes.{Route, IsRoute}
+use Rattle.law_order.proofs.Vocabulary.{◌≡◌, ℕ, zero, suc, ◌+◌, ◌-◌, ◌<◌, ◌≤◌, Bool, true, false, ◌||◌, nat_eq, nat_lt, nat_le, List, [], ◌++◌, arith, refl, sym, ap, ◌∙◌, subst, append_assoc, append-nil, nat_tests, IsPrefix, Item, pdus, has_end, has_handover, IsChannel, Log, below, through, ReportsEnd, Route, IsRoute}
 use Rattle.law_order.proofs.ItemLists.{pdus-append, has_end-append, handed_whole, ended_whole, all_ended, nil_front}
 use Rattle.law_order.proofs.Prefixes.{prefix_self, prefix_more, prefix_trans, prefix_pdus, prefix_behind, prefix_both}
 use Rattle.law_order.proofs.ByNumber.{same_number, other_number, below_empty, below_prefix}
@@ -269,7 +262,7 @@ record EndsAt (log : Log) (n : ℕ) : Type 0 where
   up : channel ≤ n
   ended : has_end (log channel) ≡ true
 
-or_false : (b : Bool) → b || false ≡ true → b ≡ true
+pub or_false : (b : Bool) → b || false ≡ true → b ≡ true
 or_false true e = refl
 or_false false e = e
 
@@ -290,7 +283,7 @@ ends_at log (suc n) e =
     record { channel = found.channel; up = omega (arith, found.up); ended = found.ended })
 
 -- END goes with what is behind it
-end_stays : (a b : List Item) → IsPrefix a b → has_end a ≡ true → has_end b ≡ true
+pub end_stays : (a b : List Item) → IsPrefix a b → has_end a ≡ true → has_end b ≡ true
 end_stays a b p e = rw (sym p.1, has_end-append, e) refl
 
 -- a far leg on which something came is one

@@ -1,7 +1,5 @@
 -- whatever an end that takes may do keeps its law
-use Rattle.std.proofs.Common.{◌≡◌, ℕ, zero, suc, ◌<◌, Bool, false, arith, sym, subst}
-use Rattle.law_order.specs.Logs.{Log, empty}
-use Rattle.law_order.specs.Taking.{Taker, TakerLaw, new_taker, Taking, Hears, TakesPdu, MayTake, takes, heard_by}
+use Rattle.law_order.proofs.Vocabulary.{◌≡◌, ℕ, zero, suc, ◌<◌, Bool, false, arith, Log, empty, Taker, TakerLaw, new_taker, Taking, Hears, TakesPdu, MayTake, takes, heard_by}
 use Rattle.law_order.proofs.ShelvesKeep.{shelves_step, shelves_start, passed_on}
 
 pub taker_step : (t : Taker) (legs : ℕ → Bool) (came : Log) (act : Taking) → TakerLaw t legs came
@@ -17,8 +15,3 @@ taker_starts legs none = shelves_start 1 legs (λ n b. below_one legs none n b)
     below_one : (legs : ℕ → Bool) → legs 0 ≡ false → (n : ℕ) → n < 1 → legs n ≡ false
     below_one legs none zero b = none
     below_one legs none (suc n) b = absurd (omega arith)
-
--- what leaves the picture as it is, keeps its law
-pub taker_same : (t u : Taker) (legs : ℕ → Bool) (came : Log) → u ≡ t → TakerLaw t legs came
-    → TakerLaw u legs came
-taker_same t u legs came e l = subst (λ x. TakerLaw x legs came) (sym e) l

@@ -1,6 +1,5 @@
 pub mod Items
 pub mod Logs
-pub mod Hearing
 pub mod Giving
 pub mod Shelves
 pub mod Passing

@@ -24,9 +24,6 @@ abbrev pub seen : {M : Type 0} → (M → List Item) → List M → List Item
 seen view [] = []
 seen view (m ∷ ms) = view m ++ seen view ms
 
-abbrev pub seen_log : {M : Type 0} → (M → List Item) → (ℕ → List M) → Log
-seen_log view log n = seen view (log n)
-
 -- the lists of the numbers below one, joined in order
 abbrev pub below : {X : Type 0} → (ℕ → List X) → ℕ → List X
 below lists zero = []

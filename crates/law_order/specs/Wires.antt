@@ -1,31 +1,6 @@
 -- the bytes of one direction of a leg, and what is read in them, by any reader (profile)
-use Rattle.std.specs.Prelude.{ℕ, Bool, true, false, List, [], ◌∷◌, ◌++◌, ◌≡◌}
+use Rattle.std.specs.Prelude.{ℕ, Bool, true, false, List, [], ◌++◌, ◌≡◌}
 use mathlib.Core.List.{IsPrefix}
-use Rattle.law_order.specs.Items.{Item}
-
--- what a reader makes of a byte: its next state, and the messages that are whole by it
-abbrev pub Reader : Type 0 → Type 0 → Type 0
-Reader S M = S → ℕ → S × List M
-
--- the messages in bytes, and the reader's state behind them
-abbrev pub state_after : {S M : Type 0} → Reader S M → S → List ℕ → S
-state_after reader s [] = s
-state_after reader s (b ∷ bytes) = state_after reader (reader s b).0 bytes
-
-abbrev pub messages : {S M : Type 0} → Reader S M → S → List ℕ → List M
-messages reader s [] = []
-messages reader s (b ∷ bytes) = (reader s b).1 ++ messages reader (reader s b).0 bytes
-
--- what was put, with bytes that were drawn and bytes that are begun, reads back; and what came was
--- read in a front of the bytes drawn
-pub record Carries {S : Type 0} (reader : Reader S Item) (start : S)
-    (put came : List Item) : Type 0 where
-  pub drawn : List ℕ
-  pub begun : List ℕ
-  pub fed : List ℕ
-  pub reads_back : messages reader start (drawn ++ begun) ≡ put
-  pub in_order : IsPrefix fed drawn
-  pub taken : IsPrefix came (messages reader start fed)
 
 -- ---- a wire
 
@@ -41,9 +16,6 @@ pub record Wire : Type 0 where
 pub record WireLaw (w : Wire) : Type 0 where
   pub in_order : IsPrefix w.fed w.drawn
   pub whole : w.lost ≡ false → w.drawn ≡ w.fed ++ w.flight
-
-abbrev pub new_wire : Wire
-new_wire = record { drawn = []; fed = []; flight = []; lost = false }
 
 pub data Event : Type 0 where
   -- bytes are drawn

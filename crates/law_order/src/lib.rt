@@ -1,20 +1,10 @@
 //! Order in one direction of a virtual connection, from laws of each machine alone.
 #![tactic(auto)]
 
-pub mod giving;
-pub mod logs;
-pub mod passing;
 pub mod route;
-pub mod taking;
-pub mod wire;
 
-pub use giving::a_giver_keeps_order;
-pub use logs::logs_grow;
-pub use passing::a_proxy_keeps_order;
 pub use route::{
     a_route_can_end, all_is_taken_at_a_clean_end, nothing_is_lost,
     nothing_is_taken_behind_a_clean_end, nothing_stands_behind_a_mark, taken_is_a_front_of_given,
     what_can_be_taken_was_given,
 };
-pub use taking::a_taker_keeps_order;
-pub use wire::{a_leg_carries_items, a_wire_keeps_order};

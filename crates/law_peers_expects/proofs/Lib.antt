@@ -1,4 +1,4 @@
-mod InProxyExpects
+pub mod InProxyExpects
 pub mod ClientExpects
-mod OutProxyExpects
+pub mod OutProxyExpects
 pub mod Asked

@@ -14,7 +14,4 @@ pub use in_proxy_expects::{
 pub use out_proxy_expects::{
     an_in_proxy_puts_quietly, an_out_proxy_expects_its_server, no_server_is_early,
 };
-pub use requests::{
-    an_out_proxy_answers_echoes_alone, an_out_proxy_expects_its_client,
-    what_an_out_proxy_serves_reads_well,
-};
+pub use requests::{an_out_proxy_answers_echoes_alone, what_an_out_proxy_serves_reads_well};

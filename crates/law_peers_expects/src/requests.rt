@@ -2,7 +2,5 @@
 //! echo, and expects what the client puts. The contracts of its functions are the laws.
 
 pub mod echoes;
-pub mod expects;
 
 pub use echoes::{an_out_proxy_answers_echoes_alone, what_an_out_proxy_serves_reads_well};
-pub use expects::an_out_proxy_expects_its_client;

@@ -1,8 +1,7 @@
 -- one answer for an IN channel at most is due at a server
-use Rattle.std.proofs.Common.{◌≡◌, ℕ, suc, ◌+◌, ◌≤◌, List, ◌++◌, subst, arith}
-use Rattle.rh_server.specs.States.{Server}
-use Rattle.law_moves.specs.Moves.{EndMove, Passage}
-use Rattle.law_role_server.specs.Counted.Answering.{AreAnswered, how_many, waits_on}
+use Rattle.law_order.proofs.Vocabulary.{◌≡◌, ℕ, suc, ◌+◌, ◌≤◌, List, ◌++◌, subst, arith}
+use Rattle.law_moves.proofs.Vocabulary.{EndMove, Passage}
+use Rattle.law_role_server.proofs.Vocabulary.{Server, AreAnswered, how_many, waits_on}
 use Rattle.law_peers_moments.specs.GoingRound.{GoRound, announced, taken_in}
 use Rattle.law_peers_moments.specs.Moments.{AreJoined, AreMade, IsMoment, IsPast, Moves, Numbers, client_behind, passages, server_behind}
 use Rattle.law_peers_in_channels.specs.InChannels.{passed}

@@ -1,19 +1,11 @@
 -- what a server wrote on OUT channels while one was the writing channel stands on the leg of that
-use Rattle.std.proofs.Common.{◌≡◌, ℕ, suc, ◌+◌, ◌≤◌, ◌==◌, Bool, true, false, if◌then◌else◌, List, [], ◌∷◌, ◌++◌, append_assoc, refl, sym, ap, ◌∙◌, arith}
-use Rattle.law_order.proofs.ByNumber.{test_same}
-use Rattle.rh_sig.specs.declared.named.Named.{Named}
-use Rattle.rh_line.specs.declared.leg.LegKind.{LegKind}
-use Rattle.rh_line.specs.declared.leg.LegKind.TheVariants.{ClientOut, OutServer, ClientIn, InServer}
-use Rattle.rh_shell.specs.Rules.{Message, Text, Pdu, Packet}
-use Rattle.rh_server.specs.States.{Server}
-use Rattle.law_moves.specs.Moves.{OnLeg, Passage}
-use Rattle.law_moves.specs.Wires.{of_leg}
-use Rattle.law_moves.specs.Passages.Passing.{count_of, of_kind}
-use Rattle.law_moves.proofs.Passages.Messages.{count_append}
-use Rattle.law_role_server.specs.Counted.Counting.{is_ack_to, is_out_r1_a9, leg_at, often}
-use Rattle.law_role_outproxy.specs.Counted.{os_leg}
-use Rattle.law_role_server_rows.specs.InTurn.Channels.{WritesOnBegun}
+use Rattle.law_order.proofs.Vocabulary.{◌≡◌, ℕ, suc, ◌+◌, ◌≤◌, ◌==◌, Bool, true, false, if◌then◌else◌, List, [], ◌∷◌, ◌++◌, append_assoc, refl, sym, ap, ◌∙◌, arith}
+use Rattle.law_moves.proofs.Vocabulary.{test_same, Named, LegKind, ClientOut, OutServer, ClientIn, InServer, Message, Text, Pdu, Packet, OnLeg, Passage, of_leg, count_of, of_kind}
+use Rattle.law_moves.proofs.Lemmas.{count_append}
+use Rattle.law_role_server.proofs.Vocabulary.{Server, is_ack_to, is_out_r1_a9, leg_at, often}
+use Rattle.law_role_outproxy.proofs.Vocabulary.{os_leg}
 use Rattle.law_role_server_rows.proofs.InTurn.Splits.{kind_append}
+use Rattle.law_role_server_rows.specs.InTurn.Channels.{WritesOnBegun}
 
 pub often_append : (test : Named → Bool) (a b : List OnLeg)
     → often test OutServer (a ++ b) ≡ often test OutServer a + often test OutServer b

@@ -1,24 +1,19 @@
 -- of which IN channels acknowledgements may come at a server behind a front of its moves
-use Rattle.std.proofs.Common.{◌≡◌, ◌⊎◌, inl, inr, ℕ, zero, suc, ◌+◌, ◌<◌, ◌≤◌, List, [], ◌∷◌, ◌++◌, length, append_assoc, refl, sym, ap, ◌∙◌, subst, arith}
-use Rattle.std.proofs.lemmas.List.{append-nil}
-use Rattle.rh_server.specs.Servers.{acts, first, rules}
-use Rattle.rh_server.specs.States.{Server}
-use Rattle.law_moves.specs.Moves.{AreAllowedAtEnd, EndMove, Passage, end_started}
-use Rattle.law_role_server.specs.Counted.Answering.{AreAnswered}
-use Rattle.law_role_server.specs.Counted.Counting.{in_came, is_in_r1_a2, is_in_r1_a6}
-use Rattle.law_role_server.specs.Counted.Opening.{OpensOnce}
+use Rattle.law_order.proofs.Vocabulary.{◌≡◌, ◌⊎◌, inl, inr, ℕ, zero, suc, ◌+◌, ◌<◌, ◌≤◌, List, [], ◌∷◌, ◌++◌, length, append_assoc, refl, sym, ap, ◌∙◌, subst, arith, append-nil}
+use Rattle.law_moves.proofs.Vocabulary.{AreAllowedAtEnd, EndMove, Passage, end_started}
+use Rattle.law_role_server.proofs.Vocabulary.{acts, first, rules, Server, AreAnswered, in_came, is_in_r1_a2, is_in_r1_a6, OpensOnce}
 use Rattle.law_peers_moments.specs.GoingRound.{GoRound, announced, taken_in}
 use Rattle.law_peers_moments.specs.Moments.{AreJoined, AreMade, IsMoment, Moves, Numbers, client_behind, passages, server_behind}
 use Rattle.law_role_server_in.specs.Handovers.{IsStillOpen, TwoAreOpen, answers}
 use Rattle.law_role_server_in.specs.Refusing.{came_at, first_at}
-use Rattle.law_peers_in_channels.specs.InChannels.{AreAnnounced, IsAnnouncedOn, channels, passed}
 use Rattle.law_peers_in_channels.proofs.InHandovers.Known.{connected}
-use Rattle.law_peers_forwarding.specs.ServerFull.Few.{IsAmong}
-use Rattle.law_peers_forwarding.specs.ServerFull.Taken.{due_in}
-use Rattle.law_peers_forwarding.specs.Late.{AreThese, FewAreLate, last_on}
+use Rattle.law_peers_in_channels.specs.InChannels.{AreAnnounced, IsAnnouncedOn, channels, passed}
 use Rattle.law_peers_forwarding.proofs.Answered.{all_answered, one_ahead}
 use Rattle.law_peers_forwarding.proofs.Search.{AtMost, Those, among_two, less_or_not, less_or_same, those_below, twice_as_many, two_of_each}
 use Rattle.law_peers_forwarding.proofs.Fronts.{BeforeLast, before_last, still_announced}
+use Rattle.law_peers_forwarding.specs.ServerFull.Few.{IsAmong}
+use Rattle.law_peers_forwarding.specs.ServerFull.Taken.{due_in}
+use Rattle.law_peers_forwarding.specs.Late.{AreThese, FewAreLate, last_on}
 
 -- what is known of a moment
 pub record Known (numbers : Numbers) (reader : ℕ → ℕ) (moves : Moves) : Type 0 where

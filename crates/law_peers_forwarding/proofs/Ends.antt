@@ -1,22 +1,12 @@
 -- the moves by which a server put the first and the last acknowledgement to the client of a stretch
-use Rattle.std.proofs.Common.{◌≡◌, ℕ, suc, ◌+◌, ◌<◌, ◌≤◌, Bool, if◌then◌else◌, List, [], ◌∷◌, ◌++◌, append_assoc, sym, ap, ◌∙◌, arith}
-use Rattle.std.specs.declared.option.Option.{Option}
-use Rattle.law_order.proofs.ByNumber.{test_same}
-use Rattle.rh_rts.specs.declared.command.Cookie.{Cookie}
-use Rattle.rh_sig.specs.declared.named.Named.{Named}
-use Rattle.rh_line.specs.declared.leg.LegKind.TheVariants.{OutServer}
-use Rattle.rh_shell.specs.Rules.{Message, Packet}
-use Rattle.rh_server.specs.States.{Server}
-use Rattle.rh_server.specs.Servers.{acts, first, rules}
-use Rattle.law_moves.specs.Moves.{EndMove, EndPassage, Moves, OnLeg, Puts, all_end_moved, end_started, put_by}
-use Rattle.law_moves.specs.Wires.{of_leg}
-use Rattle.law_moves.specs.Passages.Passing.{count_of, HasOne}
-use Rattle.law_moves.proofs.Passages.Messages.{count_append}
-use Rattle.law_role_server.specs.Counted.Counting.{is_ack_to, is_in_r1_a3, is_in_r2_a3, is_out_r1_a9, often, out_put}
+use Rattle.law_order.proofs.Vocabulary.{◌≡◌, ℕ, suc, ◌+◌, ◌<◌, ◌≤◌, Bool, if◌then◌else◌, List, [], ◌∷◌, ◌++◌, append_assoc, sym, ap, ◌∙◌, arith, Option}
+use Rattle.law_moves.proofs.Vocabulary.{test_same, Cookie, Named, OutServer, Message, Packet, EndMove, EndPassage, Moves, OnLeg, Puts, all_end_moved, end_started, put_by, of_leg, count_of, HasOne}
+use Rattle.law_moves.proofs.Lemmas.{count_append}
+use Rattle.law_role_server.proofs.Vocabulary.{Server, acts, first, rules, is_ack_to, is_in_r1_a3, is_in_r2_a3, is_out_r1_a9, often, out_put}
 use Rattle.law_role_server.proofs.Counted.Logs.{at_most_in}
-use Rattle.law_role_outproxy.specs.Counted.{os_leg}
-use Rattle.law_role_server_rows.specs.InTurn.Channels.{WritesOnBegun}
+use Rattle.law_role_outproxy.proofs.Vocabulary.{os_leg}
 use Rattle.law_role_server_rows.proofs.InTurn.Splits.{Split, split}
+use Rattle.law_role_server_rows.specs.InTurn.Channels.{WritesOnBegun}
 use Rattle.law_node_streams.proofs.Streams.EndMoves.{all_end_moved_append}
 use Rattle.law_peers_moments.specs.GoingRound.{taken_in}
 use Rattle.law_role_server_in.specs.Handovers.{passed}

@@ -1,29 +1,15 @@
 -- whatever moves a server makes, its os legs are in order and the writing one has room where no
 -- replacement is under way
-use Rattle.std.proofs.Common.{◌≡◌, ℕ, ◌≤◌, List, [], ◌∷◌, ◌++◌, Some, None, Ok, Err, refl, sym, ap, subst}
-use Rattle.std.specs.Prelude.{IfSome}
-use Rattle.rh_sig.specs.declared.named.Named.{Named}
-use Rattle.rh_line.specs.declared.leg.Leg.{Leg}
-use Rattle.rh_line.specs.declared.leg.LegKind.{LegKind}
-use Rattle.rh_line.specs.declared.leg.LegKind.TheVariants.{ClientOut, OutServer, ClientIn, InServer}
-use Rattle.rh_shell.specs.Rules.{Message, Pdu, Packet}
-use Rattle.rh_server.specs.Ending.{close, drawn_by, give, mark_by}
-use Rattle.rh_server.specs.InReplacement.{take}
-use Rattle.rh_server.specs.Opening.{Done, up}
-use Rattle.rh_server.specs.OutReplacement.{recycle}
-use Rattle.rh_server.specs.Putting.{Pick, put_in, put_out_at, put_by as put_by_kind}
-use Rattle.rh_server.specs.Servers.{acts, first, packet_by, pdu}
-use Rattle.rh_server.specs.Servers.{rules as server_rules}
-use Rattle.rh_server.specs.States.{Server, out_place}
-use Rattle.law_moves.proofs.Passages.Logs.{ActsKeep, PutKeeps, RowKeeps, StepsKeep, end_moves_keep}
-use Rattle.law_moves.specs.Moves.{EndMove, OnLeg, end_started}
-use Rattle.law_role_server.specs.Counted.Counting.{leg_at}
+use Rattle.law_order.proofs.Vocabulary.{◌≡◌, ℕ, ◌≤◌, List, [], ◌∷◌, ◌++◌, Some, None, Ok, Err, refl, sym, ap, subst, IfSome}
+use Rattle.law_moves.proofs.Vocabulary.{Named, Leg, LegKind, ClientOut, OutServer, ClientIn, InServer, Message, Pdu, Packet, EndMove, OnLeg, end_started}
+use Rattle.law_moves.proofs.Lemmas.{ActsKeep, PutKeeps, RowKeeps, StepsKeep, end_moves_keep}
+use Rattle.law_role_server.proofs.Vocabulary.{close, drawn_by, give, mark_by, take, Done, up, recycle, Pick, put_in, put_out_at, put_by as put_by_kind, acts, first, packet_by, pdu, rules as server_rules, Server, out_place, leg_at}
 use Rattle.law_role_server_in.specs.Handovers.{passed}
-use Rattle.law_peers_room.specs.ServerRoom.Overtaking.{AreLong, IsLong, IsLongOn}
 use Rattle.law_peers_room.proofs.ServerRoom.Overtaken.{Core, core, core_same}
 use Rattle.law_peers_room.proofs.ServerRoom.ViewPuts.{os_goes}
 use Rattle.law_peers_room.proofs.ServerRoom.ViewRows.{LongServes, drawn_serves, give_serves, mark_serves, packet_row, pdu_row, recycles, take_serves, up_serves}
 use Rattle.law_peers_room.proofs.ServerRoom.Views.{AreKept, View, view}
+use Rattle.law_peers_room.specs.ServerRoom.Overtaking.{AreLong, IsLong, IsLongOn}
 use Rattle.law_peers_forwarding.proofs.Ready.{IsFit, IsSettling, fit_kept, fit_put}
 
 pub long_before : (least : ℕ) (came : List OnLeg) (one : OnLeg)

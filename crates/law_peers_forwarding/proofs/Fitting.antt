@@ -1,33 +1,18 @@
 -- a server has room for what comes next: fifteen acknowledgements to the client wait there at most
-use Rattle.std.proofs.Common.{◌≡◌, ◌⊎◌, inl, inr, ℕ, ◌+◌, ◌==◌, ◌<◌, ◌≤◌, List, [], ◌∷◌, ◌++◌, append_assoc, length, Err, sym, ◌∙◌, subst, arith}
-use Rattle.std.proofs.lemmas.List.{append-nil, length-append}
-use Rattle.rh_keep.specs.declared.range.TheConstants.{LEAST_LIFETIME}
-use Rattle.law_order.proofs.ByNumber.{by_test, same_number}
-use Rattle.rh_rts.specs.declared.command.Cookie.{Cookie}
-use Rattle.rh_sig.specs.declared.named.Named.{Named}
-use Rattle.rh_sig.specs.declared.named.Named.TheVariants.{AckTo}
-use Rattle.rh_line.specs.declared.leg.Leg.{Leg}
-use Rattle.rh_shell.specs.declared.answers.Count.{Count}
+use Rattle.law_order.proofs.Vocabulary.{◌≡◌, ◌⊎◌, inl, inr, ℕ, ◌+◌, ◌==◌, ◌<◌, ◌≤◌, List, [], ◌∷◌, ◌++◌, append_assoc, length, Err, sym, ◌∙◌, subst, arith, append-nil, length-append}
 use Rattle.rh_shell.specs.declared.answers.Refused.TheVariants as refused
-use Rattle.rh_shell.specs.Rules.{Packet}
-use Rattle.rh_server.specs.declared.state.Stage.{Stage}
 use Rattle.rh_server.specs.declared.state.Stage.TheVariants as stage
-use Rattle.rh_server.specs.Acknowledging.{channel_leg, forwards_to, forwards_writing, on_ack_to}
-use Rattle.rh_server.specs.Opening.{Done, is_first, unexpected}
-use Rattle.rh_server.specs.Servers.{rules}
-use Rattle.rh_server.specs.States.{Server}
-use Rattle.law_moves.specs.Moves.{EndMove, Passage}
-use Rattle.law_moves.specs.Wires.{of_leg}
-use Rattle.law_moves.specs.ReadBack.Reading.{all_read_of}
-use Rattle.law_role_inproxy.specs.Counted.{is_leg}
-use Rattle.law_role_server.specs.Counted.Counting.{is_ack_to, waits_for}
-use Rattle.law_role_server.specs.Counted.Opening.{OpensOnce, since_conn_b2}
+use Rattle.law_moves.proofs.Vocabulary.{LEAST_LIFETIME, by_test, same_number, Cookie, Named, AckTo, Leg, Count, Packet, EndMove, Passage, of_leg, all_read_of}
+use Rattle.law_role_inproxy.proofs.Vocabulary.{is_leg}
+use Rattle.law_role_server.proofs.Vocabulary.{channel_leg, forwards_to, forwards_writing, on_ack_to, Done, is_first, unexpected, rules, Server, is_ack_to, waits_for, OpensOnce}
 use Rattle.law_peers_moments.specs.Expecting.{IsAhead}
 use Rattle.law_peers_moments.specs.Moments.{IsJoined, IsMoment, Moves, Numbers, client_behind, in_behind, server_behind}
 use Rattle.law_peers_moments.specs.GoingRound.{GoRound, taken_in}
 use Rattle.law_peers_in_channels.specs.InChannels.{channels, passed}
 use Rattle.law_peers_room.specs.ServerRoom.Forwarding.{ForwardsAcks, IsFullFor, is_ack_at}
 use Rattle.law_peers_room.specs.ServerRoom.Overtaking.{AreLong, is_ack_for}
+use Rattle.law_peers_forwarding.proofs.Lists.{UpTo, among_behind, among_front, among_next, as_many, next_ones, up_to}
+use Rattle.law_peers_forwarding.proofs.Opened.{once as since_few}
 use Rattle.law_peers_forwarding.specs.ServerFull.Few.{FewWait, IsAmong}
 use Rattle.law_peers_forwarding.specs.ServerFull.Filled.{FillsFirst, IsFilled}
 use Rattle.law_peers_forwarding.specs.ServerFull.Numbered.{IsLate}
@@ -36,7 +21,6 @@ use Rattle.law_peers_forwarding.specs.ServerFull.Taken.{FewAreTaken}
 use Rattle.law_peers_forwarding.specs.Late.{AreThese, FewAreLate}
 use Rattle.law_peers_forwarding.specs.Passing.{OneIsDue}
 use Rattle.law_peers_forwarding.specs.Fits.{HasRoom}
-use Rattle.law_peers_forwarding.proofs.Lists.{UpTo, among_behind, among_front, among_next, as_many, next_ones, up_to}
 
 -- ---- a refused acknowledgement is for the client or for an out proxy
 
@@ -55,13 +39,6 @@ has_place s count to received window channel =
     (λ g at i. absurd cc)))
 
 -- ---- how many channels were announced
-
-since_few : (at : Stage) → since_conn_b2 at ≤ 1
-since_few stage.Waits = omega arith
-since_few (stage.OutCame known) = omega arith
-since_few (stage.InCame known window timeout) = omega arith
-since_few (stage.Open known) = omega arith
-since_few stage.Ended = omega arith
 
 -- one more than were answered, and the first
 abbrev pub AreAnswered : Passage Server → Type 0

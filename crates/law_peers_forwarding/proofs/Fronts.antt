@@ -1,26 +1,17 @@
 -- the front of a server's moves behind which the last IN channel that was announced came
-use Rattle.std.proofs.Common.{◌≡◌, ℕ, suc, ◌≤◌, Bool, List, [], ◌∷◌, ◌++◌, append_assoc, sym, ap, ◌∙◌, subst, arith}
-use mathlib.Core.List.{IsPrefix}
-use Rattle.rh_sig.specs.declared.named.Named.{Named}
-use Rattle.law_moves.specs.Passages.Passing.{count_of}
-use Rattle.law_moves.proofs.Passages.Messages.{count_append}
-use Rattle.rh_line.specs.declared.leg.LegKind.TheVariants.{InServer}
-use Rattle.law_moves.specs.Moves.{EndMove, EndPassage, OnLeg, Passage, all_end_moved, end_moved, end_started}
-use Rattle.law_moves.specs.Wires.{of_leg}
-use Rattle.rh_server.specs.Servers.{acts, first, rules}
-use Rattle.rh_server.specs.States.{Server}
-use Rattle.law_role_server.specs.Counted.Answering.{AreAnswered}
-use Rattle.law_role_server.specs.Counted.Counting.{in_came, is_conn_b2, is_in_r1_a2, is_in_r1_a3, is_in_r2_a2, leg_at, out_put}
-use Rattle.law_role_server.specs.Counted.Opening.{OpensOnce}
-use Rattle.law_role_server_in.specs.Refusing.{came_at}
+use Rattle.law_order.proofs.Vocabulary.{◌≡◌, ℕ, suc, ◌≤◌, Bool, List, [], ◌∷◌, ◌++◌, append_assoc, sym, ap, ◌∙◌, subst, arith, IsPrefix}
+use Rattle.law_moves.proofs.Vocabulary.{Named, InServer, count_of, EndMove, EndPassage, OnLeg, Passage, all_end_moved, end_moved, end_started, of_leg}
+use Rattle.law_moves.proofs.Lemmas.{count_append, of_append as leg_append}
+use Rattle.law_role_server.proofs.Vocabulary.{acts, first, rules, Server, AreAnswered, in_came, is_conn_b2, is_in_r1_a2, is_in_r1_a3, is_in_r2_a2, leg_at, out_put, OpensOnce}
 use Rattle.law_peers_moments.specs.GoingRound.{announced, taken_in}
-use Rattle.law_peers_in_channels.specs.InChannels.{IsAnnouncedOn, channels, passed}
 use Rattle.law_peers_moments.specs.Moments.{Numbers}
+use Rattle.law_role_server_in.specs.Refusing.{came_at}
 use Rattle.law_peers_in_channels.proofs.ServerExpects.Fronts.{IsOneMore, behind_all, one_more}
 use Rattle.law_peers_in_channels.proofs.InHandovers.Crossing.{Crossing, crossing}
 use Rattle.law_peers_in_channels.proofs.InHandovers.Known.{connected, none_waits}
 use Rattle.law_peers_in_channels.proofs.InHandovers.Rising.{announced_by}
-use Rattle.law_peers_forwarding.proofs.ServerFull.Late.{came_grows, leg_append}
+use Rattle.law_peers_in_channels.specs.InChannels.{IsAnnouncedOn, channels, passed}
+use Rattle.law_peers_forwarding.proofs.ServerFull.Late.{came_grows}
 
 -- ---- what was announced stays
 

@@ -1,27 +1,12 @@
 -- an acknowledgement to the client goes where the meter of the channel that writes lets it
-use Rattle.std.proofs.Common.{◌≡◌, ℕ, suc, ◌≤◌, ◌==◌, ◌&&◌, Bool, true, false, if◌then◌else◌, List, [], ◌∷◌, Some, None, refl, sym, ap, ◌∙◌, subst, arith}
-use Rattle.std.proofs.lemmas.Bool.{and_parts, false≢true}
-use Rattle.std.proofs.lemmas.Option.{get_or_from_slice_get}
-use Rattle.std.proofs.lemmas.List.Quantifiers.{position-Some}
-use Rattle.std.specs.Prelude.{IfSome, find, slice_get}
-use Rattle.std.specs.declared.option.Option.{Option}
-use Rattle.rh_keep.specs.Meters.{may_put}
-use Rattle.law_order.proofs.ByNumber.{by_test, same_number}
-use Rattle.rh_sig.specs.declared.named.Named.{Named}
+use Rattle.law_order.proofs.Vocabulary.{◌≡◌, ℕ, suc, ◌≤◌, ◌==◌, ◌&&◌, Bool, true, false, if◌then◌else◌, List, [], ◌∷◌, Some, None, refl, sym, ap, ◌∙◌, subst, arith, and_parts, false≢true, IfSome, find, slice_get, Option}
 use Rattle.rh_sig.specs.declared.named.Named.TheVariants as named
-use Rattle.rh_line.specs.Queue.{front_length}
-use Rattle.rh_shell.specs.declared.due.Due.{Due}
-use Rattle.rh_shell.specs.NearEnds.{first_of}
-use Rattle.rh_shell.specs.Rules.{Message, Text, Pdu, Packet}
-use Rattle.rh_shell.specs.Waiting.{Waiting, taken}
 use Rattle.rh_server.specs.declared.state.EndMark.TheVariants as end_mark
-use Rattle.rh_server.specs.declared.state.OutLeg.{OutLeg}
-use Rattle.rh_server.specs.OutLines.{Gate, lets, lets_packet}
-use Rattle.rh_server.specs.States.{Server, is_due, is_open, out_at, out_leg, out_place, same_cookie}
-use Rattle.rh_server.specs.Putting.{Pick, or_else, counts, gate, gate_at, goes, is_end_due, may_end_at, may_go_at, next_out, out_greeting_at, pdu_by, put_end, put_open, put_out_at, put_out_greeting, put_pdu, put_pdu_or_end, put_waiting, settled_pick, waiting_at, waiting_by}
-use Rattle.rh_server.specs.Servers.{rules}
-use Rattle.law_role_server.specs.Counted.Counting.{is_ack_to, waiting_of, waits_for}
-use Rattle.law_role_outproxy.specs.Counted.{os_leg}
+use Rattle.law_moves.proofs.Vocabulary.{may_put, by_test, same_number, Named, front_length, Due, first_of, Message, Text, Pdu, Packet, Waiting, taken}
+use Rattle.law_role_server.proofs.Vocabulary.{OutLeg, Gate, lets, lets_packet, Server, is_due, is_open, out_at, out_leg, out_place, same_cookie, Pick, or_else, counts, gate, gate_at, goes, is_end_due, may_end_at, may_go_at, next_out, out_greeting_at, pdu_by, put_end, put_open, put_out_at, put_out_greeting, put_pdu, put_pdu_or_end, put_waiting, settled_pick, waiting_at, waiting_by, rules, is_ack_to, waiting_of, waits_for}
+use Rattle.law_role_server.proofs.Counted.Dues.{found_may}
+use Rattle.law_role_server.proofs.Counted.Replacing.{found_number}
+use Rattle.law_role_outproxy.proofs.Vocabulary.{os_leg}
 
 -- one waits, and the writing channel has room for it
 pub record AckMayGo (s : Server) : Type 0 where
@@ -31,13 +16,6 @@ pub record AckMayGo (s : Server) : Type 0 where
   pub waits : 1 ≤ waits_for (is_ack_to 0) s
 
 -- ---- what waits
-
-found_may : (may_go : Due → Bool) (dues : List Due)
-    → IfSome (find may_go dues) (λ (due : Due). may_go due ≡ true)
-found_may may_go [] = tt
-found_may may_go (due ∷ dues) =
-    by_test (λ o. IfSome o (λ (d : Due). may_go d ≡ true)) (may_go due) (Some due)
-    (find may_go dues) (λ e. e) (λ e. found_may may_go dues)
 
 abbrev IsCounted : (Named → Bool) → List Due → Option Due → Type 0
 IsCounted test dues found =
@@ -60,15 +38,6 @@ found_counts may_go test (due ∷ dues) =
     later : (o : Option Due) → IsCounted test dues o → IsCounted test (due ∷ dues) o
     later None h = tt
     later (Some d) h = λ is. more (test due.packet) (h is)
-
--- ---- the leg that is found
-
-found_number : (n place : ℕ) (legs : List OutLeg) (leg : OutLeg)
-    → out_place n legs ≡ Some place → slice_get legs place ≡ Some leg → leg.number ≡ n
-found_number n place legs leg e at =
-    let found = position-Some (λ (one : OutLeg). one.number == n) legs place leg e in
-    same_number leg.number n (ap (λ (one : OutLeg). one.number == n)
-    (sym (get_or_from_slice_get legs place leg leg at)) ∙ found.1)
 
 -- ---- the gate
 

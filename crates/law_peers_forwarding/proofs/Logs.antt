@@ -1,23 +1,15 @@
 -- what a server's log of puts tells: its answers to IN channels, and those behind OUT_R1/A1
-use Rattle.std.proofs.Common.{◌≡◌, ℕ, suc, ◌+◌, ◌≤◌, ◌==◌, Bool, true, false, if◌then◌else◌, List, [], ◌∷◌, ◌++◌, refl, sym, ap, ◌∙◌, subst, arith}
-use Rattle.std.proofs.lemmas.List.{append-nil}
-use Rattle.law_order.proofs.ByNumber.{test_same}
-use Rattle.rh_rts.specs.declared.command.Cookie.{Cookie}
-use Rattle.rh_sig.specs.declared.named.Named.{Named}
+use Rattle.law_order.proofs.Vocabulary.{◌≡◌, ℕ, suc, ◌+◌, ◌≤◌, ◌==◌, Bool, true, false, if◌then◌else◌, List, [], ◌∷◌, ◌++◌, refl, sym, ap, ◌∙◌, subst, arith, append-nil}
 use Rattle.rh_sig.specs.declared.named.Named.TheVariants as named
-use Rattle.rh_line.specs.declared.leg.LegKind.TheVariants.{OutServer, InServer}
-use Rattle.rh_shell.specs.Rules.{Message, Text, Pdu, Packet}
-use Rattle.law_moves.specs.Passages.Passing.{count_of, of_kind}
-use Rattle.law_moves.proofs.Passages.Messages.{count_append, count_rises, kind_more, leg_more}
+use Rattle.law_moves.proofs.Vocabulary.{test_same, Cookie, Named, OutServer, InServer, Message, Text, Pdu, Packet, count_of, OnLeg, of_leg}
+use Rattle.law_moves.proofs.Lemmas.{count_append, count_rises, leg_more}
 use Rattle.law_moves.specs.PacketKinds as kinds
-use Rattle.law_moves.specs.Moves.{OnLeg}
-use Rattle.law_moves.specs.Wires.{of_leg}
-use Rattle.law_role_server.specs.Counted.Counting.{is_in_r1_a3, is_in_r2_a3, is_out_r1_a1, leg_at, often, often_at}
-use Rattle.law_role_server.proofs.Counted.Logs.{at_here, often_at_more, often_more}
-use Rattle.law_role_outproxy.specs.Counted.{os_leg}
+use Rattle.law_role_server.proofs.Counted.Logs.{at_here, often_at_more}
+use Rattle.law_role_server.proofs.Vocabulary.{is_in_r1_a3, is_in_r2_a3, is_out_r1_a1, leg_at, often, often_at}
+use Rattle.law_role_outproxy.proofs.Vocabulary.{os_leg}
+use Rattle.law_peers_room.proofs.ServerRoom.Overtaken.{more_there as often_one, same_there as in_often}
 use Rattle.law_peers_room.specs.OutRoom.Waits.{behind, is_in_a3}
 use Rattle.law_peers_room.specs.ServerRoom.Overtaking.{is_ack_for}
-use Rattle.law_peers_room.proofs.ServerRoom.ServerPuts.{is_acked}
 use Rattle.law_peers_forwarding.proofs.PhasePuts.{Rises, answers, is_wish_in}
 
 -- ---- counts
@@ -90,12 +82,6 @@ one_wish (Text bytes) e = absurd cc
 one_wish (Pdu pdu) e = absurd cc
 one_wish (Packet packet) e = ap (λ (b : Bool). if b then suc 0 else 0) e
 
-pub one_ack : (channel : Cookie) (m : Message) → is_acked channel m ≡ true
-    → count_of (is_ack_for channel) (m ∷ []) ≡ 1
-one_ack channel (Text bytes) e = absurd cc
-one_ack channel (Pdu pdu) e = absurd cc
-one_ack channel (Packet packet) e = ap (λ (b : Bool). if b then suc 0 else 0) e
-
 -- ---- the log
 
 -- answers that were put, OUT_R1/A1 on an os leg, and the answers behind it there
@@ -107,11 +93,6 @@ asked_on n put = often_at is_out_r1_a1 OutServer n put
 
 abbrev pub more_on : ℕ → List OnLeg → ℕ
 more_on n put = behind_first (of_leg (os_leg n) put)
-
-often_one : (test : Named → Bool) (n : ℕ) (m : Message) (put : List OnLeg)
-    → often test OutServer (put ++ (leg_at OutServer n, m) ∷ [])
-    ≡ often test OutServer put + count_of test (m ∷ [])
-often_one test n m put = often_more test OutServer put (leg_at OutServer n, m)
 
 pub acks_more : (channel : Cookie) (n : ℕ) (m : Message) (put : List OnLeg)
     → often (is_ack_for channel) OutServer (put ++ (leg_at OutServer n, m) ∷ [])
@@ -156,12 +137,6 @@ rises n from m put = record {
 }
 
 -- ---- a message on an is leg
-
-pub in_often : (test : Named → Bool) (n : ℕ) (m : Message) (put : List OnLeg)
-    → often test OutServer (put ++ (leg_at InServer n, m) ∷ []) ≡ often test OutServer put
-in_often test n m put =
-    ap (count_of test) (kind_more OutServer put (leg_at InServer n, m)
-    ∙ append-nil (of_kind OutServer put))
 
 pub in_put_in : (n : ℕ) (m : Message) (put : List OnLeg)
     → put_in (put ++ (leg_at InServer n, m) ∷ []) ≡ put_in put

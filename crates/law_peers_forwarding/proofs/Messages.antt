@@ -1,13 +1,9 @@
 -- the first and the last acknowledgement to the client of a stretch, and what stands between them
-use Rattle.std.proofs.Common.{◌≡◌, ◌⊎◌, inl, inr, ℕ, zero, suc, ◌+◌, ◌≤◌, Bool, true, false, if◌then◌else◌, List, [], ◌∷◌, ◌++◌, refl, sym, ap, ◌∙◌, subst, arith}
-use Rattle.law_order.proofs.ByNumber.{same_number}
-use Rattle.rh_rts.specs.declared.command.Cookie.{Cookie}
-use Rattle.rh_sig.specs.declared.named.Named.{Named}
+use Rattle.law_order.proofs.Vocabulary.{◌≡◌, ◌⊎◌, inl, inr, ℕ, zero, suc, ◌+◌, ◌≤◌, Bool, true, false, if◌then◌else◌, List, [], ◌∷◌, ◌++◌, refl, sym, ap, ◌∙◌, subst, arith}
 use Rattle.rh_sig.specs.declared.named.Named.TheVariants as named
-use Rattle.rh_shell.specs.Rules.{Message, Text, Pdu, Packet}
-use Rattle.law_moves.specs.Passages.Passing.{count_of, HasOne}
-use Rattle.law_moves.proofs.Passages.Messages.{count_append}
-use Rattle.law_role_server.specs.Counted.Counting.{is_ack_to, is_in_r1_a3, is_in_r2_a3}
+use Rattle.law_moves.proofs.Vocabulary.{same_number, Cookie, Named, Message, Text, Pdu, Packet, count_of, HasOne}
+use Rattle.law_moves.proofs.Lemmas.{count_append}
+use Rattle.law_role_server.proofs.Vocabulary.{is_ack_to, is_in_r1_a3, is_in_r2_a3}
 use Rattle.law_peers_room.specs.OutRoom.Waits.{AcksFor, behind, is_in_a3}
 use Rattle.law_peers_room.specs.ServerRoom.Overtaking.{is_ack_for}
 use Rattle.law_peers_forwarding.proofs.ServerFull.Longest.{for_itself, is_for}

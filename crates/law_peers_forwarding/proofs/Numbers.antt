@@ -1,11 +1,9 @@
 -- no more cookies than numbers of their channels
-use Rattle.std.proofs.Common.{◌≡◌, inl, inr, ℕ, zero, suc, ◌+◌, ◌<◌, ◌≤◌, nat_lt, Bool, true, false, List, [], ◌∷◌, ◌++◌, length, refl, subst, arith}
-use Rattle.std.proofs.lemmas.Bool.Decides.{nat_tests}
-use Rattle.std.specs.List.{AllByRecursion}
-use Rattle.rh_rts.specs.declared.command.Cookie.{Cookie}
+use Rattle.law_order.proofs.Vocabulary.{◌≡◌, inl, inr, ℕ, zero, suc, ◌+◌, ◌<◌, ◌≤◌, nat_lt, Bool, true, false, List, [], ◌∷◌, length, refl, subst, arith, nat_tests, AllByRecursion}
+use Rattle.law_moves.proofs.Vocabulary.{Cookie}
 use Rattle.law_peers_room.specs.OutRoom.Waits.{AreDifferent}
-use Rattle.law_peers_forwarding.specs.ServerFull.Few.{IsAmong}
 use Rattle.law_peers_forwarding.proofs.ServerFull.Counting.{Less, less}
+use Rattle.law_peers_forwarding.specs.ServerFull.Few.{IsAmong}
 
 -- ---- cookies
 
@@ -65,12 +63,3 @@ among_next n (suc k) i above below =
     by false e rest =
         let most : i ≤ suc n = grind (arith, nat_tests, e) in
         inl (omega (arith, most, above))
-
-pub among_first : (i : ℕ) (some more : List ℕ) → IsAmong i some → IsAmong i (some ++ more)
-among_first i [] more is = absurd is
-among_first i (n ∷ some) more (inl is) = inl is
-among_first i (n ∷ some) more (inr is) = inr (among_first i some more is)
-
-pub among_second : (i : ℕ) (some more : List ℕ) → IsAmong i more → IsAmong i (some ++ more)
-among_second i [] more is = is
-among_second i (n ∷ some) more is = inr (among_second i some more is)

@@ -1,15 +1,14 @@
 -- no more IN channels are announced than were answered, but for the first and one that is asked for
-use Rattle.std.proofs.Common.{◌≡◌, ℕ, ◌+◌, ◌≤◌, List, ◌++◌, subst, arith}
-use Rattle.rh_server.specs.declared.state.Stage.{Stage}
+use Rattle.law_order.proofs.Vocabulary.{◌≡◌, ℕ, ◌+◌, ◌≤◌, List, ◌++◌, subst, arith}
 use Rattle.rh_server.specs.declared.state.Stage.TheVariants as stage
-use Rattle.law_moves.specs.Moves.{EndMove}
-use Rattle.law_role_server.specs.Counted.Opening.{OpensOnce, since_conn_b2}
+use Rattle.law_moves.proofs.Vocabulary.{EndMove}
+use Rattle.law_role_server.proofs.Vocabulary.{Stage, OpensOnce, since_conn_b2}
 use Rattle.law_peers_moments.specs.GoingRound.{GoRound, taken_in}
 use Rattle.law_peers_moments.specs.Moments.{AreJoined, AreMade, IsMoment, IsPast, Moves, Numbers, client_behind, passages, server_behind}
 use Rattle.law_role_server_in.specs.Handovers.{passed}
 use Rattle.law_peers_in_channels.specs.InChannels.{channels}
 
-once : (x : Stage) → since_conn_b2 x ≤ 1
+pub once : (x : Stage) → since_conn_b2 x ≤ 1
 once stage.Waits = omega arith
 once (stage.OutCame connection) = omega arith
 once (stage.InCame connection window timeout) = omega arith

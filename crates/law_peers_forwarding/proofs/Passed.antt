@@ -1,68 +1,37 @@
 -- few answers pass an acknowledgement to the client that waits at a server, whatever happens
-use Rattle.std.proofs.Common.{◌≡◌, inl, inr, ℕ, zero, suc, ◌+◌, ◌*◌, ◌<◌, ◌≤◌, ◌&&◌, ◌||◌, Bool, true, false, nat_lt, not, if◌then◌else◌, List, [], ◌∷◌, ◌++◌, length, Some, None, Ok, Err, refl, sym, ap, ◌∙◌, subst, arith}
-use Rattle.std.proofs.lemmas.Bool.Decides.{nat_tests}
-use Rattle.std.proofs.lemmas.List.{append_assoc, append-nil}
-use Rattle.std.specs.Prelude.{IfSome, find, slice_get}
-use Rattle.std.specs.declared.option.Option.{Option}
-use Rattle.std.specs.declared.result.Result.{Result}
-use Rattle.rh_keep.specs.Meters.{Meter, may_put}
-use Rattle.rh_rts.specs.declared.command.Cookie.{Cookie}
-use Rattle.rh_sig.specs.declared.named.Named.{Named}
+use Rattle.law_order.proofs.Vocabulary.{◌≡◌, inl, inr, ℕ, zero, suc, ◌+◌, ◌*◌, ◌<◌, ◌≤◌, ◌&&◌, ◌||◌, Bool, true, false, nat_lt, not, if◌then◌else◌, List, [], ◌∷◌, ◌++◌, length, Some, None, Ok, Err, refl, sym, ap, ◌∙◌, subst, arith, nat_tests, append_assoc, append-nil, IfSome, find, slice_get, Option, Result}
 use Rattle.rh_sig.specs.declared.named.Named.TheVariants as named
-use Rattle.rh_line.specs.declared.leg.Leg.{Leg}
-use Rattle.rh_line.specs.declared.leg.LegKind.{LegKind}
-use Rattle.rh_line.specs.declared.leg.LegKind.TheVariants.{ClientOut, OutServer, ClientIn, InServer}
-use Rattle.rh_shell.specs.declared.due.Due.{Due}
-use Rattle.rh_shell.specs.declared.due.Origin.TheVariants.{Own}
-use Rattle.rh_shell.specs.declared.end_role.GiveRefused.{GiveRefused}
-use Rattle.rh_shell.specs.Rules.{Message, Pdu, Packet}
 use Rattle.rh_shell.specs.Waiting.{is_of}
 use Rattle.rh_server.specs.declared.out_line.Kind.TheVariants as kind
-use Rattle.rh_server.specs.declared.state.OutLeg.{OutLeg}
-use Rattle.rh_server.specs.declared.state.Replacement.{Replacement}
 use Rattle.rh_server.specs.declared.state.Replacement.TheVariants as replacement
-use Rattle.rh_server.specs.Ending.{close, drawn_by, give, mark_by}
-use Rattle.rh_server.specs.InReplacement.{take}
-use Rattle.rh_server.specs.Opening.{Done, up}
-use Rattle.rh_server.specs.OutLines.{is_kind, is_own}
-use Rattle.rh_server.specs.OutReplacement.{last_number, recycle}
-use Rattle.rh_server.specs.Putting.{Pick, put_in, put_out_at, put_by as put_by_kind}
-use Rattle.rh_server.specs.Servers.{acts, first, packet_by, pdu}
-use Rattle.rh_server.specs.Servers.{rules as server_rules}
-use Rattle.rh_server.specs.States.{Server, is_some, is_steady, out_at, out_leg, out_place}
-use Rattle.law_moves.specs.Passages.Passing.{count_of}
-use Rattle.law_moves.specs.Moves.{OnLeg, Up, HeadCame, PduCame, PacketCame, Puts, IsDrawn, Marks, Pings, Passage, taken_by, put_by, EndMove, Moves, Gives, Takes, Closes, Recycles, EndPassage, end_moved, end_now_at, given_by, with_first, all_end_moved, end_started, now_at}
-use Rattle.law_role_server.specs.Counted.Counting.{is_out_r1_a1, is_out_r1_a5, is_out_r1_a9, leg_at, often, out_put, waiting_of, waits_for}
-use Rattle.law_role_server.specs.Counted.Replacing.{AreReplaced, since_answered, since_asked, since_confirmed}
+use Rattle.law_moves.proofs.Vocabulary.{Cookie, Named, Leg, LegKind, ClientOut, OutServer, ClientIn, InServer, Due, Own, GiveRefused, Message, Pdu, Packet, count_of, OnLeg, Up, HeadCame, PduCame, PacketCame, Puts, IsDrawn, Marks, Pings, Passage, taken_by, put_by, EndMove, Moves, Gives, Takes, Closes, Recycles, EndPassage, end_moved, end_now_at, given_by, with_first, all_end_moved, end_started, now_at}
+use Rattle.law_role_server.proofs.Vocabulary.{OutLeg, Replacement, close, drawn_by, give, mark_by, take, Done, up, is_kind, is_own, last_number, recycle, Pick, put_in, put_out_at, put_by as put_by_kind, acts, first, packet_by, pdu, rules as server_rules, Server, is_some, is_steady, out_at, out_leg, out_place, is_out_r1_a1, is_out_r1_a5, is_out_r1_a9, leg_at, often, out_put, waiting_of, waits_for, AreReplaced, since_answered, since_asked, since_confirmed}
 use Rattle.law_role_server.proofs.Counted.Replacing.{are_put_in_turn, are_replaced}
+use Rattle.law_role_server.proofs.Each.{each_got}
+use Rattle.law_role_server.proofs.Gives.{found as number_found}
 use Rattle.law_node_streams.proofs.Streams.EndMoves.{all_end_moved_append}
 use Rattle.law_peers_moments.specs.GoingRound.{taken_in}
 use Rattle.law_role_server_in.specs.Handovers.{passed}
-use Rattle.law_peers_room.specs.OutRoom.Waits.{is_in_a3}
-use Rattle.law_peers_room.specs.ServerRoom.Overtaking.{AreLong, IsLong, is_ack_for}
-use Rattle.law_peers_room.proofs.ServerRoom.Ahead as ahead
-use Rattle.law_peers_room.proofs.ServerRoom.Legs.{each_got}
 use Rattle.law_peers_room.proofs.ServerRoom.Meters.{Base, seen}
-use Rattle.law_peers_room.proofs.ServerRoom.Overtaken.{bases}
-use Rattle.law_peers_room.proofs.ServerRoom.Serving.{number_found}
+use Rattle.law_peers_room.proofs.ServerRoom.Overtaken.{bases, same_there as in_often, acked_one as one_ack}
 use Rattle.law_peers_room.proofs.ServerRoom.ViewPuts.{os_goes}
 use Rattle.law_peers_room.proofs.ServerRoom.ViewRows.{LongServes, drawn_serves, give_serves, mark_serves, packet_row, pdu_row, recycles, take_serves, up_serves}
 use Rattle.law_peers_room.proofs.ServerRoom.Views.{AreKept, View, view}
-use Rattle.law_peers_forwarding.specs.ServerFull.Taken.{due_in}
+use Rattle.law_peers_room.proofs.ServerRoom.Ahead as ahead
+use Rattle.law_peers_room.specs.OutRoom.Waits.{is_in_a3}
+use Rattle.law_peers_room.specs.ServerRoom.Overtaking.{AreLong, IsLong, is_ack_for}
 use Rattle.law_peers_forwarding.proofs.ServerFull.Longest.{put_grows}
-use Rattle.law_peers_forwarding.specs.Passing.{FewPass, MayGoOn, OneIsDue, behind_wish, lets_acks_on}
 use Rattle.law_peers_forwarding.proofs.Fits.{are_fit, in_same, long_before}
-use Rattle.law_peers_forwarding.proofs.Logs.{acks_more, asked_on, behind_first, in_leg_same, in_often, in_put_in, more_on, one_ack, put_in as answers_in, put_more, rises}
-use Rattle.law_peers_forwarding.proofs.PhasePuts.{IsGone, phase_put}
-use Rattle.law_peers_forwarding.proofs.Phases.{Phase, Early, Asking, Wished, Late, Over, AreSo, IsPhase, IsShort, IsSo, Stands, so_kept}
+use Rattle.law_peers_forwarding.proofs.Logs.{acks_more, asked_on, behind_first, in_leg_same, in_put_in, more_on, put_in as answers_in, put_more, rises}
+use Rattle.law_peers_forwarding.proofs.PhasePuts.{IsGone, phase_put, wide_so}
+use Rattle.law_peers_forwarding.proofs.Phases.{Phase, Early, Asking, Wished, Late, Over, AreSo, IsPhase, IsShort, IsSo, Stands, so_kept, other_way}
 use Rattle.law_peers_forwarding.proofs.Ready.{AreReady, under}
 use Rattle.law_peers_forwarding.proofs.Spans.{both_kinds, found_there, span, span_all}
+use Rattle.law_peers_forwarding.proofs.ServerFull.Filling.{and_none}
+use Rattle.law_peers_forwarding.specs.ServerFull.Taken.{due_in}
+use Rattle.law_peers_forwarding.specs.Passing.{FewPass, MayGoOn, OneIsDue, behind_wish, lets_acks_on}
 
 -- ---- where no replacement is under way, no packet of one waits
-
-and_none : (a b : Bool) → b ≡ false → a && b ≡ false
-and_none true b e = e
-and_none false b e = refl
 
 no_wishes : (dues : List Due)
     → waiting_of is_out_r1_a1 dues + waiting_of is_out_r1_a5 dues + waiting_of is_out_r1_a9 dues
@@ -127,12 +96,6 @@ none_under p are steady =
 
 below_so : (a b : ℕ) → a < b → nat_lt a b ≡ true
 below_so a b h = grind (arith, nat_tests)
-
-wide_so : (m : Meter) → may_put m 56 ≡ true → m.count + 312 ≤ m.length
-wide_so m e = grind (arith, nat_tests)
-
-other_way : true ≡ false → ⊥
-other_way e = absurd cc
 
 -- ---- the law
 

@@ -1,54 +1,31 @@
 -- what a server puts on os legs keeps how far an acknowledgement to the client has come that waits
-use Rattle.std.proofs.Common.{◌≡◌, ◌⊎◌, inl, inr, ℕ, suc, ◌+◌, ◌*◌, ◌≤◌, ◌==◌, ◌&&◌, Bool, true, false, nat_lt, if◌then◌else◌, List, [], ◌∷◌, Some, None, refl, sym, ap, ◌∙◌, subst, arith}
-use Rattle.std.proofs.lemmas.Bool.Decides.{nat_tests}
-use Rattle.std.specs.Prelude.{IfSome, find, slice_set}
-use Rattle.rh_keep.specs.Meters.{Meter, after_put, fits, may_put}
-use Rattle.law_order.proofs.ByNumber.{same_number, test_same}
-use Rattle.rh_rts.specs.declared.command.Cookie.{Cookie}
-use Rattle.rh_sig.specs.declared.named.Named.{Named}
+use Rattle.law_order.proofs.Vocabulary.{◌≡◌, ◌⊎◌, inl, inr, ℕ, suc, ◌+◌, ◌*◌, ◌≤◌, ◌==◌, Bool, true, false, nat_lt, if◌then◌else◌, List, [], ◌∷◌, Some, None, refl, sym, ap, ◌∙◌, subst, arith, nat_tests, IfSome, find, slice_set}
 use Rattle.rh_sig.specs.declared.named.Named.TheVariants as named
-use Rattle.rh_shell.specs.declared.due.Due.{Due}
-use Rattle.rh_shell.specs.Rules.{Message, Text, Pdu, Packet}
-use Rattle.rh_server.specs.declared.state.OutLeg.{OutLeg}
-use Rattle.rh_server.specs.declared.state.Replacement.{Replacement}
 use Rattle.rh_server.specs.declared.state.Replacement.TheVariants as replacement
-use Rattle.rh_server.specs.OutLegs.{counted}
-use Rattle.rh_server.specs.OutLines.{length_of, lets, lets_packet}
-use Rattle.rh_server.specs.OutReplacement.{last_number}
-use Rattle.rh_server.specs.Putting.{gate}
-use Rattle.rh_server.specs.States.{Server, is_confirmed, is_open, is_steady}
-use Rattle.law_moves.specs.Passages.Passing.{count_of}
-use Rattle.law_role_server.specs.Counted.Counting.{is_out_r1_a1}
-use Rattle.law_peers_room.specs.OutRoom.Waits.{is_in_a3}
-use Rattle.law_peers_room.specs.ServerRoom.Overtaking.{is_ack_for}
-use Rattle.law_peers_room.proofs.ServerRoom.Ahead as ahead
-use Rattle.law_peers_room.proofs.ServerRoom.Legs.{each_got, others_so}
+use Rattle.law_moves.proofs.Vocabulary.{Meter, after_put, fits, may_put, same_number, test_same, Cookie, Named, Due, Message, Text, Pdu, Packet, count_of}
+use Rattle.law_role_client.proofs.Counted.Behind.{both_true}
+use Rattle.law_role_server.proofs.Vocabulary.{OutLeg, Replacement, counted, length_of, lets, lets_packet, last_number, gate, Server, is_confirmed, is_open, is_steady, is_out_r1_a1}
+use Rattle.law_role_server.proofs.TakesKept.{falsely as not_true}
+use Rattle.law_role_server.proofs.Each.{each_got}
+use Rattle.law_peers_room.proofs.ServerRoom.Legs.{others_so}
 use Rattle.law_peers_room.proofs.ServerRoom.Meters.{Base, IsBase, is_answered, is_begun, seen}
 use Rattle.law_peers_room.proofs.ServerRoom.ServerPuts.{IsLet, confirmed_answered, is_acked, open_begun, short_of, short_so}
 use Rattle.law_peers_room.proofs.ServerRoom.ViewPuts.{ArePut, IsAt, IsFirst, is_beside, rest}
 use Rattle.law_peers_room.proofs.ServerRoom.ViewRows.{settled_serves}
 use Rattle.law_peers_room.proofs.ServerRoom.Views.{View, view}
-use Rattle.law_peers_forwarding.proofs.Phases.{Phase, Early, Asking, Wished, Late, Over, AreSo, HasRoom, IsHeld, IsPhase, IsShort, IsSo, Moved, Stands, dues_stand, legs_stand, rise_stand, set_so, so_kept}
+use Rattle.law_peers_room.proofs.ServerRoom.Ahead as ahead
+use Rattle.law_peers_room.specs.OutRoom.Waits.{is_in_a3}
+use Rattle.law_peers_room.specs.ServerRoom.Overtaking.{is_ack_for}
+use Rattle.law_peers_forwarding.proofs.Phases.{Phase, Early, Asking, Wished, Late, Over, AreSo, HasRoom, IsHeld, IsPhase, IsShort, IsSo, Moved, Stands, dues_stand, legs_stand, rise_stand, set_so, so_kept, other_way}
 use Rattle.law_peers_forwarding.proofs.Ready.{AreReady, IsReadyAt, IsShut, IsWide, open_has, under}
 use Rattle.law_peers_forwarding.proofs.Spans.{ack_span, answer_span, answer_wish, is_for, is_wish, less_ack, less_span, span, there_gone}
 
 -- ---- tests
 
-not_true : (b : Bool) → (b ≡ true → ⊥) → b ≡ false
-not_true true unlike = absurd (unlike refl)
-not_true false unlike = refl
-
-other_way : true ≡ false → ⊥
-other_way e = absurd cc
-
-both_true : (a b : Bool) → a ≡ true → b ≡ true → a && b ≡ true
-both_true true b e f = f
-both_true false b e f = absurd cc
-
 fits_then : (m : Meter) (len : ℕ) → m.count + len ≤ m.length → fits m len ≡ true
 fits_then m len h = grind (arith, nat_tests)
 
-wide_so : (m : Meter) → may_put m 56 ≡ true → m.count + 312 ≤ m.length
+pub wide_so : (m : Meter) → may_put m 56 ≡ true → m.count + 312 ≤ m.length
 wide_so m e = grind (arith, nat_tests)
 
 long_answer : (packet : Named) → is_in_a3 packet ≡ true → 28 ≤ length_of packet
@@ -108,9 +85,6 @@ module _ (channel : Cookie) (least from most n : ℕ) (s : Server) (put asked mo
 
   module _ (place : ℕ) (leg : OutLeg) (is : IsAt n s place leg)
       (running : is_open s.stage ≡ true) (writes : leg.number ≡ s.writing) where
-    abbrev may_go : Due → Bool
-    may_go due = lets (gate s leg) due
-
     at_number : n ≡ s.writing
     at_number = sym is.number ∙ writes
 

@@ -1,32 +1,19 @@
 -- how far an acknowledgement to the client has come that waits at a server: whether its meter
 -- refused it, and where OUT_R1/A1 is then
-use Rattle.std.proofs.Common.{◌≡◌, ℕ, ◌+◌, ◌*◌, ◌≤◌, Bool, true, false, nat_lt, if◌then◌else◌, List, [], ◌∷◌, ◌++◌, Some, refl, sym, ap, ◌∙◌, subst, arith}
-use Rattle.std.specs.Prelude.{IfSome, slice_get, slice_set, remove}
-use Rattle.std.specs.List.{AllByRecursion}
-use Rattle.std.specs.declared.option.Option.{Option}
-use Rattle.rh_keep.specs.Meters.{Meter}
-use Rattle.rh_rts.specs.declared.command.Cookie.{Cookie}
-use Rattle.rh_sig.specs.declared.named.Named.{Named}
+use Rattle.law_order.proofs.Vocabulary.{◌≡◌, ℕ, ◌+◌, ◌*◌, ◌≤◌, Bool, true, false, nat_lt, if◌then◌else◌, List, [], ◌∷◌, ◌++◌, Some, refl, sym, ap, ◌∙◌, subst, arith, IfSome, slice_get, slice_set, remove, AllByRecursion, Option}
 use Rattle.rh_sig.specs.declared.named.Named.TheVariants as named
-use Rattle.rh_shell.specs.declared.due.Due.{Due}
-use Rattle.rh_shell.specs.Waiting.{Key, are_one, key_of, merged, own, without_first}
-use Rattle.rh_server.specs.declared.state.OutLeg.{OutLeg}
-use Rattle.rh_server.specs.declared.state.Replacement.{Replacement}
 use Rattle.rh_server.specs.declared.state.Replacement.TheVariants as replacement
-use Rattle.rh_server.specs.declared.state.Stage.{Stage}
 use Rattle.rh_server.specs.declared.state.Stage.TheVariants as stage
-use Rattle.rh_server.specs.OutLines.{is_ack_of}
-use Rattle.rh_server.specs.OutReplacement.{last_number}
-use Rattle.rh_server.specs.States.{is_steady}
-use Rattle.law_moves.proofs.Passages.Messages.{all_append}
-use Rattle.law_role_server.specs.Counted.Counting.{waiting_of}
+use Rattle.law_moves.proofs.Vocabulary.{Meter, Cookie, Named, Due, Key, are_one, key_of, merged, own, without_first}
+use Rattle.law_moves.proofs.Lemmas.{all_append}
+use Rattle.law_role_server.proofs.Vocabulary.{OutLeg, Replacement, Stage, is_ack_of, last_number, is_steady, waiting_of}
 use Rattle.law_role_server.proofs.Counted.Dues.{push_waits}
-use Rattle.law_peers_room.specs.OutRoom.Waits.{is_in_a3}
-use Rattle.law_peers_room.proofs.ServerRoom.Ahead.{same_keys}
-use Rattle.law_peers_room.proofs.ServerRoom.Ahead as ahead
-use Rattle.law_peers_room.proofs.ServerRoom.Legs.{each_got, each_removed, each_set}
+use Rattle.law_role_server.proofs.Each.{each_got, each_removed, each_set}
 use Rattle.law_peers_room.proofs.ServerRoom.Meters.{is_begun}
 use Rattle.law_peers_room.proofs.ServerRoom.Views.{AreKept, View}
+use Rattle.law_peers_room.proofs.InRoom.Turns.{one_is as same_keys}
+use Rattle.law_peers_room.proofs.ServerRoom.Ahead as ahead
+use Rattle.law_peers_room.specs.OutRoom.Waits.{is_in_a3}
 use Rattle.law_peers_forwarding.proofs.Spans.{is_answer, is_for, is_there, is_wish, keyed_answer, keyed_wish, merged_all, merged_span, plain_all, plain_span, pushed_span, span, span_all, there_last, there_pushed, wish_merged}
 
 -- the meter didn't refuse it; OUT_R1/A1 waits, or was put on the channel that wrote at first; the
@@ -53,7 +40,7 @@ abbrev pub IsHeld : View → Type 0
 IsHeld x = (is_begun x.at ≡ true) × (x.writing ≤ x.newest)
 
 -- ---- tests
-other_way : true ≡ false → ⊥
+pub other_way : true ≡ false → ⊥
 other_way e = absurd cc
 
 module _ (channel : Cookie) (least from most : ℕ) where

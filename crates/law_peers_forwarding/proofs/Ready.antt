@@ -1,44 +1,30 @@
 -- where no replacement is under way, the writing channel of a server has room for an
 -- acknowledgement to the client, or for nothing
-use Rattle.std.proofs.Common.{◌≡◌, ◌⊎◌, inl, inr, ℕ, ◌+◌, ◌≤◌, ◌==◌, ◌&&◌, ◌||◌, cond, Bool, true, false, nat_lt, not, if◌then◌else◌, List, [], ◌∷◌, ◌++◌, Some, None, refl, sym, ap, ◌∙◌, subst, arith}
-use Rattle.std.proofs.lemmas.Bool.Decides.{nat_tests}
-use Rattle.std.specs.Prelude.{IfSome, find, slice_get, slice_set}
-use Rattle.std.specs.List.{AllByRecursion}
-use Rattle.std.specs.declared.option.Option.{Option}
-use Rattle.rh_keep.specs.Meters.{Meter, started, wanted}
-use Rattle.law_order.proofs.ByNumber.{by_test, same_number, test_same}
-use Rattle.rh_sig.specs.declared.named.Named.{Named}
+use Rattle.rh_keep.specs.Meters.{started}
+use Rattle.law_order.proofs.Vocabulary.{◌≡◌, ◌⊎◌, inl, inr, ℕ, ◌+◌, ◌≤◌, ◌==◌, ◌&&◌, ◌||◌, cond, Bool, true, false, nat_lt, not, if◌then◌else◌, List, [], ◌∷◌, ◌++◌, Some, None, refl, sym, ap, ◌∙◌, subst, arith, nat_tests, IfSome, find, slice_get, slice_set, AllByRecursion, Option}
 use Rattle.rh_sig.specs.declared.named.Named.TheVariants as named
-use Rattle.rh_shell.specs.declared.due.Due.{Due}
-use Rattle.rh_shell.specs.declared.due.Origin.TheVariants.{Own}
-use Rattle.rh_shell.specs.Rules.{Message}
-use Rattle.rh_shell.specs.Waiting.{Key, better, edge_of, is_of, key_of, merged, own, takes, without_first}
+use Rattle.rh_shell.specs.Waiting.{is_of}
 use Rattle.rh_server.specs.declared.out_line.Kind.TheVariants as kind
-use Rattle.rh_server.specs.declared.state.OutLeg.{OutLeg}
 use Rattle.rh_server.specs.declared.state.Replacement.TheVariants as replacement
-use Rattle.rh_server.specs.declared.state.Stage.{Stage}
 use Rattle.rh_server.specs.declared.state.Stage.TheVariants as stage
-use Rattle.rh_server.specs.Ending.{completed, is_complete, settled}
-use Rattle.rh_server.specs.OutLines.{is_ack_of, is_kind, is_own}
-use Rattle.rh_server.specs.OutReplacement.{asks, is_under_way, last_number, wanted_by, wishes}
-use Rattle.rh_server.specs.States.{Server, is_open, is_some, is_steady, out_at, out_leg, out_place}
-use Rattle.law_moves.proofs.Passages.Messages.{all_append, each_so}
-use Rattle.law_role_server_rows.proofs.Refusing.Places.{next_place, place_step}
-use Rattle.law_peers_room.proofs.ServerRoom.Ahead.{same_keys}
-use Rattle.law_peers_room.proofs.ServerRoom.Legs.{Above, Sorted, each_got, each_removed, each_set, sorted_pushed, sorted_removed, sorted_set}
+use Rattle.law_moves.proofs.Vocabulary.{Meter, wanted, by_test, same_number, test_same, Named, Due, Own, Message, Key, better, edge_of, key_of, merged, own, takes, without_first}
+use Rattle.law_moves.proofs.Lemmas.{all_append, each_so}
+use Rattle.law_role_server.proofs.Vocabulary.{OutLeg, Stage, completed, is_complete, settled, is_ack_of, is_kind, is_own, asks, is_under_way, last_number, wanted_by, wishes, Server, is_open, is_some, is_steady, out_at, out_leg, out_place}
+use Rattle.law_role_server.proofs.Counted.InLegs.{next_place, place_step}
+use Rattle.law_role_server.proofs.Each.{each_got, each_removed, each_set}
+use Rattle.law_peers_room.proofs.ServerRoom.Legs.{Above, Sorted, sorted_pushed, sorted_removed, sorted_set}
 use Rattle.law_peers_room.proofs.ServerRoom.ViewPuts.{ArePut}
 use Rattle.law_peers_room.proofs.ServerRoom.ViewRows.{settled_serves}
 use Rattle.law_peers_room.proofs.ServerRoom.Views.{AreKept, View, had_out, has_out, view}
+use Rattle.law_peers_room.proofs.InRoom.Turns.{one_is as same_keys}
+use Rattle.law_peers_forwarding.proofs.ServerFull.Filling.{and_none}
+use Rattle.law_peers_forwarding.proofs.Phases.{other_way}
 
 -- ---- packets of a replacement
 
 or_less : (a b c : Bool) → (c ≡ false → b ≡ false) → a || c ≡ false → a || b ≡ false
 or_less true b c so e = absurd cc
 or_less false b c so e = so e
-
-and_none : (a b : Bool) → b ≡ false → a && b ≡ false
-and_none true b e = e
-and_none false b e = refl
 
 abbrev of_wishes : Due → Bool
 of_wishes due = is_own kind.OutR1 due
@@ -211,13 +197,6 @@ open_has (stage.OutCame connection) e = absurd cc
 open_has (stage.InCame connection window timeout) e = absurd cc
 open_has (stage.Open connection) e = refl
 open_has stage.Ended e = absurd cc
-
-other_way : true ≡ false → ⊥
-other_way e = absurd cc
-
-steady_other : (b c : Bool) → b ≡ false → not b || c ≡ true
-steady_other true c e = absurd cc
-steady_other false c e = refl
 
 -- no more than before
 less_ready : (x : View) (had has way less : Bool) (writing : ℕ)

@@ -1,7 +1,5 @@
 -- which numbers below another have something, where they are few
-use Rattle.std.proofs.Common.{◌≡◌, ◌⊎◌, inl, inr, ℕ, zero, suc, ◌+◌, ◌-◌, ◌<◌, ◌≤◌, Bool, true, false, List, [], ◌∷◌, length, refl, subst, arith}
-use Rattle.std.proofs.lemmas.Bool.Decides.{nat_tests}
-use Rattle.std.specs.Prelude.{nat_lt}
+use Rattle.law_order.proofs.Vocabulary.{◌≡◌, ◌⊎◌, inl, inr, ℕ, zero, suc, ◌+◌, ◌-◌, ◌<◌, ◌≤◌, Bool, true, false, List, [], ◌∷◌, length, refl, subst, arith, nat_tests, nat_lt}
 use Rattle.law_peers_forwarding.specs.ServerFull.Few.{IsAmong}
 
 pub less_or_not : (a b : ℕ) → (a < b) ⊎ (b ≤ a)

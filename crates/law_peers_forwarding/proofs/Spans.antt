@@ -1,20 +1,14 @@
 -- the answers to IN channels that stand before an acknowledgement to the client, and before
 -- OUT_R1/A1, among what waits
-use Rattle.std.proofs.Common.{◌≡◌, ◌⊎◌, inl, inr, ℕ, suc, ◌+◌, ◌≤◌, ◌&&◌, ◌||◌, Bool, true, false, nat_lt, not, if◌then◌else◌, List, [], ◌∷◌, ◌++◌, Some, refl, sym, ap, ◌∙◌, subst, arith}
-use Rattle.std.specs.Prelude.{find}
-use Rattle.std.specs.declared.option.Option.{Option}
-use Rattle.law_order.proofs.ByNumber.{by_test}
-use Rattle.rh_rts.specs.declared.command.Cookie.{Cookie}
-use Rattle.rh_sig.specs.declared.named.Named.{Named}
+use Rattle.law_order.proofs.Vocabulary.{◌≡◌, ◌⊎◌, inl, inr, ℕ, suc, ◌+◌, ◌≤◌, ◌&&◌, ◌||◌, Bool, true, false, nat_lt, not, if◌then◌else◌, List, [], ◌∷◌, ◌++◌, Some, refl, sym, ap, ◌∙◌, subst, arith, find, Option}
 use Rattle.rh_sig.specs.declared.named.Named.TheVariants as named
-use Rattle.rh_shell.specs.declared.due.Due.{Due}
-use Rattle.rh_shell.specs.Waiting.{Key, are_one, better, edge_of, key_of, merged, takes, without_first}
-use Rattle.law_role_server.specs.Counted.Counting.{is_in_r1_a3, is_in_r2_a3, is_out_r1_a1, waiting_of}
+use Rattle.law_moves.proofs.Vocabulary.{by_test, Cookie, Named, Due, Key, are_one, better, edge_of, key_of, merged, takes, without_first}
+use Rattle.law_role_server.proofs.Numbered.{one as some_same}
+use Rattle.law_role_server.proofs.Vocabulary.{is_in_r1_a3, is_in_r2_a3, is_out_r1_a1, waiting_of}
+use Rattle.law_peers_room.proofs.InRoom.Turns.{one_is as same_keys}
+use Rattle.law_peers_room.proofs.ServerRoom.Ahead as ahead
 use Rattle.law_peers_room.specs.OutRoom.Waits.{is_in_a3}
 use Rattle.law_peers_room.specs.ServerRoom.Overtaking.{is_ack_for}
-use Rattle.law_peers_room.proofs.ServerRoom.Ahead.{same_keys}
-use Rattle.law_peers_room.proofs.ServerRoom.Ahead as ahead
-use Rattle.law_peers_room.proofs.ServerRoom.Legs.{some_same}
 
 -- ---- one that passes a test
 
@@ -106,10 +100,6 @@ pub answer_ack : (channel : Cookie) (packet : Named) → is_in_a3 packet ≡ tru
     → is_ack_for channel packet ≡ false
 answer_ack channel (named.AckTo to received window cookie) e = absurd cc
 answer_ack channel packet e = refl
-
-pub wish_answer : (packet : Named) → is_out_r1_a1 packet ≡ true → is_in_a3 packet ≡ false
-wish_answer (named.OutR1A1 to) e = refl
-wish_answer packet e = absurd cc
 
 -- a wish stays where packets are merged
 pub wish_merged : (dues : List Due) (packet : Named) (key : Key) → key_of packet ≡ Some key

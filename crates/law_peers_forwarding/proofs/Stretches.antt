@@ -2,28 +2,14 @@
 -- where the first of these acknowledgements goes, few answers were put since the move behind which
 -- the one waited that waits longest, and one more until the last goes. All came since that move, so
 -- they are of channels that were late there, which are few, or were announced since
-use Rattle.std.proofs.Common.{◌≡◌, ◌⊎◌, inl, inr, ℕ, zero, suc, ◌+◌, ◌-◌, ◌*◌, ◌<◌, ◌≤◌, Bool, true, List, [], ◌∷◌, ◌++◌, append_assoc, length, Some, refl, sym, ap, ◌∙◌, subst, arith}
-use Rattle.std.proofs.lemmas.List.{length-append}
-use Rattle.std.specs.List.{AllByRecursion}
-use Rattle.rh_keep.specs.Meters.{may_put}
-use Rattle.rh_rts.specs.declared.command.Cookie.{Cookie}
-use Rattle.rh_sig.specs.declared.named.Named.{Named}
-use Rattle.rh_line.specs.declared.leg.LegKind.TheVariants.{InServer}
-use Rattle.rh_shell.specs.Rules.{Message}
-use Rattle.rh_client.specs.State.{ci}
-use Rattle.rh_server.specs.declared.state.OutLeg.{OutLeg}
-use Rattle.rh_server.specs.States.{Server, out_leg}
-use Rattle.rh_server.specs.Servers.{acts, first, rules}
-use Rattle.law_moves.specs.Moves.{EndMove, EndPassage, OnLeg, Passage, all_end_moved, end_started}
-use Rattle.law_moves.specs.Wires.{of_leg}
-use Rattle.law_moves.specs.Passages.Passing.{BeginsIn, count_of, of_kind, HasOne}
-use Rattle.law_moves.proofs.Passages.Messages.{count_append}
-use Rattle.law_moves.specs.PacketKinds.{is_out_r1_a1}
-use Rattle.law_role_client.specs.Counted.Naming.{NamesIns}
-use Rattle.law_role_server.specs.Counted.Counting.{in_came, is_ack_to, is_in_r1_a6, is_in_r2_a2, often, out_put, waits_for}
-use Rattle.law_role_outproxy.specs.Counted.{os_leg}
-use Rattle.law_role_server_rows.specs.InTurn.Channels.{WritesOnBegun}
+use Rattle.law_order.proofs.Vocabulary.{◌≡◌, ◌⊎◌, inl, inr, ℕ, zero, suc, ◌+◌, ◌-◌, ◌*◌, ◌<◌, ◌≤◌, Bool, true, List, [], ◌∷◌, ◌++◌, append_assoc, length, Some, refl, sym, ap, ◌∙◌, subst, arith, length-append, AllByRecursion}
+use Rattle.law_moves.proofs.Vocabulary.{may_put, Cookie, Named, InServer, Message, EndMove, EndPassage, OnLeg, Passage, all_end_moved, end_started, of_leg, BeginsIn, count_of, of_kind, HasOne, is_out_r1_a1}
+use Rattle.law_moves.proofs.Lemmas.{count_append, of_append as leg_append}
+use Rattle.law_role_client.proofs.Vocabulary.{ci, NamesIns}
+use Rattle.law_role_server.proofs.Vocabulary.{OutLeg, Server, out_leg, acts, first, rules, in_came, is_ack_to, is_in_r1_a6, is_in_r2_a2, often, out_put, waits_for}
+use Rattle.law_role_outproxy.proofs.Vocabulary.{os_leg}
 use Rattle.law_role_server_rows.proofs.InTurn.Splits.{kind_append}
+use Rattle.law_role_server_rows.specs.InTurn.Channels.{WritesOnBegun}
 use Rattle.law_node_streams.proofs.Streams.EndMoves.{all_end_moved_append}
 use Rattle.law_peers_moments.specs.GoingRound.{taken_in}
 use Rattle.law_peers_moments.specs.Moments.{IsJoined, IsMoment, IsPast, Moves, Numbers, client_behind, server_behind}
@@ -33,16 +19,17 @@ use Rattle.law_peers_in_channels.specs.InChannels.{IsAnnouncedOn, channels}
 use Rattle.law_peers_room.specs.OutRoom.Room.{AcksFewBetween, AreAcked}
 use Rattle.law_peers_room.specs.OutRoom.Waits.{AcksFor, AreDifferent, behind, is_in_a3}
 use Rattle.law_peers_room.specs.ServerRoom.Overtaking.{AreLong, is_ack_for}
+use Rattle.law_peers_forwarding.proofs.ServerFull.Late.{came_grows}
+use Rattle.law_peers_forwarding.proofs.Cuts.{grows}
+use Rattle.law_peers_forwarding.proofs.Ends.{Ends, ends}
+use Rattle.law_peers_forwarding.proofs.Messages.{First, acked_counts, acks_client, behind_rises, counts_fewer, first_that}
+use Rattle.law_peers_forwarding.proofs.Numbers.{HaveNumbers, among_next, behind_number, no_more, so_many}
+use Rattle.law_peers_forwarding.proofs.Lists.{among_front as among_first, among_behind as among_second}
 use Rattle.law_peers_forwarding.specs.ServerFull.Few.{IsAmong}
 use Rattle.law_peers_forwarding.specs.ServerFull.Keeping.{ForwardsWhatCame}
 use Rattle.law_peers_forwarding.specs.ServerFull.Numbered.{AreLate, IsLate}
 use Rattle.law_peers_forwarding.specs.ServerFull.Oldest.{HasOldest, Oldest}
 use Rattle.law_peers_forwarding.specs.ServerFull.Taken.{due_in}
-use Rattle.law_peers_forwarding.proofs.ServerFull.Late.{came_grows, leg_append}
-use Rattle.law_peers_forwarding.proofs.Cuts.{grows}
-use Rattle.law_peers_forwarding.proofs.Ends.{Ends, ends}
-use Rattle.law_peers_forwarding.proofs.Messages.{First, acked_counts, acks_client, behind_rises, counts_fewer, first_that}
-use Rattle.law_peers_forwarding.proofs.Numbers.{HaveNumbers, among_first, among_next, among_second, behind_number, no_more, so_many}
 
 -- ---- fronts
 

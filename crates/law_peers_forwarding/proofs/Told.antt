@@ -1,32 +1,15 @@
 -- the lifetimes that a server is told of OUT channels are in range
-use Rattle.std.proofs.Common.{◌≡◌, ◌≤◌, inl, inr, ℕ, suc, Bool, true, false, if◌then◌else◌, List, [], ◌∷◌, refl, sym, subst, arith}
-use Rattle.std.proofs.lemmas.Bool.Decides.{nat_tests}
-use Rattle.std.specs.List.{AllByRecursion}
-use Rattle.rh_text.specs.declared.ends.Side.{Side}
 use Rattle.rh_text.specs.declared.ends.Side.TheVariants as side
-use Rattle.rh_keep.specs.declared.range.TheConstants.{LEAST_LIFETIME}
-use Rattle.rh_rts.specs.declared.command.Cookie.{Cookie}
-use Rattle.rh_sig.specs.declared.named.Named.{Named}
-use Rattle.rh_sig.specs.declared.named.Named.TheVariants.{ConnA2, ConnB2, InR1A2, InR1A6, InR2A2, OutR1A4}
-use Rattle.rh_sig.specs.Values.{IsLifetime}
-use Rattle.rh_line.specs.declared.leg.Leg.{Leg}
-use Rattle.rh_line.specs.declared.leg.LegKind.{LegKind}
-use Rattle.rh_line.specs.declared.leg.LegKind.TheVariants.{ClientIn, ClientOut, InServer, OutServer}
+use Rattle.law_order.proofs.Vocabulary.{◌≡◌, ◌≤◌, inl, inr, ℕ, suc, Bool, true, false, if◌then◌else◌, List, [], ◌∷◌, refl, sym, subst, arith, AllByRecursion}
 use Rattle.rh_record.specs.declared.answer.Who.TheVariants as who
-use Rattle.rh_shell.specs.Rules.{Message, Text, Pdu, Packet}
-use Rattle.rh_shell.specs.Shells.{same_leg}
-use Rattle.rh_inproxy.specs.declared.state.InProxyConfig.{InProxyConfig}
-use Rattle.rh_outproxy.specs.declared.state.OutProxyConfig.{OutProxyConfig}
-use Rattle.law_moves.specs.Moves.{OnLeg}
-use Rattle.law_moves.specs.Wires.{of_leg}
-use Rattle.law_moves.specs.Passages.Passing.{Has}
-use Rattle.law_moves.proofs.Passages.Messages.{each_so}
-use Rattle.law_role_inproxy.specs.Putting.Puts.{IsPing, IsRest, IsStream, PutsInOrder}
-use Rattle.law_role_server.specs.Counted.Counting.{leg_at}
-use Rattle.law_role_outproxy.specs.Putting.{IsAck, IsToServer, OpensServer, PutsToServer}
-use Rattle.law_peers_moments.specs.Moments.{IsJoined, Moves, Numbers, Passages, end_of, in_behind, out_behind, passages, server_behind}
+use Rattle.law_moves.proofs.Vocabulary.{Side, LEAST_LIFETIME, Cookie, Named, ConnA2, ConnB2, InR1A2, InR1A6, InR2A2, OutR1A4, IsLifetime, Leg, LegKind, ClientIn, ClientOut, InServer, OutServer, Message, Text, Pdu, Packet, same_leg, OnLeg, of_leg, Has}
+use Rattle.law_moves.proofs.Lemmas.{each_so, itself}
+use Rattle.law_role_inproxy.proofs.Vocabulary.{InProxyConfig, IsPing, IsRest, IsStream, PutsInOrder}
+use Rattle.law_role_server.proofs.Vocabulary.{leg_at}
+use Rattle.law_role_outproxy.proofs.Vocabulary.{OutProxyConfig, IsAck, IsToServer, OpensServer, PutsToServer}
 use Rattle.law_peers_moments.proofs.Joining.{is_front, os_front}
 use Rattle.law_peers_moments.proofs.Read.{front_has}
+use Rattle.law_peers_moments.specs.Moments.{IsJoined, Moves, Numbers, Passages, end_of, in_behind, out_behind, passages, server_behind}
 use Rattle.law_peers_expects.specs.OutProxyExpects.Early.{HaveLifetimes}
 use Rattle.law_peers_room.specs.ServerRoom.Overtaking.{AreLong, IsLong}
 
@@ -124,9 +107,6 @@ has_first : (m : Named) (leg : Leg) (log : List OnLeg) → same_leg leg leg ≡ 
 has_first m leg log same =
     subst (λ (t : Bool). Has m (if t then Packet m ∷ of_leg leg log else of_leg leg log))
     (sym same) (inl refl)
-
-itself : (leg : Leg) → same_leg leg leg ≡ true
-itself leg = grind (arith, nat_tests)
 
 each_long : (log : List OnLeg) → ((leg : Leg) (m : Named) → Has m (of_leg leg log) → Long m)
     → AreLong LEAST_LIFETIME log

@@ -1,20 +1,9 @@
 -- what came at a node is of what was put at the other end of the leg, whichever in proxy it is
-use Rattle.std.proofs.Common.{◌≡◌, ◌⊎◌, ℕ, List, [], inl, inr, refl, sym, subst}
-use Rattle.std.proofs.lemmas.Bool.{cases_eq}
-use mathlib.Core.List.{IsPrefix}
-use Rattle.rh_text.specs.declared.ends.Dir.TheVariants.{U, D}
-use Rattle.rh_text.specs.declared.ends.Side.{Side}
 use Rattle.rh_text.specs.declared.ends.Side.TheVariants as side
-use Rattle.rh_sig.specs.declared.named.Named.{Named}
-use Rattle.rh_line.specs.declared.leg.Leg.{Leg}
-use Rattle.rh_line.specs.declared.leg.LegKind.{LegKind}
-use Rattle.rh_line.specs.declared.leg.LegKind.TheVariants.{ClientOut, OutServer, ClientIn, InServer}
+use Rattle.law_order.proofs.Vocabulary.{◌≡◌, ◌⊎◌, ℕ, List, [], inl, inr, refl, sym, subst, cases_eq, IsPrefix}
 use Rattle.rh_record.specs.declared.answer.Who.TheVariants as who
-use Rattle.rh_shell.specs.Rules.{Message}
-use Rattle.law_moves.specs.Wires.{of_leg}
 use Rattle.rh_nodes.specs.Settling.{leg_at}
-use Rattle.law_moves.specs.ReadBack.Reading.{all_read_of}
-use Rattle.law_moves.specs.Passages.Passing.{HasOne}
+use Rattle.law_moves.proofs.Vocabulary.{U, D, Side, Named, ClientOut, OutServer, ClientIn, InServer, Message, of_leg, all_read_of, HasOne}
 use Rattle.law_peers_moments.specs.Moments.{AreJoined, Passages, end_of}
 
 -- a front of all

@@ -1,16 +1,11 @@
 -- what is among the messages that are read of what was put, and in a front of them
-use Rattle.std.proofs.Common.{◌≡◌, ℕ, suc, ◌+◌, ◌≤◌, Bool, true, false, if◌then◌else◌, List, [], ◌∷◌, ◌++◌, length, inl, inr, arith, refl, ap, subst}
-use mathlib.Core.List.{IsPrefix}
-use Rattle.rh_sig.specs.declared.named.Named.{Named}
-use Rattle.rh_shell.specs.Hearing.{is_ping}
-use Rattle.rh_shell.specs.Rules.{Message, Text, Pdu, Packet}
-use Rattle.law_moves.specs.ReadBack.Reading.{all_read_of}
-use Rattle.law_moves.specs.Passages.Passing.{pdu_bytes, count_of, Has, HasOne}
-use Rattle.law_moves.proofs.Passages.Messages.{bytes_rise, count_rises, has_more, one_more_so}
+use Rattle.law_order.proofs.Vocabulary.{◌≡◌, ℕ, suc, ◌+◌, ◌≤◌, Bool, true, false, if◌then◌else◌, List, [], ◌∷◌, ◌++◌, length, inl, inr, arith, refl, ap, subst, IsPrefix}
+use Rattle.law_moves.proofs.Vocabulary.{Named, is_ping, Message, Text, Pdu, Packet, all_read_of, pdu_bytes, count_of, Has, HasOne}
+use Rattle.law_moves.proofs.Lemmas.{bytes_rise, count_rises, has_more, one_more_so}
 
 -- ---- what is read of them
 
-read_bytes : (put : List Message) → pdu_bytes (all_read_of put) ≡ pdu_bytes put
+pub read_bytes : (put : List Message) → pdu_bytes (all_read_of put) ≡ pdu_bytes put
 read_bytes [] = refl
 read_bytes (Text bytes ∷ put) = read_bytes put
 read_bytes (Pdu pdu ∷ put) = ap (λ (n : ℕ). length pdu + n) (read_bytes put)

@@ -1,6 +1,6 @@
 -- a moment of a virtual connection: the moves that each of its roles made until then, and what came
 -- at the one end of a leg is of what was put at the other (MS-RPCH 3.2; profile)
-use Rattle.std.specs.Prelude.{◌≡◌, ◌⊎◌, ◌++◌, ℕ, suc, List, [], ◌∷◌}
+use Rattle.std.specs.Prelude.{◌≡◌, ◌⊎◌, ◌++◌, ℕ, suc, List, []}
 use mathlib.Core.List.{IsPrefix}
 use Rattle.rh_text.specs.declared.ends.Dir.{Dir}
 use Rattle.rh_text.specs.declared.ends.Side.{Side}
@@ -11,9 +11,8 @@ use Rattle.rh_line.specs.declared.leg.LegKind.{LegKind}
 use Rattle.rh_record.specs.declared.answer.Who.{Who}
 use Rattle.rh_record.specs.declared.answer.Who.TheVariants as who
 use Rattle.law_moves.specs.Moves.{EndMove, EndPassage, Move, OnLeg, Passage, started, end_started, all_moved, all_end_moved, AreAllowed, AreAllowedAtEnd}
-use Rattle.rh_shell.specs.Rules.{Message}
 use Rattle.law_moves.specs.Wires.{of_leg}
-use Rattle.rh_nodes.specs.Wires.{receiver, sender}
+use Rattle.rh_wires.specs.Wires.{receiver, sender}
 use Rattle.rh_nodes.specs.World.{node_at}
 use Rattle.rh_client.specs.declared.state.ClientRole.{ClientRole}
 use Rattle.rh_client.specs.Client as clients

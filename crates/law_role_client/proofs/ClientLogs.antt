@@ -1,16 +1,7 @@
 -- one more message on a leg adds its items to the log of its channel
-use Rattle.std.proofs.Common.{◌≡◌, ℕ, Bool, true, false, ◌&&◌, ◌==◌, nat_eq, if◌then◌else◌, List, [], ◌∷◌, ◌++◌, refl, sym, ap, ◌∙◌, subst}
-use Rattle.std.proofs.lemmas.List.{append_assoc, append-nil}
-use mathlib.Core.Path.{fun_ext}
-use Rattle.rh_line.specs.declared.leg.Leg.{Leg}
-use Rattle.rh_line.specs.declared.leg.LegKind.{LegKind}
-use Rattle.rh_line.specs.declared.leg.LegKind.TheVariants.{ClientOut, OutServer, ClientIn, InServer}
-use Rattle.law_order.specs.Items.{Item}
-use Rattle.law_order.specs.Logs.{more}
-use Rattle.rh_shell.specs.Rules.{Message}
-use Rattle.rh_shell.specs.Shells.{is_of, kind_number}
-use Rattle.law_moves.specs.Moves.{OnLeg}
-use Rattle.law_role_client.specs.Order.{items_on, log_of}
+use Rattle.law_order.proofs.Vocabulary.{◌≡◌, ℕ, Bool, true, false, ◌&&◌, ◌==◌, nat_eq, if◌then◌else◌, List, [], ◌∷◌, ◌++◌, refl, sym, ap, ◌∙◌, subst, append_assoc, append-nil, fun_ext, Item, more}
+use Rattle.law_moves.proofs.Vocabulary.{Leg, LegKind, ClientOut, OutServer, ClientIn, InServer, Message, is_of, kind_number, OnLeg}
+use Rattle.law_role_client.proofs.Vocabulary.{items_on, log_of}
 
 log_more : (view : Message → List Item) (kind : LegKind) (ms : List OnLeg) (m : OnLeg) (n : ℕ)
     → log_of view kind (ms ++ m ∷ []) n ≡ log_of view kind ms n ++ items_on view kind n m

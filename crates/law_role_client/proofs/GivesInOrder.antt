@@ -1,64 +1,21 @@
 -- a client gives in order: each move keeps the law of an end that gives
-use Rattle.std.proofs.Common.{◌≡◌, ℕ, suc, ◌+◌, ◌==◌, Bool, true, false, not, ◌&&◌, nat_lt, nat_le, ◌||◌, if◌then◌else◌, List, [], ◌∷◌, ◌++◌, length, Some, None, Ok, Err, arith, rules, refl, sym, subst}
-use Rattle.std.specs.declared.option.Option.{Option}
-use Rattle.std.specs.declared.result.Result.{Result}
-use Rattle.rh_window.specs.declared.recv_window.Ack.{Ack}
-use Rattle.rh_keep.specs.Meters.{may_put, fits}
-use Rattle.law_order.specs.Items.{Handover}
-use Rattle.law_order.specs.Logs.{Log, more}
-use Rattle.law_order.specs.Giving.{Giver, GiverLaw, Giving, Accepts, PutsPdu, PutsEnd, HandsOver, gives, given_items, sent_by}
+use Rattle.law_order.proofs.Vocabulary.{◌≡◌, ℕ, suc, ◌+◌, ◌==◌, Bool, true, false, not, ◌&&◌, nat_lt, nat_le, ◌||◌, if◌then◌else◌, List, [], ◌∷◌, ◌++◌, length, Some, None, Ok, Err, arith, rules, refl, sym, subst, Option, Result, Handover, Log, more, Giver, GiverLaw, Giving, Accepts, PutsPdu, PutsEnd, HandsOver, gives, given_items, sent_by}
 use Rattle.law_order.specs.Giving as giving
-use Rattle.law_order.proofs.ByNumber.{by_test, same_number, more_none}
-use Rattle.law_order.proofs.GiverKeeps.{giver_step, giver_starts, giver_same}
-use Rattle.rh_pdu.specs.Checking.{checked, pdu_fault}
-use Rattle.rh_pdu.specs.declared.fault.PduFault.{PduFault}
-use Rattle.rh_rts.specs.declared.command.Cookie.{Cookie}
-use Rattle.rh_sig.specs.declared.named.Named.{Named}
 use Rattle.rh_sig.specs.declared.named.Named.TheVariants as named
-use Rattle.rh_sig.specs.declared.lengths.TheConstants.{CONN_B1_LEN, IN_R1_A1_LEN, IN_R1_A5_LEN, OUT_R1_A7_LEN, END_A1_LEN, ACK_TO_LEN, PING_LEN}
-use Rattle.rh_http.specs.declared.config.ClientConfig.{ClientConfig}
-use Rattle.rh_http.specs.Texts.{in_request}
-use Rattle.rh_line.specs.Lines.{is_empty, after_finish, after_told, after_take}
-use Rattle.rh_line.specs.Queue.{behind, front_length, total, queue_bytes}
-use Rattle.rh_line.specs.declared.leg.Leg.{Leg}
-use Rattle.rh_line.specs.declared.leg.LegKind.{LegKind}
-use Rattle.rh_line.specs.declared.leg.LegKind.TheVariants.{ClientOut, OutServer, ClientIn, InServer}
-use Rattle.rh_line.specs.declared.which.Which.{Which}
-use Rattle.rh_line.specs.declared.which.Which.TheVariants.{Current, Next}
-use Rattle.rh_shell.specs.NearEnds.{first_of}
-use Rattle.rh_shell.specs.Rules.{Row, Message, Text, Pdu, Packet}
-use Rattle.rh_shell.specs.declared.answers.Count.{Count}
 use Rattle.rh_shell.specs.declared.answers.Phase.TheVariants as phase
 use Rattle.rh_shell.specs.declared.end_role.GiveRefused.TheVariants as give_refused
-use Rattle.rh_shell.specs.declared.end_role.RecycleRefused.{RecycleRefused}
-use Rattle.rh_shell.specs.declared.end_role.RecycleRefused.TheVariants.{Last}
-use Rattle.rh_client.specs.declared.channels.Opening.{Opening}
-use Rattle.rh_client.specs.declared.channels.Opening.TheVariants.{NotUp, Request, First, Second, Put}
-use Rattle.rh_client.specs.declared.channels.TheConstants.{LAST_NUMBER}
-use Rattle.rh_client.specs.declared.replacement.Replacement.{Replacement}
-use Rattle.rh_client.specs.declared.replacement.Replacement.TheVariants.{NoneUnderWay, In, Out}
 use Rattle.rh_client.specs.declared.replacement.InStage.TheVariants as in_stage
 use Rattle.rh_client.specs.declared.replacement.OutStage.TheVariants as out_stage
-use Rattle.rh_client.specs.declared.replacement.Waits.{Waits}
 use Rattle.rh_client.specs.declared.replacement.Waits.TheVariants as waits
-use Rattle.rh_client.specs.declared.state.ClientRole.{ClientRole}
 use Rattle.rh_client.specs.Channels as channels
-use Rattle.rh_client.specs.Channels.{unopened_in, unopened_out, metered, is_named}
-use Rattle.rh_client.specs.Replacements.{is_in}
-use Rattle.rh_client.specs.State.{Done, taken, unexpected, is_open, is_writing, is_in_successor, is_current, is_out_successor, is_over, begin_in, begin_out, after_in, after_out}
-use Rattle.rh_client.specs.Opening.{up_by, on_conn_a3, on_conn_c2}
-use Rattle.rh_client.specs.Acknowledging.{ack_due, cookie_of, on_pdu, on_ack_to, ack_named, acked, ack_row}
-use Rattle.rh_client.specs.InReplacement.{on_in_r1_a4, on_in_r2_a4, recycle_by, wish_by, wished, wants_successor, handed_over}
-use Rattle.rh_client.specs.OutReplacement.{succeeded, ended_or, pass_by, passed, a10_by, on_out_r1_a2, on_out_r1_a6}
-use Rattle.rh_client.specs.Ending.{Given, give, give_pdu, take, drawn_by, on_end_b2}
-use Rattle.rh_client.specs.Time.{ping_by}
 use Rattle.rh_client.specs.Putting as putting
-use Rattle.rh_client.specs.Putting.{Pick, or_else, conn_b1, in_r1_a1, begun_in, with_end_put, without_ping, put_in_r1_a5, put_out_r1_a7, put_by, put_conn_b1, put_in_r1_a1, put_current, put_out_successor, put_out, due_by, put_due, ack_by, put_ack_of, put_ack, lets_pdu, put_pdu, is_end_due, put_end, put_ping, put_successor_ping, put_next, put_writing, put_in_successor, put_in, settled_or_wished, settled_pick}
 use Rattle.rh_client.specs.Client as client
-use Rattle.rh_client.specs.Client.{rules as client_rules, acts, on_packet, packet_by, packet, pdu}
+use Rattle.law_moves.proofs.Vocabulary.{Ack, may_put, fits, by_test, same_number, more_none, giver_step, giver_starts, giver_same, checked, pdu_fault, PduFault, Cookie, Named, CONN_B1_LEN, IN_R1_A1_LEN, IN_R1_A5_LEN, OUT_R1_A7_LEN, END_A1_LEN, ACK_TO_LEN, PING_LEN, ClientConfig, in_request, is_empty, after_finish, after_told, after_take, behind, front_length, total, queue_bytes, Leg, LegKind, ClientOut, OutServer, ClientIn, InServer, Which, Current, Next, first_of, Row}
+use Rattle.law_moves.proofs.Vocabulary.{Message, Text, Pdu, Packet, Count, RecycleRefused, Last, Passage, EndPassage, EndMove, Up, HeadCame, PduCame, PacketCame, Puts, IsDrawn, Marks, Pings, Moves, Gives, Takes, Recycles, taken_by, given_by, with_first, end_moved, all_end_moved}
 use Rattle.law_moves.specs.Moves as moves
-use Rattle.law_moves.specs.Moves.{Passage, EndPassage, EndMove, Up, HeadCame, PduCame, PacketCame, Puts, IsDrawn, Marks, Pings, Moves, Gives, Takes, Recycles, taken_by, given_by, with_first, end_moved, all_end_moved}
-use Rattle.law_role_client.specs.Order.{up_items, put_log, giver_of, GivesInOrder, client_started, client_moved}
+use Rattle.law_role_client.proofs.Vocabulary.{Opening, NotUp, Request, First, Second, Put, LAST_NUMBER, Replacement, NoneUnderWay, In, Out, Waits, ClientRole, unopened_in, unopened_out, metered, is_named, is_in, Done, taken, unexpected, is_open, is_writing, is_in_successor, is_current, is_out_successor, is_over, begin_in, begin_out, after_in, after_out, up_by, on_conn_a3, on_conn_c2, ack_due, cookie_of, on_pdu, on_ack_to, ack_named, acked, ack_row, on_in_r1_a4, on_in_r2_a4}
+use Rattle.law_role_client.proofs.Vocabulary.{recycle_by, wish_by, wished, wants_successor, handed_over, succeeded, ended_or, pass_by, passed, a10_by, on_out_r1_a2, on_out_r1_a6, Given, give, give_pdu, take, drawn_by, on_end_b2, ping_by, Pick, or_else, conn_b1, in_r1_a1, begun_in, with_end_put, without_ping, put_in_r1_a5, put_out_r1_a7, put_by, put_conn_b1, put_in_r1_a1, put_current, put_out_successor, put_out, due_by, put_due, ack_by, put_ack_of, put_ack, lets_pdu, put_pdu}
+use Rattle.law_role_client.proofs.Vocabulary.{is_end_due, put_end, put_ping, put_successor_ping, put_next, put_writing, put_in_successor, put_in, settled_or_wished, settled_pick, rules as client_rules, acts, on_packet, packet_by, packet, pdu, up_items, put_log, giver_of, GivesInOrder, client_started, client_moved}
 use Rattle.law_role_client.proofs.ClientLogs.{log_here, log_other, of_kind, of_other}
 
 -- ---- what the law reads

@@ -1,3 +1,4 @@
+pub mod Vocabulary
 pub mod ClientLogs
 pub mod GivesInOrder
 pub mod TakesKept
@@ -5,5 +6,5 @@ pub mod TakesInOrder
 pub mod Saying
 pub mod PutsReadBack
 pub mod Sending
-mod Receiving
+pub mod Receiving
 pub mod Counted

@@ -1,49 +1,15 @@
 -- what a client puts reads back: each message may go on its pipe, whatever moves came before
-use Rattle.std.proofs.Common.{◌≡◌, ℕ, ◌+◌, ◌<◌, ◌^◌, ◌&&◌, Bool, true, false, if◌then◌else◌, List, [], ◌∷◌, Some, None, Ok, Err, inl, inr, arith, refl}
-use Rattle.std.specs.List.{AllByRecursion}
-use Rattle.std.specs.declared.option.Option.{Option}
-use Rattle.rh_window.specs.declared.recv_window.Ack.{Ack}
-use Rattle.rh_keep.specs.Meters.{may_put, fits}
-use Rattle.law_order.proofs.ByNumber.{by_test}
-use Rattle.rh_pdu.specs.Frames.{IsPdu}
-use Rattle.rh_sig.specs.declared.name.Pipe.{Pipe}
-use Rattle.rh_sig.specs.declared.name.Pipe.TheVariants.{CiU, CoU}
+use Rattle.law_order.proofs.Vocabulary.{◌≡◌, ℕ, ◌+◌, ◌<◌, ◌^◌, ◌&&◌, Bool, true, false, if◌then◌else◌, List, [], ◌∷◌, Some, None, Ok, Err, inl, inr, arith, refl, AllByRecursion, Option}
 use Rattle.rh_sig.specs.declared.named.Named.TheVariants as named
-use Rattle.rh_sig.specs.Values.{IsKeepalive}
-use Rattle.rh_sig.specs.declared.lengths.TheConstants.{CONN_B1_LEN, IN_R1_A1_LEN, IN_R1_A5_LEN, OUT_R1_A7_LEN, END_A1_LEN, ACK_TO_LEN, PING_LEN}
-use Rattle.rh_http.specs.declared.config.ClientConfig.{ClientConfig}
-use Rattle.rh_line.specs.Lines.{channel_of, with_window, after_told}
-use Rattle.rh_line.specs.Queue.{behind, front_length}
-use Rattle.rh_line.specs.declared.leg.Leg.{Leg}
-use Rattle.rh_line.specs.declared.leg.LegKind.{LegKind}
-use Rattle.rh_line.specs.declared.leg.LegKind.TheVariants.{ClientOut, OutServer, ClientIn, InServer}
-use Rattle.rh_line.specs.declared.which.Which.{Which}
-use Rattle.rh_line.specs.declared.which.Which.TheVariants.{Current, Next}
-use Rattle.rh_line.proofs.Queues.{each_push}
-use Rattle.rh_shell.specs.NearEnds.{first_of}
-use Rattle.rh_shell.specs.Rules.{Row, Message, Pdu, Packet}
-use Rattle.rh_client.specs.declared.channels.Opening.{Opening}
-use Rattle.rh_client.specs.declared.channels.Opening.TheVariants.{NotUp, Request, First, Second, Put}
-use Rattle.rh_client.specs.declared.replacement.Replacement.{Replacement}
-use Rattle.rh_client.specs.declared.replacement.Replacement.TheVariants.{NoneUnderWay, In, Out}
 use Rattle.rh_client.specs.declared.replacement.InStage.TheVariants as in_stage
 use Rattle.rh_client.specs.declared.replacement.OutStage.TheVariants as out_stage
-use Rattle.rh_client.specs.declared.replacement.Waits.{Waits}
-use Rattle.rh_client.specs.declared.state.ClientRole.{ClientRole}
 use Rattle.rh_client.specs.Channels as channels
-use Rattle.rh_client.specs.Channels.{metered}
-use Rattle.rh_client.specs.State.{is_writing, is_in_successor, is_current, is_out_successor}
-use Rattle.rh_client.specs.Acknowledging.{ack_due, cookie_of}
-use Rattle.rh_client.specs.InReplacement.{handed_over}
-use Rattle.rh_client.specs.Ending.{Given, give, take}
 use Rattle.rh_client.specs.Putting as putting
-use Rattle.rh_client.specs.Putting.{Pick, or_else, conn_a1, conn_b1, in_r1_a1, out_r1_a3, begun_in, with_end_put, without_ping, put_in_r1_a5, put_out_r1_a7, put_by, put_conn_b1, put_in_r1_a1, put_current, put_out_successor, put_out, due_by, put_due, ack_by, put_ack_of, put_ack, lets_pdu, put_pdu, is_end_due, put_end, put_ping, put_successor_ping, put_next, put_writing, put_in_successor, put_in, settled_pick}
-use Rattle.rh_client.specs.Client.{rules as client_rules, acts, packet, pdu}
+use Rattle.law_moves.proofs.Vocabulary.{Ack, may_put, fits, by_test, IsPdu, Pipe, CiU, CoU, IsKeepalive, CONN_B1_LEN, IN_R1_A1_LEN, IN_R1_A5_LEN, OUT_R1_A7_LEN, END_A1_LEN, ACK_TO_LEN, PING_LEN, ClientConfig, each_push, channel_of, with_window, after_told, behind, front_length, Leg, LegKind, ClientOut, OutServer, ClientIn, InServer, Which, Current, Next, first_of, Row, Message, Pdu, Packet, OnLeg, Passage, EndPassage, EndMove, Up, HeadCame, PduCame, PacketCame, Puts, IsDrawn}
+use Rattle.law_moves.proofs.Vocabulary.{Marks, Pings, Moves, Gives, Takes, Closes, Recycles, taken_by, given_by, with_first, end_moved, all_end_moved, MayGo, MayGoOn, AllMayGo, AllReadBack, AreLegible}
 use Rattle.law_moves.specs.Moves as moves
-use Rattle.law_moves.specs.Moves.{OnLeg, Passage, EndPassage, EndMove, Up, HeadCame, PduCame, PacketCame, Puts, IsDrawn, Marks, Pings, Moves, Gives, Takes, Closes, Recycles, taken_by, given_by, with_first, end_moved, all_end_moved}
-use Rattle.law_moves.specs.Legible.Legible.{MayGo, MayGoOn, AllMayGo, AllReadBack, AreLegible}
-use Rattle.law_role_client.specs.Order.{client_started, client_moved}
-use Rattle.law_role_client.specs.Legible.{IsCookie, IsConfig, HasCookies, HasCookie, HasCookieAtEnd, HaveCookies, pipe_to, pipe_put}
+use Rattle.law_role_client.proofs.Vocabulary.{Opening, NotUp, Request, First, Second, Put, Replacement, NoneUnderWay, In, Out, Waits, ClientRole, metered, is_writing, is_in_successor, is_current, is_out_successor, ack_due, cookie_of, handed_over, Given, give, take, Pick, or_else, conn_a1, conn_b1, in_r1_a1, out_r1_a3, begun_in, with_end_put, without_ping, put_in_r1_a5, put_out_r1_a7, put_by, put_conn_b1, put_in_r1_a1, put_current, put_out_successor, put_out, due_by, put_due}
+use Rattle.law_role_client.proofs.Vocabulary.{ack_by, put_ack_of, put_ack, lets_pdu, put_pdu, is_end_due, put_end, put_ping, put_successor_ping, put_next, put_writing, put_in_successor, put_in, settled_pick, rules as client_rules, acts, packet, pdu, client_started, client_moved, IsCookie, IsConfig, HasCookies, HasCookie, HasCookieAtEnd, HaveCookies, pipe_to, pipe_put}
 use Rattle.law_role_client.proofs.Saying.{said, IsSound, with_queue, with_line, channel_within, ack_due_is, IsAck, settled_sound, handed_sound, recycle_sound, take_sound, packet_sound, pdu_sound, up_sound, drawn_sound, ping_sound, give_sound, first_sound}
 
 -- ---- what may go

@@ -1,8 +1,8 @@
 mod Along
-mod Windows
+pub mod Windows
 mod Facts
-mod Replaced
-mod Rows
+pub mod Replaced
+pub mod Rows
 mod Ups
 mod Puts
 pub mod Receives

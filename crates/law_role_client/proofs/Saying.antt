@@ -1,56 +1,18 @@
 -- what the puts of a client say: its values are fine, and each of its steps keeps that
-use Rattle.std.proofs.Common.{◌≡◌, ℕ, ◌+◌, ◌-◌, ◌<◌, ◌≤◌, ◌^◌, ◌==◌, Bool, true, false, not, ◌&&◌, ◌||◌, nat_lt, nat_le, if◌then◌else◌, List, [], ◌∷◌, ◌++◌, length, is_ok, Some, None, Ok, Err, arith, rules, refl, sym, subst}
-use Rattle.std.proofs.lemmas.Bool.Decides.{nat_tests}
-use Rattle.std.specs.List.{AllByRecursion}
 use Rattle.std.specs.Option.{is_some}
-use Rattle.std.specs.declared.option.Option.{Option}
-use Rattle.std.specs.declared.result.Result.{Result}
-use Rattle.rh_window.specs.Sides.{Receiver}
 use Rattle.rh_window.specs.Receiving as windows
-use Rattle.rh_window.specs.declared.recv_window.Ack.{Ack}
-use Rattle.law_order.proofs.ByNumber.{by_test}
-use Rattle.rh_pdu.specs.Checking.{checked, pdu_fault}
-use Rattle.rh_pdu.specs.Frames.{IsPdu}
-use Rattle.rh_pdu.specs.declared.fault.PduFault.{PduFault}
-use Rattle.rh_pdu.proofs.Pdus.{pdu_from_none}
-use Rattle.rh_rts.specs.declared.command.Cookie.{Cookie}
-use Rattle.rh_sig.specs.declared.named.Named.{Named}
+use Rattle.law_order.proofs.Vocabulary.{◌≡◌, ℕ, ◌+◌, ◌-◌, ◌<◌, ◌≤◌, ◌^◌, ◌==◌, Bool, true, false, not, ◌&&◌, ◌||◌, nat_lt, nat_le, if◌then◌else◌, List, [], ◌∷◌, ◌++◌, length, is_ok, Some, None, Ok, Err, arith, rules, refl, sym, subst, nat_tests, AllByRecursion, Option, Result}
 use Rattle.rh_sig.specs.declared.named.Named.TheVariants as named
-use Rattle.rh_http.specs.declared.config.ClientConfig.{ClientConfig}
-use Rattle.rh_line.specs.Lines.{Line, Incoming, is_empty, channel_of, with_channel, with_window, admitted, channel_verdict, released, settled as settled_line, moved_on, after_admit, after_end, after_finish, after_take, after_open_next}
 use Rattle.rh_line.specs.Lines as lines
-use Rattle.rh_line.specs.Queue.{total, queue_bytes}
-use Rattle.rh_line.proofs.Queues.{each_push}
-use Rattle.rh_line.specs.declared.leg.LegKind.{LegKind}
-use Rattle.rh_line.specs.declared.leg.LegKind.TheVariants.{ClientOut, OutServer, ClientIn, InServer}
-use Rattle.rh_line.specs.declared.which.Which.{Which}
-use Rattle.rh_line.specs.declared.which.Which.TheVariants.{Current, Next}
-use Rattle.rh_shell.specs.Hearing.{is_zero}
-use Rattle.rh_shell.specs.declared.answers.Count.{Count}
 use Rattle.rh_shell.specs.declared.answers.Phase.TheVariants as phase
 use Rattle.rh_shell.specs.declared.end_role.GiveRefused.TheVariants as give_refused
-use Rattle.rh_shell.specs.declared.end_role.RecycleRefused.TheVariants.{Last}
-use Rattle.rh_client.specs.declared.channels.TheConstants.{LAST_NUMBER}
-use Rattle.rh_client.specs.declared.replacement.Replacement.{Replacement}
-use Rattle.rh_client.specs.declared.replacement.Replacement.TheVariants.{NoneUnderWay, In, Out}
 use Rattle.rh_client.specs.declared.replacement.InStage.TheVariants as in_stage
 use Rattle.rh_client.specs.declared.replacement.OutStage.TheVariants as out_stage
-use Rattle.rh_client.specs.declared.replacement.Waits.{Waits}
 use Rattle.rh_client.specs.declared.replacement.Waits.TheVariants as waits
-use Rattle.rh_client.specs.declared.state.ClientRole.{ClientRole}
-use Rattle.rh_client.specs.Channels.{no_cookie, unopened_in, unopened_out, is_asked, is_put, is_named, in_up, out_up, told_in}
-use Rattle.rh_client.specs.Replacements.{has_out, with_out}
-use Rattle.rh_client.specs.State.{taken, unexpected, first, is_opening, is_open, is_writing, is_current, is_out_successor, is_over, settled, begin_in, begin_out, after_in, after_out}
-use Rattle.rh_client.specs.Opening.{up_by, with_next, on_conn_a3, on_conn_c2}
-use Rattle.rh_client.specs.Acknowledging.{ack_due, may_ack, pdu_channel, pdu_on, on_ack_to, ack_named, acked, ack_row}
-use Rattle.rh_client.specs.InReplacement.{answered, answer_by, recycle_by, wish_by, wished, wants_successor, handed_over}
-use Rattle.rh_client.specs.OutReplacement.{succeeded, ended_or, pass_by, passed, a2_by, a6_by, a10_by, on_out_r1_a2}
-use Rattle.rh_client.specs.Ending.{give, give_pdu, take, end_channel, end_on, on_end_b2, drawn_by}
-use Rattle.rh_client.specs.Time.{ping_by}
-use Rattle.rh_client.specs.Putting.{settled_or_wished}
 use Rattle.rh_client.specs.Client as client
-use Rattle.rh_client.specs.Client.{on_packet, packet_by}
-use Rattle.law_role_client.specs.Legible.{IsCookie, IsConfig, HasCookies}
+use Rattle.law_moves.proofs.Vocabulary.{Receiver, Ack, by_test, pdu_from_none, checked, pdu_fault, IsPdu, PduFault, Cookie, Named, ClientConfig, each_push, Line, Incoming, is_empty, channel_of, with_channel, admitted, channel_verdict, released, settled as settled_line, moved_on, after_admit, after_end, after_finish, after_take, after_open_next, total, queue_bytes, LegKind, ClientOut, OutServer, ClientIn, InServer, Which, Current, Next, is_zero, Count, Last}
+use Rattle.law_role_client.proofs.Vocabulary.{LAST_NUMBER, Replacement, NoneUnderWay, In, Out, Waits, ClientRole, no_cookie, unopened_in, unopened_out, is_asked, is_put, is_named, in_up, out_up, told_in, has_out, with_out, taken, unexpected, first, is_opening, is_open, is_writing, is_current, is_out_successor, is_over, settled, begin_in, begin_out, after_in, after_out, up_by, with_next, on_conn_a3, on_conn_c2, ack_due, may_ack, pdu_channel, pdu_on, on_ack_to, ack_named, acked}
+use Rattle.law_role_client.proofs.Vocabulary.{ack_row, answered, answer_by, recycle_by, wish_by, wished, wants_successor, handed_over, succeeded, ended_or, pass_by, passed, a2_by, a6_by, a10_by, on_out_r1_a2, give, give_pdu, take, end_channel, end_on, on_end_b2, drawn_by, ping_by, settled_or_wished, on_packet, packet_by, IsCookie, IsConfig, HasCookies}
 
 -- ---- what the puts say
 

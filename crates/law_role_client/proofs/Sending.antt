@@ -1,9 +1,9 @@
 pub mod Steps
-mod Logs
-mod Facts
+pub mod Logs
+pub mod Facts
 mod Channels
 mod Changes
 mod Rows
-mod Puts
+pub mod Puts
 mod Next
 pub mod Laws

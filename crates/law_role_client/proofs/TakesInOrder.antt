@@ -1,63 +1,23 @@
 -- a client takes in order: each move that is allowed keeps the law of an end that takes
-use Rattle.std.proofs.Common.{◌≡◌, ℕ, suc, ◌==◌, Bool, true, false, not, ◌&&◌, ◌||◌, nat_lt, if◌then◌else◌, List, [], ◌∷◌, ◌++◌, length, is_ok, IsTrue, Some, None, Ok, Err, rules, refl, sym, ap, ◌∙◌, subst}
-use Rattle.std.specs.declared.option.Option.{Option}
-use Rattle.std.specs.declared.result.Result.{Result}
 use Rattle.rh_window.specs.Receiving as windows
-use Rattle.rh_window.specs.declared.recv_window.Ack.{Ack}
-use Rattle.rh_keep.specs.Meters.{may_put, fits}
-use Rattle.law_order.specs.Items.{Item, Piece, Stop, Handover}
-use Rattle.law_order.specs.Logs.{Log, more}
-use Rattle.law_order.specs.Shelves.{PduNow, PduNext, EndNow, EndNext, HandoverNow}
-use Rattle.law_order.specs.Taking.{TakerLaw, Hears}
-use Rattle.law_order.proofs.ByNumber.{by_test, same_number, more_none}
-use Rattle.law_order.proofs.TakerKeeps.{taker_step, taker_starts}
-use Rattle.rh_rts.specs.declared.command.Cookie.{Cookie}
-use Rattle.rh_sig.specs.declared.named.Named.{Named}
+use Rattle.law_order.proofs.Vocabulary.{◌≡◌, ℕ, suc, ◌==◌, Bool, true, false, not, ◌&&◌, ◌||◌, nat_lt, if◌then◌else◌, List, [], ◌∷◌, ◌++◌, length, is_ok, IsTrue, Some, None, Ok, Err, rules, refl, sym, ap, ◌∙◌, subst, Option, Result, Item, Piece, Stop, Handover, Log, more, PduNow, PduNext, EndNow, EndNext, HandoverNow, TakerLaw, Hears}
 use Rattle.rh_sig.specs.declared.named.Named.TheVariants as named
-use Rattle.rh_sig.specs.declared.lengths.TheConstants.{CONN_B1_LEN, IN_R1_A1_LEN, IN_R1_A5_LEN, OUT_R1_A7_LEN, END_A1_LEN, ACK_TO_LEN, PING_LEN}
-use Rattle.rh_http.specs.declared.config.ClientConfig.{ClientConfig}
-use Rattle.rh_line.specs.Lines.{Line, Incoming, is_empty, channel_of, with_channel, with_end, admitted, channel_verdict, released, settled as settled_line, moved_on, after_finish, after_take, after_end, after_told, after_open_next}
 use Rattle.rh_line.specs.Lines as lines
-use Rattle.rh_line.specs.Queue.{front_length}
-use Rattle.rh_line.specs.declared.line_fault.LineFault.{LineFault}
 use Rattle.rh_line.specs.declared.line_fault.LineFault.TheVariants as line_fault
-use Rattle.rh_line.specs.declared.leg.Leg.{Leg}
-use Rattle.rh_line.specs.declared.leg.LegKind.{LegKind}
-use Rattle.rh_line.specs.declared.leg.LegKind.TheVariants.{ClientOut, OutServer, ClientIn, InServer}
-use Rattle.rh_line.specs.declared.which.Which.{Which}
-use Rattle.rh_line.specs.declared.which.Which.TheVariants.{Current, Next}
-use Rattle.rh_shell.specs.Rules.{Message, Pdu, Packet}
-use Rattle.rh_shell.specs.declared.answers.Count.{Count}
 use Rattle.rh_shell.specs.declared.answers.Phase.TheVariants as phase
-use Rattle.rh_client.specs.declared.channels.Opening.{Opening}
-use Rattle.rh_client.specs.declared.channels.Opening.TheVariants.{NotUp, Request, First, Second, Put}
-use Rattle.rh_client.specs.declared.channels.TheConstants.{LAST_NUMBER}
-use Rattle.rh_client.specs.declared.replacement.Replacement.{Replacement}
-use Rattle.rh_client.specs.declared.replacement.Replacement.TheVariants.{NoneUnderWay, In, Out}
 use Rattle.rh_client.specs.declared.replacement.InStage.TheVariants as in_stage
 use Rattle.rh_client.specs.declared.replacement.OutStage.TheVariants as out_stage
-use Rattle.rh_client.specs.declared.replacement.Waits.{Waits}
 use Rattle.rh_client.specs.declared.replacement.Waits.TheVariants as waits
-use Rattle.rh_client.specs.declared.state.ClientRole.{ClientRole}
-use Rattle.rh_client.specs.Channels.{unopened_in, metered, is_named, out_up}
-use Rattle.rh_client.specs.Replacements.{is_out, is_finished, has_out, with_out}
-use Rattle.rh_client.specs.State.{Done, taken, unexpected, is_open, is_writing, is_in_successor, is_current, is_out_successor, is_over, settled}
-use Rattle.rh_client.specs.Opening.{up_by, with_next, on_conn_a3, on_conn_c2}
-use Rattle.rh_client.specs.Acknowledging.{is_switched_by, is_switched, pdu_channel, pdu_on, admit_row, ack_due, cookie_of, on_pdu, on_ack_to, ack_named, acked, ack_row}
-use Rattle.rh_client.specs.InReplacement.{on_in_r1_a4, on_in_r2_a4, handed_over}
-use Rattle.rh_client.specs.OutReplacement.{passed, a2_by, a10_by, on_out_r1_a2, on_out_r1_a6}
-use Rattle.rh_client.specs.Ending.{Given, give, end_channel, end_on, is_done_by, drawn_by}
-use Rattle.rh_client.specs.Time.{ping_by}
 use Rattle.rh_client.specs.Putting as putting
-use Rattle.rh_client.specs.Putting.{Pick, or_else, put_conn_b1, put_in_r1_a1, put_current, put_out_successor, put_out, put_in_r1_a5, put_out_r1_a7, due_by, put_due, ack_by, put_ack_of, put_ack, put_pdu, put_end, put_ping, put_successor_ping, put_next, put_writing, put_in_successor, put_in, put_by, settled_or_wished, settled_pick}
 use Rattle.rh_client.specs.Client as client
-use Rattle.rh_client.specs.Client.{rules as client_rules, acts, on_packet, packet_by, packet, pdu}
+use Rattle.law_moves.proofs.Vocabulary.{Ack, may_put, fits, by_test, same_number, more_none, taker_step, taker_starts, Cookie, Named, CONN_B1_LEN, IN_R1_A1_LEN, IN_R1_A5_LEN, OUT_R1_A7_LEN, END_A1_LEN, ACK_TO_LEN, PING_LEN, ClientConfig, Line, Incoming, channel_verdict, after_finish, after_end, after_told, after_open_next, front_length, LineFault, Leg, LegKind, ClientOut, OutServer, ClientIn, InServer, Which, Current, Next, Message, Pdu, Packet, Count, Passage, EndPassage}
+use Rattle.law_moves.proofs.Vocabulary.{EndMove, Up, HeadCame, PduCame, PacketCame, Puts, IsDrawn, Marks, Pings, Moves, Gives, Takes, Recycles, taken_by, given_by, with_first, end_moved, all_end_moved}
 use Rattle.law_moves.specs.Moves as moves
-use Rattle.law_moves.specs.Moves.{Passage, EndPassage, EndMove, Up, HeadCame, PduCame, PacketCame, Puts, IsDrawn, Marks, Pings, Moves, Gives, Takes, Recycles, taken_by, given_by, with_first, end_moved, all_end_moved}
-use Rattle.law_role_client.specs.Order.{down_items, down_mark, came_log, shelf_of, has_leg, TakesInOrder, AreAllowedMoves, client_started, client_moved}
+use Rattle.law_role_client.proofs.Vocabulary.{Opening, NotUp, Request, First, Second, Put, LAST_NUMBER, Replacement, NoneUnderWay, In, Out, Waits, ClientRole, unopened_in, metered, is_named, out_up, is_out, is_finished, has_out, with_out, Done, taken, unexpected, is_open, is_writing, is_in_successor, is_current, is_out_successor, is_over, settled, up_by, with_next, on_conn_a3, on_conn_c2, is_switched_by, is_switched, pdu_channel, pdu_on, admit_row, ack_due, cookie_of, on_pdu}
+use Rattle.law_role_client.proofs.Vocabulary.{on_ack_to, ack_named, acked, ack_row, on_in_r1_a4, on_in_r2_a4, handed_over, passed, a2_by, a10_by, on_out_r1_a2, on_out_r1_a6, Given, give, end_channel, end_on, is_done_by, drawn_by, ping_by, Pick, or_else, put_conn_b1, put_in_r1_a1, put_current, put_out_successor, put_out, due_by, put_due, ack_by, put_ack_of, put_ack, put_pdu, put_end, put_ping, put_successor_ping, put_next, put_writing, put_in_successor, put_in, put_by}
+use Rattle.law_role_client.proofs.Vocabulary.{settled_pick, rules as client_rules, acts, on_packet, packet_by, packet, pdu, down_items, down_mark, came_log, shelf_of, has_leg, TakesInOrder, AreAllowedMoves, client_started, client_moved}
 use Rattle.law_role_client.proofs.ClientLogs.{log_here, of_kind}
-use Rattle.law_role_client.proofs.TakesKept.{reads_by, reads, taker_by, LawBy, IsNext, Took, same, by_replacement}
-use Rattle.law_role_client.proofs.TakesKept.{another, begin_out_took, after_in_took, settled_took, recycle_took, differ, both, settles, take_took}
+use Rattle.law_role_client.proofs.TakesKept.{reads_by, reads, taker_by, LawBy, IsNext, Took, same, by_replacement, another, begin_out_took, after_in_took, settled_took, recycle_took, differ, both, settles, take_took}
 
 -- ---- rows
 

@@ -1,33 +1,13 @@
 -- what a client keeps of the law of an end that takes, while its OUT channels are replaced
-use Rattle.std.proofs.Common.{◌≡◌, ℕ, suc, ◌+◌, Bool, true, false, ◌&&◌, nat_lt, List, [], ◌∷◌, ◌++◌, Ok, Err, arith, refl, sym, ap, ◌∙◌, subst}
-use Rattle.std.specs.declared.result.Result.{Result}
-use Rattle.law_order.specs.Logs.{Log}
-use Rattle.law_order.specs.Shelves.{MovesOn}
-use Rattle.law_order.specs.Taking.{Taker, TakerLaw, Hears, TakesPdu}
-use Rattle.law_order.proofs.ByNumber.{by_test, more_none}
-use Rattle.law_order.proofs.TakerKeeps.{taker_step}
-use Rattle.rh_line.specs.Lines.{Line, Incoming, is_empty, channel_of, with_channel, with_end, admitted, channel_verdict, released, settled as settled_line, moved_on, after_finish, after_take, after_end, after_told, after_open_next}
+use Rattle.law_order.proofs.Vocabulary.{◌≡◌, ℕ, suc, ◌+◌, Bool, true, false, ◌&&◌, nat_lt, List, [], ◌∷◌, ◌++◌, Ok, Err, arith, refl, sym, ap, ◌∙◌, subst, Result, Log, MovesOn, Taker, TakerLaw, Hears, TakesPdu}
 use Rattle.rh_line.specs.Lines as lines
 use Rattle.rh_shell.specs.declared.answers.Phase.TheVariants as phase
-use Rattle.rh_shell.specs.declared.end_role.RecycleRefused.{RecycleRefused}
-use Rattle.rh_shell.specs.declared.end_role.RecycleRefused.TheVariants.{Last}
-use Rattle.rh_client.specs.declared.channels.TheConstants.{LAST_NUMBER}
-use Rattle.rh_client.specs.declared.replacement.Replacement.{Replacement}
-use Rattle.rh_client.specs.declared.replacement.Replacement.TheVariants.{NoneUnderWay, In, Out}
 use Rattle.rh_client.specs.declared.replacement.InStage.TheVariants as in_stage
 use Rattle.rh_client.specs.declared.replacement.OutStage.TheVariants as out_stage
-use Rattle.rh_client.specs.declared.replacement.Waits.{Waits}
 use Rattle.rh_client.specs.declared.replacement.Waits.TheVariants as waits
-use Rattle.rh_client.specs.declared.state.ClientRole.{ClientRole}
-use Rattle.rh_client.specs.Channels.{unopened_in, unopened_out}
-use Rattle.rh_client.specs.Replacements.{is_out, is_finished}
-use Rattle.rh_client.specs.State.{is_over, begin_in, begin_out, after_in, after_out}
-use Rattle.rh_client.specs.InReplacement.{recycle_by, wish_by, wished, wants_successor}
-use Rattle.rh_client.specs.OutReplacement.{succeeded, ended_or, pass_by, passed}
-use Rattle.rh_client.specs.Putting.{settled_or_wished}
+use Rattle.law_moves.proofs.Vocabulary.{by_test, more_none, taker_step, Line, is_empty, released, settled as settled_line, moved_on, RecycleRefused, Last, with_first}
 use Rattle.law_moves.specs.Moves as moves
-use Rattle.law_moves.specs.Moves.{Passage, EndPassage, EndMove, Up, HeadCame, PduCame, PacketCame, Puts, IsDrawn, Marks, Pings, Moves, Gives, Takes, Recycles, taken_by, given_by, with_first, end_moved, all_end_moved}
-use Rattle.law_role_client.specs.Order.{shelf_of, has_leg}
+use Rattle.law_role_client.proofs.Vocabulary.{LAST_NUMBER, Replacement, NoneUnderWay, In, Out, Waits, ClientRole, unopened_in, unopened_out, is_out, is_finished, is_over, begin_in, begin_out, after_in, after_out, recycle_by, wish_by, wished, wants_successor, succeeded, ended_or, pass_by, passed, settled_or_wished, shelf_of, has_leg}
 
 -- ---- what the law reads
 

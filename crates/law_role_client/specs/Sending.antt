@@ -1,6 +1,6 @@
 -- how far a client may send on each of its IN channels, by what it was told; which acknowledgements
 -- it refuses (MS-RPCH 3.2.1); and the cookies of its channels
-use Rattle.std.specs.Prelude.{◌≡◌, ℕ, ◌+◌, ◌<◌, ◌≤◌, ◌⊎◌, List, [], ◌∷◌, false, Err}
+use Rattle.std.specs.Prelude.{◌≡◌, ℕ, ◌+◌, ◌<◌, ◌≤◌, ◌⊎◌, List, false, Err}
 use Rattle.rh_window.specs.declared.range.TheConstants.{GREATEST_WINDOW}
 use Rattle.rh_rts.specs.declared.command.Cookie.{Cookie}
 use Rattle.rh_rts.specs.declared.command.TheConstants.{TO_CLIENT}
@@ -15,7 +15,7 @@ use Rattle.rh_shell.specs.Shells.{is_of}
 use Rattle.rh_client.specs.declared.state.ClientRole.{ClientRole}
 use Rattle.rh_client.specs.State.{ci, co}
 use Rattle.rh_client.specs.Client.{rules}
-use Rattle.law_moves.specs.Moves.{OnLeg, Up, Passage, EndMove, Moves}
+use Rattle.law_moves.specs.Moves.{OnLeg, Passage, EndMove}
 use Rattle.law_moves.specs.Wires.{of_leg}
 use Rattle.law_moves.specs.Passages.Passing.{pdu_bytes, HasOn, HasBegunIn, HasBegunOut}
 use Rattle.law_moves.specs.Passages.Rising.{HasComeUp}

@@ -1,3 +1,3 @@
-mod Putting
-mod InTurn
-mod Refusing
+pub mod Putting
+pub mod InTurn
+pub mod Refusing

@@ -1,5 +1,5 @@
 mod Fronts
-mod Channels
+pub mod Channels
 mod Openings
 mod Facts
 mod Changes

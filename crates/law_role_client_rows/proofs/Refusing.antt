@@ -2,5 +2,5 @@ mod Channels
 mod Keeping
 mod Putting
 mod Rows
-mod Ends
+pub mod Ends
 pub mod Why

@@ -11,7 +11,6 @@ pub use puts::{
 };
 pub use refusals::what_a_client_refuses;
 pub use turns::{
-    a_client_asks_first, a_client_asks_once, a_client_puts_no_keep_alive,
-    a_client_puts_no_ping_first, a_client_writes_in_turn, no_message_follows_an_end,
-    no_pdu_follows_end, nothing_follows_in_r1_a5,
+    a_client_asks_once, a_client_puts_no_ping_first, a_client_writes_in_turn, no_pdu_follows_end,
+    nothing_follows_in_r1_a5,
 };

@@ -5,9 +5,6 @@ pub mod asking;
 pub mod pings;
 pub mod turns;
 
-pub use asking::{a_client_asks_first, a_client_asks_once};
+pub use asking::a_client_asks_once;
 pub use pings::a_client_puts_no_ping_first;
-pub use turns::{
-    a_client_puts_no_keep_alive, a_client_writes_in_turn, no_message_follows_an_end,
-    no_pdu_follows_end, nothing_follows_in_r1_a5,
-};
+pub use turns::{a_client_writes_in_turn, no_pdu_follows_end, nothing_follows_in_r1_a5};

@@ -1,40 +1,9 @@
 -- what an in proxy has that it may put, which every move keeps so that it reads back
-use Rattle.std.proofs.Common.{◌≡◌, ℕ, ◌+◌, ◌-◌, ◌*◌, ◌^◌, ◌<◌, ◌≤◌, Bool, true, false, ◌&&◌, ◌||◌, List, length, arith, refl}
-use Rattle.std.proofs.lemmas.Bool.Decides.{nat_tests}
-use Rattle.std.specs.Prelude.{Some, None, Ok, Err, IfSome, if◌then◌else◌, is_ok, nat_le, nat_lt}
-use Rattle.std.specs.List.{AllByRecursion}
-use Rattle.std.specs.declared.option.Option.{Option}
-use Rattle.std.specs.declared.result.Result.{Result}
-use Rattle.rh_window.specs.Sides.{Receiver}
 use Rattle.rh_window.specs.Receiving as windows
-use Rattle.rh_window.specs.declared.range.TheConstants.{LEAST_WINDOW}
-use Rattle.rh_window.specs.declared.fault.WindowExceeded.{WindowExceeded}
-use Rattle.rh_window.specs.declared.recv_window.Ack.{Ack}
-use Rattle.law_order.proofs.ByNumber.{by_test}
-use Rattle.rh_pdu.specs.Frames.{IsPdu}
-use Rattle.rh_rts.specs.declared.command.Cookie.{Cookie}
-use Rattle.rh_rts.specs.declared.command.TheConstants.{COOKIE_LEN}
-use Rattle.rh_sig.specs.declared.name.Pipe.TheVariants.{IsU}
+use Rattle.law_order.proofs.Vocabulary.{◌≡◌, ℕ, ◌+◌, ◌-◌, ◌*◌, ◌^◌, ◌<◌, ◌≤◌, Bool, true, false, ◌&&◌, ◌||◌, List, length, arith, refl, nat_tests, Some, None, Ok, Err, IfSome, if◌then◌else◌, is_ok, nat_le, nat_lt, AllByRecursion, Option, Result}
 use Rattle.rh_line.specs.Lines as line
-use Rattle.rh_line.specs.Lines.{Incoming, Line}
-use Rattle.rh_line.specs.declared.which.Which.{Which}
-use Rattle.rh_line.specs.declared.which.Which.TheVariants.{Current, Next}
-use Rattle.rh_shell.specs.declared.due.Due.{Due}
-use Rattle.rh_shell.specs.Waiting.{Waiting}
-use Rattle.rh_inproxy.specs.declared.state.ClientLeg.{ClientLeg}
-use Rattle.rh_inproxy.specs.declared.state.Entry.{Entry}
-use Rattle.rh_inproxy.specs.declared.state.Entry.TheVariants.{Connects, Replaces}
-use Rattle.rh_inproxy.specs.declared.state.Handover.{Handover}
-use Rattle.rh_inproxy.specs.declared.state.Handover.TheVariants.{Came}
-use Rattle.rh_inproxy.specs.declared.state.InProxyConfig.{InProxyConfig}
-use Rattle.rh_inproxy.specs.declared.state.Opener.{Opener}
-use Rattle.rh_inproxy.specs.declared.state.Opening.{Opening}
-use Rattle.rh_inproxy.specs.declared.state.Opening.TheVariants.{WantsServer, Announces}
-use Rattle.rh_inproxy.specs.declared.state.Successor.{Successor}
-use Rattle.rh_inproxy.specs.declared.state.Successor.TheVariants.{Absent, Up, Joined}
-use Rattle.rh_inproxy.specs.State.{InProxy, IsConfig, follows, followed}
-use Rattle.law_moves.specs.Legible.Legible.{MayGo}
-use Rattle.law_role_inproxy.specs.Legible.{HasSizes}
+use Rattle.law_moves.proofs.Vocabulary.{Receiver, LEAST_WINDOW, WindowExceeded, Ack, by_test, IsPdu, Cookie, COOKIE_LEN, IsU, Incoming, Line, Which, Current, Next, Due, Waiting, MayGo}
+use Rattle.law_role_inproxy.proofs.Vocabulary.{ClientLeg, Entry, Connects, Replaces, Handover, Came, InProxyConfig, Opener, Opening, WantsServer, Announces, Successor, Absent, Up, Joined, InProxy, IsConfig, follows, followed, HasSizes}
 
 -- ---- what may be put
 
@@ -231,10 +200,10 @@ opens_next s k =
 
 -- ---- windows
 
-at_most : (a b : ℕ) → nat_le a b ≡ true → a ≤ b
+pub at_most : (a b : ℕ) → nat_le a b ≡ true → a ≤ b
 at_most a b e = grind (arith, nat_tests)
 
-less_than : (a b : ℕ) → nat_lt a b ≡ true → a < b
+pub less_than : (a b : ℕ) → nat_lt a b ≡ true → a < b
 less_than a b e = grind (arith, nat_tests)
 
 pub admits : (window : Receiver) (len : ℕ) → IsTold window

@@ -1,72 +1,21 @@
 -- whatever moves an in proxy makes, what it puts reads back
-use Rattle.std.proofs.Common.{◌≡◌, ℕ, Bool, true, false, not, ◌&&◌, ◌||◌, List, [], ◌∷◌, ◌++◌, length, arith, refl, subst}
-use Rattle.std.specs.Prelude.{Some, None, Ok, Err, if◌then◌else◌, is_ok, nat_eq, nat_le, nat_lt, ◌==◌}
-use Rattle.std.specs.List.{list_any}
-use Rattle.std.specs.declared.option.Option.{Option}
-use Rattle.std.specs.declared.result.Result.{Result}
-use Rattle.rh_window.specs.Sides.{Receiver}
 use Rattle.rh_window.specs.Receiving as receiving
 use Rattle.rh_window.specs.Sending as windows
-use Rattle.rh_window.specs.declared.fault.BadAck.{BadAck}
-use Rattle.law_order.proofs.ByNumber.{by_test}
-use Rattle.rh_pdu.specs.Frames.{IsPdu}
-use Rattle.rh_rts.specs.declared.command.Cookie.{Cookie}
-use Rattle.rh_sig.specs.declared.name.Pipe.{Pipe}
-use Rattle.rh_sig.specs.declared.name.Pipe.TheVariants.{IsU}
-use Rattle.rh_sig.specs.declared.named.Named.{Named}
+use Rattle.law_order.proofs.Vocabulary.{◌≡◌, ℕ, Bool, true, false, not, ◌&&◌, ◌||◌, List, [], ◌∷◌, ◌++◌, length, arith, refl, subst, Some, None, Ok, Err, if◌then◌else◌, is_ok, nat_eq, nat_le, nat_lt, ◌==◌, list_any, Option, Result}
 use Rattle.rh_sig.specs.declared.named.Named.TheVariants as named
-use Rattle.rh_http.specs.declared.fault.HttpFault.{HttpFault}
-use Rattle.rh_http.specs.Heads.Verdicts.{Asked, request_verdict}
-use Rattle.rh_line.proofs.Queues.{each_push}
 use Rattle.rh_line.specs.Lines as line
-use Rattle.rh_line.specs.Lines.{Incoming}
-use Rattle.rh_line.specs.declared.leg.Leg.{Leg}
-use Rattle.rh_line.specs.declared.leg.LegKind.{LegKind}
-use Rattle.rh_line.specs.declared.leg.LegKind.TheVariants.{ClientOut, OutServer, ClientIn, InServer}
-use Rattle.rh_line.specs.declared.line_fault.LineFault.{LineFault}
-use Rattle.rh_line.specs.declared.line_fault.LineFault.TheVariants.{Window, Over}
-use Rattle.rh_line.specs.declared.which.Which.{Which}
-use Rattle.rh_line.specs.declared.which.Which.TheVariants.{Current, Next}
-use Rattle.rh_shell.specs.declared.answers.Count.{Count}
-use Rattle.rh_shell.specs.declared.answers.HeadRefused.{HeadRefused}
-use Rattle.rh_shell.specs.declared.answers.HeadTaken.{HeadTaken}
 use Rattle.rh_shell.specs.declared.answers.Refused.TheVariants as refused
-use Rattle.rh_shell.specs.declared.due.Due.{Due}
-use Rattle.rh_shell.specs.declared.due.Origin.TheVariants.{Forwarded}
-use Rattle.rh_shell.specs.Rules.{Message, Pdu, Packet}
-use Rattle.rh_shell.specs.Shells.{is_of, kind_number}
 use Rattle.rh_shell.specs.Waiting as waiting
-use Rattle.rh_inproxy.specs.declared.opening.TheConstants.{ECHO_LENGTH}
-use Rattle.rh_inproxy.specs.declared.state.ClientLeg.{ClientLeg}
-use Rattle.rh_inproxy.specs.declared.state.Entry.TheVariants.{Connects, Replaces}
-use Rattle.rh_inproxy.specs.declared.state.Handover.TheVariants.{Came}
-use Rattle.rh_inproxy.specs.declared.state.InProxyConfig.{InProxyConfig}
-use Rattle.rh_inproxy.specs.declared.state.Joining.TheVariants.{TellsServer, Told, Follows}
-use Rattle.rh_inproxy.specs.declared.state.Opener.{Opener}
-use Rattle.rh_inproxy.specs.declared.state.Opening.{Opening}
-use Rattle.rh_inproxy.specs.declared.state.Opening.TheVariants.{AwaitsClient, AwaitsPacket, WantsServer, Announces}
-use Rattle.rh_inproxy.specs.declared.state.Successor.{Successor}
-use Rattle.rh_inproxy.specs.declared.state.Successor.TheVariants.{Absent, Up, Joined}
-use Rattle.rh_inproxy.specs.declared.state.Work.{Work}
 use Rattle.rh_inproxy.specs.declared.state.Work.TheVariants as work
-use Rattle.rh_inproxy.specs.Acknowledging.{ack_for, acked, acked_by, forward_by, forwarded, on_ack_to}
-use Rattle.rh_inproxy.specs.Answers.{Done, Pick, taken, refuse, unexpected}
-use Rattle.rh_inproxy.specs.Ending.{has_later, is_newest, mark, on_end_a1, settled_pick}
-use Rattle.rh_inproxy.specs.InReplacement.{finish_by, finished, handed_over, has_passed, is_newcomer, join, joined, on_in_r1_a1, on_in_r1_a5, on_later_in_r1_a1}
-use Rattle.rh_inproxy.specs.Machine.{on_channel, on_channel_by, on_ci, on_is, packet, pdu, pdu_by, rules}
-use Rattle.rh_inproxy.specs.Opening.{accepted, channel_asked, connected, drawn, drawn_by, echo_asked, head_by, is_connection, is_first, is_replacement, is_unknown, kept_for, may_accept, on_conn_b1, on_first_in_r1_a1, opened, opener, opener_of, put_echo, up, wants, with_edge}
-use Rattle.rh_inproxy.specs.OutReplacement.{on_out_r1_a7}
 use Rattle.rh_inproxy.specs.Passing as passing
-use Rattle.rh_inproxy.specs.Putting.{next, put}
-use Rattle.rh_inproxy.specs.State.{InProxy, IsConfig, channel_of, first, has_a5, is_client_leg, is_server_leg, same_cookie}
-use Rattle.rh_inproxy.specs.Time.{on_keep_alive, ping}
-use Rattle.law_moves.specs.Legible.Legible.{AllMayGo, AllReadBack, AreFine, IsFine, IsFineMessage, IsLegible, MayGo, MayGoOn}
+use Rattle.law_moves.proofs.Vocabulary.{Receiver, BadAck, by_test, IsPdu, Cookie, Pipe, IsU, Named, HttpFault, Asked, request_verdict, each_push, Incoming, Leg, LegKind, ClientOut, OutServer, ClientIn, InServer, LineFault, Window, Over, Which, Current, Next, Count, HeadRefused, HeadTaken, Due, Forwarded, Message, Pdu, Packet, is_of, kind_number, AllMayGo, AllReadBack, AreFine, IsFine, IsFineMessage, IsLegible, MayGo, MayGoOn, Move, OnLeg, Passage, moved, now_at, put_by}
+use Rattle.law_moves.proofs.Vocabulary.{taken_by, all_moved, started}
+use Rattle.law_moves.proofs.Lemmas.{each_parted}
 use Rattle.law_moves.specs.Moves as moves
-use Rattle.law_moves.specs.Moves.{Move, OnLeg, Passage, moved, now_at, put_by, taken_by, all_moved, started}
-use Rattle.law_moves.proofs.Legible.Each.{each_parted}
-use Rattle.law_role_inproxy.specs.Legible.{HasSizes, pipe_put, pipe_to}
-use Rattle.law_role_inproxy.proofs.LegibleKeeps.{IsSized, IsOpener, IsOpening, IsSuccessor, IsTold, IsChannel, MayWait, IsSound}
-use Rattle.law_role_inproxy.proofs.LegibleKeeps.{opening_is, current_is, successor_is, handover_is, waiting_is, channel_is, channel_at, settles, opens_next, admits}
+use Rattle.law_role_inproxy.proofs.Vocabulary.{ECHO_LENGTH, ClientLeg, Connects, Replaces, Came, InProxyConfig, TellsServer, Told, Follows, Opener, Opening, AwaitsClient, AwaitsPacket, WantsServer, Announces, Successor, Absent, Up, Joined, Work, ack_for, acked, acked_by, forward_by, forwarded, on_ack_to, Done, Pick, taken, refuse, unexpected, has_later, is_newest, mark, on_end_a1, settled_pick, finish_by, finished, handed_over, has_passed, is_newcomer, join, joined}
+use Rattle.law_role_inproxy.proofs.Vocabulary.{on_in_r1_a1, on_in_r1_a5, on_later_in_r1_a1, on_channel, on_channel_by, on_ci, on_is, packet, pdu, pdu_by, rules, accepted, channel_asked, connected, drawn, drawn_by, echo_asked, head_by, is_connection, is_first, is_replacement, is_unknown, kept_for, may_accept, on_conn_b1, on_first_in_r1_a1, opened, opener, opener_of, put_echo, up, wants, with_edge, on_out_r1_a7, next, put, InProxy, IsConfig, channel_of, first, has_a5}
+use Rattle.law_role_inproxy.proofs.Vocabulary.{is_client_leg, is_server_leg, same_cookie, on_keep_alive, ping, HasSizes, pipe_put, pipe_to}
+use Rattle.law_role_inproxy.proofs.LegibleKeeps.{IsSized, IsOpener, IsOpening, IsSuccessor, IsTold, IsChannel, MayWait, IsSound, opening_is, current_is, successor_is, handover_is, waiting_is, channel_is, channel_at, settles, opens_next, admits}
 use Rattle.law_role_inproxy.proofs.LegiblePuts.{SoundPick, echo_goes, server_goes, settled_is, to_server}
 use Rattle.law_role_inproxy.proofs.OrderKeeps.{both}
 

@@ -1,54 +1,15 @@
 -- each message that an in proxy puts may go on its pipe
-use Rattle.std.proofs.Common.{◌≡◌, ℕ, ◌^◌, ◌<◌, true, false, not, ◌&&◌, ◌||◌, List, [], ◌∷◌, length, arith, refl}
-use Rattle.std.specs.Prelude.{Some, None, IfSome, nat_eq}
-use Rattle.std.specs.declared.option.Option.{Option}
-use Rattle.rh_window.specs.declared.range.TheConstants.{GREATEST_WINDOW}
-use Rattle.rh_window.specs.Sides.{IsWindow}
-use Rattle.rh_window.specs.Sending as windows
-use Rattle.rh_window.specs.declared.recv_window.Ack.{Ack}
 use Rattle.rh_window.specs.Receiving.{after_told}
-use Rattle.law_order.proofs.ByNumber.{by_test}
-use Rattle.rh_rts.specs.declared.command.Cookie.{Cookie}
-use Rattle.rh_sig.specs.declared.name.Pipe.{Pipe}
-use Rattle.rh_sig.specs.declared.name.Pipe.TheVariants.{IsU}
-use Rattle.rh_sig.specs.declared.named.Named.{Named}
-use Rattle.rh_sig.specs.declared.named.Named.TheVariants as named
-use Rattle.rh_sig.specs.declared.ranges.TheConstants.{GREATEST_TIMEOUT}
-use Rattle.rh_sig.specs.Looking.{carries}
-use Rattle.rh_sig.specs.Names.{row_of}
-use Rattle.rh_sig.specs.Values.{IsTimeout, name_of_named}
+use Rattle.rh_window.specs.Sending as windows
+use Rattle.law_order.proofs.Vocabulary.{◌≡◌, ℕ, ◌^◌, ◌<◌, true, false, not, ◌&&◌, ◌||◌, List, [], ◌∷◌, length, arith, refl, Some, None, IfSome, nat_eq, Option}
 use Rattle.rh_sig.proofs.Members as members
+use Rattle.rh_sig.specs.declared.named.Named.TheVariants as named
 use Rattle.rh_line.specs.Lines as line
-use Rattle.rh_line.specs.declared.which.Which.{Which}
-use Rattle.rh_line.specs.declared.which.Which.TheVariants.{Current, Next}
-use Rattle.rh_shell.specs.declared.due.Due.{Due}
-use Rattle.rh_shell.specs.Rules.{Text, Pdu, Packet}
-use Rattle.rh_shell.specs.Waiting.{with_due}
-use Rattle.rh_inproxy.specs.declared.state.Entry.{Entry}
-use Rattle.rh_inproxy.specs.declared.state.Entry.TheVariants.{Connects, Replaces}
-use Rattle.rh_inproxy.specs.declared.state.Handover.{Handover}
-use Rattle.rh_inproxy.specs.declared.state.Handover.TheVariants.{Before, Came, Passed}
-use Rattle.rh_inproxy.specs.declared.state.Joining.TheVariants.{TellsServer, Told, Follows}
-use Rattle.rh_inproxy.specs.declared.state.Opener.{Opener}
-use Rattle.rh_inproxy.specs.declared.state.Opening.{Opening}
-use Rattle.rh_inproxy.specs.declared.state.Opening.TheVariants.{AwaitsClient, AwaitsPacket, WantsServer, Announces, Announced}
-use Rattle.rh_inproxy.specs.declared.state.Successor.{Successor}
-use Rattle.rh_inproxy.specs.declared.state.Successor.TheVariants.{Absent, Up, Joined}
-use Rattle.rh_inproxy.specs.declared.state.Work.{Work}
 use Rattle.rh_inproxy.specs.declared.state.Work.TheVariants as work
-use Rattle.rh_inproxy.specs.Acknowledging.{ack_by, ack_due, current_ack, next_ack, put_acks}
-use Rattle.rh_inproxy.specs.Answers.{Pick, or_else}
-use Rattle.rh_inproxy.specs.Ending.{is_over, settled, settled_pick}
-use Rattle.rh_inproxy.specs.InReplacement.{mark_by, one_less, put_in_r1_a6, put_in_r2_a2, told_by}
-use Rattle.rh_inproxy.specs.Opening.{announcement, echo_answer, echo_by, first_by, is_absent, put_first}
-use Rattle.rh_inproxy.specs.Passing.{next_pdu, passed, put_pdu}
-use Rattle.rh_inproxy.specs.Putting.{next, put_behind, put_control, put_early, put_mark, put_stream, put_waiting, waiting_by}
-use Rattle.rh_inproxy.specs.State.{InProxy, IsConfig, has_a5}
-use Rattle.rh_inproxy.specs.Time.{put_ping}
-use Rattle.law_moves.specs.Legible.Legible.{IsFine, MayGo, MayGoOn}
-use Rattle.law_role_inproxy.specs.Legible.{HasSizes}
-use Rattle.law_role_inproxy.proofs.LegibleKeeps.{IsSized, IsEntry, IsOpener, IsOpening, IsSuccessor, IsHandover, MayWait, IsSound, IsAck}
-use Rattle.law_role_inproxy.proofs.LegibleKeeps.{opening_is, successor_is, handover_is, waiting_is, line_is, channel_is, channel_at, settles, acknowledges}
+use Rattle.law_moves.proofs.Vocabulary.{GREATEST_WINDOW, IsWindow, Ack, by_test, Cookie, Pipe, IsU, Named, GREATEST_TIMEOUT, carries, row_of, IsTimeout, name_of_named, Which, Current, Next, Due, Text, Pdu, Packet, with_due, IsFine, MayGo, MayGoOn}
+use Rattle.law_role_inproxy.proofs.Vocabulary.{Entry, Connects, Replaces, Handover, Before, Came, Passed, TellsServer, Told, Follows, Opener, Opening, AwaitsClient, AwaitsPacket, WantsServer, Announces, Announced, Successor, Absent, Up, Joined, Work, ack_by, ack_due, current_ack, next_ack, put_acks, Pick, or_else, is_over, settled, settled_pick, mark_by, one_less, put_in_r1_a6, put_in_r2_a2, told_by, announcement, echo_answer, echo_by, first_by, is_absent, put_first, next_pdu}
+use Rattle.law_role_inproxy.proofs.Vocabulary.{passed, put_pdu, next, put_behind, put_control, put_early, put_mark, put_stream, put_waiting, waiting_by, InProxy, IsConfig, has_a5, put_ping, HasSizes}
+use Rattle.law_role_inproxy.proofs.LegibleKeeps.{IsSized, IsEntry, IsOpener, IsOpening, IsSuccessor, IsHandover, MayWait, IsSound, IsAck, opening_is, successor_is, handover_is, waiting_is, line_is, channel_is, channel_at, settles, acknowledges}
 
 -- ---- packets of an is leg
 

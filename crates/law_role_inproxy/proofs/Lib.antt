@@ -1,9 +1,10 @@
+pub mod Vocabulary
 mod OrderKeeps
-mod OrderPuts
+pub mod OrderPuts
 mod OrderMoves
-mod LegibleKeeps
+pub mod LegibleKeeps
 mod LegiblePuts
 mod LegibleMoves
 pub mod Counted
-mod Refusing
-mod Putting
+pub mod Refusing
+pub mod Putting

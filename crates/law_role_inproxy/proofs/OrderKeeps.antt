@@ -1,42 +1,13 @@
 -- every move of an in proxy keeps its law of order
-use Rattle.std.proofs.Common.{◌≡◌, ℕ, suc, Bool, true, false, not, ◌||◌, ◌&&◌, List, [], ◌∷◌, ◌++◌, length, arith, refl, sym, ◌∙◌, subst}
-use Rattle.std.proofs.lemmas.List.{append-nil}
-use Rattle.std.specs.Prelude.{Some, None, Ok, Err, if◌then◌else◌, is_ok, nat_eq}
-use Rattle.std.specs.declared.option.Option.{Option}
-use Rattle.std.specs.declared.result.Result.{Result}
-use Rattle.rh_window.specs.Sides.{Receiver}
 use Rattle.rh_window.specs.Receiving as windows
-use Rattle.law_order.specs.Items.{Item, Piece, Stop}
+use Rattle.law_order.proofs.Vocabulary.{◌≡◌, ℕ, suc, Bool, true, false, not, ◌||◌, ◌&&◌, List, [], ◌∷◌, ◌++◌, length, arith, refl, sym, ◌∙◌, subst, append-nil, Some, None, Ok, Err, if◌then◌else◌, is_ok, nat_eq, Option, Result, Item, Piece, Stop, Log, more, PasserLaw, PduNow, PduNext, EndNow, EndNext, HandoverNow, HandoverNext, MovesOn}
 use Rattle.law_order.specs.Items as items
-use Rattle.law_order.specs.Logs.{Log, more}
-use Rattle.law_order.specs.Passing.{Passer, PasserLaw, Takes, MayPass, passes}
-use Rattle.law_order.specs.Shelves.{Coming, PduNow, PduNext, EndNow, EndNext, HandoverNow, HandoverNext, MovesOn, came_by}
-use Rattle.law_order.proofs.ByNumber.{by_test, same_number, more_none}
-use Rattle.law_order.proofs.ItemLists.{neither}
-use Rattle.law_order.proofs.PasserKeeps.{passer_step}
-use Rattle.rh_rts.specs.declared.command.Cookie.{Cookie}
 use Rattle.rh_line.specs.Lines as line
-use Rattle.rh_line.specs.Lines.{Incoming, Line}
-use Rattle.rh_line.specs.declared.line_fault.LineFault.{LineFault}
-use Rattle.rh_line.specs.declared.line_fault.LineFault.TheVariants.{Window, Over}
-use Rattle.rh_line.specs.declared.which.Which.{Which}
-use Rattle.rh_line.specs.declared.which.Which.TheVariants.{Current, Next}
 use Rattle.rh_shell.specs.declared.answers.Refused.TheVariants as refused
-use Rattle.rh_shell.specs.declared.due.Due.{Due}
-use Rattle.rh_shell.specs.Rules.{Packet}
-use Rattle.rh_inproxy.specs.declared.state.ClientLeg.{ClientLeg}
-use Rattle.rh_inproxy.specs.declared.state.Handover.{Handover}
-use Rattle.rh_inproxy.specs.declared.state.Handover.TheVariants.{Before, Came, Passed}
-use Rattle.rh_inproxy.specs.declared.state.Joining.{Joining}
-use Rattle.rh_inproxy.specs.declared.state.Joining.TheVariants.{TellsServer, Told, Follows}
-use Rattle.rh_inproxy.specs.declared.state.Successor.{Successor}
-use Rattle.rh_inproxy.specs.declared.state.Successor.TheVariants.{Absent, Up, Joined}
-use Rattle.rh_inproxy.specs.Answers.{Done, taken, refuse, unexpected}
-use Rattle.rh_inproxy.specs.Ending.{is_succeeded, has_later, on_end_a1}
-use Rattle.rh_inproxy.specs.InReplacement.{has_passed, finished, finish_by, on_in_r1_a5}
-use Rattle.rh_inproxy.specs.Passing.{pdu_by, on_pdu}
-use Rattle.rh_inproxy.specs.State.{InProxy, channel_of, next_of, has_a5, has_come, has_opened, hands_over, is_joined, follows, followed, same_cookie}
-use Rattle.law_role_inproxy.specs.Order.{item_put, next_shelf, passer_of}
+use Rattle.rh_inproxy.specs.Passing.{pdu_by}
+use Rattle.law_moves.proofs.Vocabulary.{Receiver, by_test, same_number, more_none, neither, passer_takes as law_takes, Cookie, Incoming, Line, LineFault, Window, Over, Which, Current, Next, Due, Packet}
+use Rattle.law_role_inproxy.proofs.Vocabulary.{ClientLeg, Handover, Before, Came, Passed, Joining, TellsServer, Told, Follows, Successor, Absent, Up, Joined, Done, taken, refuse, unexpected, is_succeeded, has_later, on_end_a1, has_passed, finished, finish_by, on_in_r1_a5, on_pdu, InProxy, channel_of, next_of, has_a5, has_come, has_opened, hands_over, is_joined, follows, followed, same_cookie, item_put, next_shelf, passer_of}
+use Rattle.law_role_inproxy.proofs.Refusing.Legs.{IsBehind}
 
 -- ---- tests
 
@@ -44,20 +15,11 @@ pub both : (a b : Bool) → a && b ≡ true → (a ≡ true) × (b ≡ true)
 both true b e = (refl, e)
 both false b e = absurd cc
 
-pub not_so : (a : Bool) → not a ≡ true → a ≡ false
-not_so true e = absurd cc
-not_so false e = refl
-
 pub nothing_there : (pdus : List (List ℕ)) → line.is_empty pdus ≡ true → pdus ≡ []
 nothing_there [] e = refl
 nothing_there (pdu ∷ pdus) e = absurd cc
 
 -- ---- what an in proxy keeps beside its law
-
-abbrev pub IsBehind : ℕ → Successor → Type 0
-IsBehind n Absent = Unit {0}
-IsBehind n (Up number) = number ≡ suc n
-IsBehind n (Joined leg stage) = leg.number ≡ suc n
 
 -- while a later ci leg is there, no IN_R1/A6 was put; before its first packet, no IN_R1/A5 came
 abbrev pub IsUnmarked : Handover → Successor → Type 0
@@ -95,13 +57,6 @@ KeptRow first came put n items (t, Ok taken) = Kept first (more n items came) pu
 KeptRow first came put n items (t, Err why) = Kept first came put t
 
 -- ---- steps of the law
-
-pub law_takes : (x : Passer) (first : ℕ) (came : Log) (put : List Item) (what : Coming)
-    → PasserLaw x first came put → MayPass x first (Takes what)
-    → PasserLaw (passes x (Takes what)) first (came_by x.shelves what came) put
-law_takes x first came put what l may =
-    subst (λ items. PasserLaw (passes x (Takes what)) first (came_by x.shelves what came) items)
-    (append-nil put) (passer_step x first came put (Takes what) l may)
 
 pub quiet_row : (first : ℕ) (came : Log) (put : List Item) (n : ℕ) (t : InProxy)
     → Kept first came put t → Kept first (more n [] came) put t

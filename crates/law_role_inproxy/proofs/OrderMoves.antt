@@ -1,64 +1,18 @@
 -- each row and each move of an in proxy keeps its law of order
-use Rattle.std.proofs.Common.{◌≡◌, ℕ, suc, ◌+◌, Bool, true, false, not, ◌&&◌, List, [], ◌∷◌, ◌++◌, arith, refl, sym, ap, ◌∙◌, subst}
-use Rattle.std.proofs.lemmas.List.{append_assoc, append-nil}
-use mathlib.Core.Path.{fun_ext}
-use Rattle.std.specs.Prelude.{Some, None, Ok, Err, if◌then◌else◌, nat_eq, nat_le, nat_lt}
-use Rattle.std.specs.List.{list_any}
-use Rattle.std.specs.declared.option.Option.{Option}
-use Rattle.std.specs.declared.result.Result.{Result}
-use Rattle.rh_rts.specs.declared.command.Cookie.{Cookie}
-use Rattle.rh_http.specs.declared.fault.HttpFault.{HttpFault}
-use Rattle.rh_http.specs.Heads.Verdicts.{Asked, request_verdict}
-use Rattle.rh_sig.specs.declared.named.Named.{Named}
-use Rattle.rh_sig.specs.declared.named.Named.TheVariants as named
 use Rattle.rh_window.specs.Sending as windows
-use Rattle.rh_window.specs.declared.fault.BadAck.{BadAck}
-use Rattle.rh_line.specs.declared.leg.Leg.{Leg}
-use Rattle.rh_line.specs.declared.leg.LegKind.TheVariants.{InServer}
-use Rattle.rh_line.specs.declared.which.Which.{Which}
-use Rattle.rh_line.specs.declared.which.Which.TheVariants.{Current, Next}
-use Rattle.law_order.specs.Items.{Item, Piece}
-use Rattle.law_order.specs.Logs.{Log, more}
-use Rattle.law_order.proofs.ByNumber.{by_test, same_number}
-use Rattle.law_order.proofs.PasserKeeps.{passer_starts}
-use Rattle.rh_shell.specs.declared.answers.Count.{Count}
-use Rattle.rh_shell.specs.declared.answers.HeadRefused.{HeadRefused}
-use Rattle.rh_shell.specs.declared.answers.HeadTaken.{HeadTaken}
+use Rattle.law_order.proofs.Vocabulary.{◌≡◌, ℕ, suc, ◌+◌, Bool, true, false, not, ◌&&◌, List, [], ◌∷◌, ◌++◌, arith, refl, sym, ap, ◌∙◌, subst, append_assoc, append-nil, Some, None, Ok, Err, if◌then◌else◌, nat_eq, nat_le, nat_lt, list_any, Option, Result, fun_ext, Item, Piece, Log, more}
+use Rattle.rh_sig.specs.declared.named.Named.TheVariants as named
 use Rattle.rh_shell.specs.declared.answers.Refused.TheVariants as refused
-use Rattle.rh_shell.specs.declared.due.Due.{Due}
-use Rattle.rh_shell.specs.declared.due.Origin.TheVariants.{Forwarded}
-use Rattle.law_moves.specs.Moves as moves
-use Rattle.law_moves.specs.Moves.{Move, OnLeg, Passage, moved, put_by, taken_by, all_moved, started}
-use Rattle.rh_shell.specs.Rules.{Message, Text, Pdu, Packet}
-use Rattle.rh_shell.specs.Shells.{is_of}
 use Rattle.rh_shell.specs.Waiting as waiting
-use Rattle.rh_inproxy.specs.declared.state.Handover.{Handover}
-use Rattle.rh_inproxy.specs.declared.state.Handover.TheVariants.{Before, Came, Passed}
-use Rattle.rh_inproxy.specs.declared.state.InProxyConfig.{InProxyConfig}
-use Rattle.rh_inproxy.specs.declared.state.Joining.{Joining}
-use Rattle.rh_inproxy.specs.declared.state.Opener.{Opener}
-use Rattle.rh_inproxy.specs.declared.state.ClientLeg.{ClientLeg}
-use Rattle.rh_inproxy.specs.declared.state.Opening.{Opening}
-use Rattle.rh_inproxy.specs.declared.state.Opening.TheVariants.{AwaitsClient, AwaitsPacket, WantsServer, Announces, Announced}
-use Rattle.rh_inproxy.specs.declared.state.Successor.{Successor}
-use Rattle.rh_inproxy.specs.declared.state.Successor.TheVariants.{Absent, Up, Joined}
-use Rattle.rh_inproxy.specs.declared.state.Work.{Work}
 use Rattle.rh_inproxy.specs.declared.state.Work.TheVariants as work
-use Rattle.rh_inproxy.specs.Acknowledging.{ack_for, acked, acked_by, forward_by, on_ack_to}
-use Rattle.rh_inproxy.specs.Answers.{Done, Pick, taken, refuse, unexpected}
-use Rattle.rh_inproxy.specs.Ending.{is_newest, mark, settled_pick}
-use Rattle.rh_inproxy.specs.InReplacement.{has_passed, is_newcomer, join, joined, on_in_r1_a1, on_later_in_r1_a1}
-use Rattle.rh_inproxy.specs.Machine.{on_channel, on_channel_by, on_ci, on_is, packet, pdu, pdu_by, rules}
-use Rattle.rh_inproxy.specs.Opening.{accepted, accepts, accepts_later, connected, drawn_by, echo_answer, echo_asked, channel_asked, echo_by, head_by, is_absent, is_connection, is_first, is_replacement, is_unknown, kept_for, may_accept, on_conn_b1, on_first_in_r1_a1, opened, opener, opener_of, put_echo, up, wants, with_edge}
-use Rattle.rh_inproxy.specs.declared.opening.TheConstants.{ECHO_LENGTH, GREATEST_LENGTHS}
-use Rattle.rh_inproxy.specs.declared.state.Entry.TheVariants.{Connects}
-use Rattle.law_role_inproxy.specs.Order.{KeepsOrder, came_log, came_on, item_came, item_put, put_items, put_on_server}
-use Rattle.rh_inproxy.specs.OutReplacement.{on_out_r1_a7}
-use Rattle.rh_inproxy.specs.Putting.{next, put}
-use Rattle.rh_inproxy.specs.State.{InProxy, channel_of, first, has_a5, has_come, is_client_leg, is_server_leg, same_cookie}
-use Rattle.rh_inproxy.specs.Time.{on_keep_alive}
-use Rattle.law_role_inproxy.proofs.OrderKeeps.{Kept, KeptRow, ArePlain, both, not_so, by_channel, on_pdu_now, on_pdu_next, on_end_now, on_end_next, on_a5_now, on_a5_next, quiet_row, quiet_put}
+use Rattle.law_moves.proofs.Vocabulary.{BadAck, by_test, same_number, passer_starts, Cookie, Named, HttpFault, Asked, request_verdict, Leg, InServer, Which, Current, Next, Count, HeadRefused, HeadTaken, Due, Forwarded, Message, Text, Pdu, Packet, is_of, Move, OnLeg, Passage, moved, put_by, taken_by, all_moved, started}
+use Rattle.law_moves.specs.Moves as moves
+use Rattle.law_role_inproxy.proofs.Vocabulary.{Handover, Before, Came, Passed, InProxyConfig, Joining, Opener, ClientLeg, Opening, AwaitsClient, AwaitsPacket, WantsServer, Announces, Announced, Successor, Absent, Up, Joined, Work, ack_for, acked, acked_by, forward_by, on_ack_to, Done, Pick, taken, refuse, unexpected, is_newest, mark, settled_pick, has_passed, is_newcomer, join, joined, on_in_r1_a1, on_later_in_r1_a1, on_channel, on_channel_by, on_ci, on_is, packet, pdu}
+use Rattle.law_role_inproxy.proofs.Vocabulary.{pdu_by, rules, accepted, accepts, accepts_later, connected, drawn_by, echo_answer, echo_asked, channel_asked, echo_by, head_by, is_absent, is_connection, is_first, is_replacement, is_unknown, kept_for, may_accept, on_conn_b1, on_first_in_r1_a1, opened, opener, opener_of, put_echo, up, wants, with_edge, ECHO_LENGTH, GREATEST_LENGTHS, Connects, on_out_r1_a7, next, put, InProxy, channel_of, first, has_a5, has_come, is_client_leg}
+use Rattle.law_role_inproxy.proofs.Vocabulary.{is_server_leg, same_cookie, on_keep_alive, KeepsOrder, came_log, came_on, item_came, item_put, put_items, put_on_server}
+use Rattle.law_role_inproxy.proofs.OrderKeeps.{Kept, KeptRow, ArePlain, both, by_channel, on_pdu_now, on_pdu_next, on_end_now, on_end_next, on_a5_now, on_a5_next, quiet_row, quiet_put}
 use Rattle.law_role_inproxy.proofs.OrderPuts.{KeptPick, put_keeps, settled_keeps}
+use Rattle.law_role_inproxy.proofs.Putting.Tests.{four, not_so}
 
 -- ---- rows of a channel
 
@@ -373,14 +327,6 @@ later_up first came put s n Absent e b h k = record {
   };
   law = k.law;
 }
-
-four : (a b c d : Bool) → a && b && c && d ≡ true
-    → (a ≡ true) × (b ≡ true) × (d ≡ true)
-four false b c d e = absurd cc
-four true false c d e = absurd cc
-four true true false d e = absurd cc
-four true true true false e = absurd cc
-four true true true true e = (refl, refl, refl)
 
 accepts_later_keeps : (first : ℕ) (came : Log) (put : List Item) (s : InProxy) (n : ℕ)
     → accepts_later s n ≡ true → Kept first came put s

@@ -1,44 +1,14 @@
 -- each message that an in proxy puts keeps its law of order
-use Rattle.std.proofs.Common.{◌≡◌, ℕ, Bool, true, false, not, ◌&&◌, List, [], ◌∷◌, ◌++◌, length, refl}
-use Rattle.std.specs.Prelude.{Some, None, nat_eq, ◌||◌}
-use Rattle.std.specs.declared.option.Option.{Option}
 use Rattle.rh_window.specs.Sending as windows
-use Rattle.rh_window.specs.declared.recv_window.Ack.{Ack}
-use Rattle.law_order.specs.Items.{Item, Piece, Stop}
-use Rattle.law_order.specs.Logs.{Log}
-use Rattle.law_order.specs.Passing.{PassesPdu, PassesEnd, PassesHandover}
-use Rattle.law_order.proofs.ByNumber.{by_test}
-use Rattle.law_order.proofs.PasserKeeps.{passer_step}
-use Rattle.rh_rts.specs.declared.command.Cookie.{Cookie}
+use Rattle.law_order.proofs.Vocabulary.{◌≡◌, ℕ, Bool, true, false, not, ◌&&◌, List, [], ◌∷◌, ◌++◌, length, refl, Some, None, nat_eq, ◌||◌, Option, Item, Piece, Stop, Log, PassesPdu, PassesEnd, PassesHandover}
 use Rattle.rh_sig.specs.declared.named.Named.TheVariants as named
 use Rattle.rh_line.specs.Lines as line
-use Rattle.rh_line.specs.declared.which.Which.TheVariants.{Current, Next}
-use Rattle.rh_shell.specs.declared.due.Due.{Due}
-use Rattle.rh_shell.specs.Rules.{Pdu, Packet}
-use Rattle.rh_inproxy.specs.declared.state.Entry.{Entry}
-use Rattle.rh_inproxy.specs.declared.state.Entry.TheVariants.{Connects, Replaces}
-use Rattle.rh_inproxy.specs.declared.state.Handover.{Handover}
-use Rattle.rh_inproxy.specs.declared.state.Handover.TheVariants.{Before, Came, Passed}
-use Rattle.rh_inproxy.specs.declared.state.ClientLeg.{ClientLeg}
-use Rattle.rh_inproxy.specs.declared.state.Joining.{Joining}
-use Rattle.rh_inproxy.specs.declared.state.Joining.TheVariants.{TellsServer, Told, Follows}
-use Rattle.rh_inproxy.specs.declared.state.Opener.{Opener}
-use Rattle.rh_inproxy.specs.declared.state.Opening.{Opening}
-use Rattle.rh_inproxy.specs.declared.state.Opening.TheVariants.{AwaitsClient, AwaitsPacket, WantsServer, Announces, Announced}
-use Rattle.rh_inproxy.specs.declared.state.Successor.{Successor}
-use Rattle.rh_inproxy.specs.declared.state.Successor.TheVariants.{Absent, Up, Joined}
 use Rattle.rh_inproxy.specs.declared.state.Work.TheVariants as work
-use Rattle.rh_inproxy.specs.Acknowledging.{ack_by, ack_due, current_ack, next_ack, put_acks}
-use Rattle.rh_inproxy.specs.Answers.{Pick, or_else}
-use Rattle.rh_inproxy.specs.Ending.{is_over, settled, settled_pick}
-use Rattle.rh_inproxy.specs.InReplacement.{has_passed, mark_by, one_less, put_in_r1_a6, put_in_r2_a2, told_by}
-use Rattle.rh_inproxy.specs.Opening.{announcement, first_by, is_absent, put_first}
-use Rattle.rh_inproxy.specs.Passing.{next_pdu, passed, put_pdu}
-use Rattle.rh_inproxy.specs.Putting.{next, put_behind, put_control, put_early, put_mark, put_stream, put_waiting, waiting_by}
-use Rattle.rh_inproxy.specs.State.{InProxy}
-use Rattle.rh_inproxy.specs.Time.{put_ping}
-use Rattle.law_role_inproxy.specs.Order.{item_put, passer_of}
-use Rattle.law_role_inproxy.proofs.OrderKeeps.{Kept, both, not_so, nothing_there, quiet_put, settles}
+use Rattle.law_moves.proofs.Vocabulary.{Ack, by_test, passer_step, Cookie, Current, Next, Due, Pdu, Packet}
+use Rattle.law_role_inproxy.proofs.Vocabulary.{Entry, Connects, Replaces, Handover, Before, Came, Passed, ClientLeg, Joining, TellsServer, Told, Follows, Opener, Opening, AwaitsClient, AwaitsPacket, WantsServer, Announces, Announced, Successor, Absent, Up, Joined, ack_by, ack_due, current_ack, next_ack, put_acks, Pick, or_else, is_over, settled, settled_pick, has_passed, mark_by, one_less, put_in_r1_a6, put_in_r2_a2, told_by, announcement, first_by, is_absent, put_first}
+use Rattle.law_role_inproxy.proofs.Vocabulary.{next_pdu, passed, put_pdu, next, put_behind, put_control, put_early, put_mark, put_stream, put_waiting, waiting_by, InProxy, put_ping, item_put, passer_of}
+use Rattle.law_role_inproxy.proofs.OrderKeeps.{Kept, both, nothing_there, quiet_put, settles}
+use Rattle.law_role_inproxy.proofs.Putting.Tests.{not_so}
 
 -- what is put keeps the law, with the item that it is
 abbrev pub KeptPick : ℕ → Log → List Item → Pick → Type 0
@@ -253,7 +223,7 @@ not_yet : (passed over end_put : Bool) → (passed ≡ true → over ≡ true �
 not_yet false over end_put m o e = refl
 not_yet true over end_put m o e = let t = m refl o in absurd cc
 
-ended_now : (before now : Bool) → now ≡ true → before || now ≡ true
+pub ended_now : (before now : Bool) → now ≡ true → before || now ≡ true
 ended_now true now e = refl
 ended_now false now e = e
 

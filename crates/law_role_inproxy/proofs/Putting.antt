@@ -1,11 +1,11 @@
-mod Fronts
-mod Sounds
+pub mod Fronts
+pub mod Sounds
 mod Waiting
-mod Tests
+pub mod Tests
 mod Ups
 mod Rows
 mod Stands
-mod Goes
+pub mod Goes
 mod Behind
 mod Fresh
 pub mod Laws

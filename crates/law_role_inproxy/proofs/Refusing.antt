@@ -1,7 +1,7 @@
-mod Legs
-mod Steps
+pub mod Legs
+pub mod Steps
 pub mod Keeps
-mod Items
+pub mod Items
 mod Answered
 pub mod Channels
 pub mod Refusals

@@ -1,9 +1,8 @@
 -- what the tests of the rows and puts tell
-use Rattle.std.proofs.Common.{◌≡◌, ℕ, Bool, true, false, not, ◌&&◌, ◌||◌, List, [], ◌∷◌, refl}
-use Rattle.rh_line.specs.Lines.{is_empty}
-use Rattle.rh_outproxy.specs.declared.state.Mark.{Mark}
+use Rattle.law_order.proofs.Vocabulary.{◌≡◌, ℕ, Bool, true, false, not, ◌&&◌, ◌||◌, List, [], ◌∷◌, refl}
 use Rattle.rh_outproxy.specs.declared.state.Mark.TheVariants as marks
-use Rattle.rh_outproxy.specs.OutProxy.{has_come, is_due, is_put}
+use Rattle.law_moves.proofs.Vocabulary.{is_empty}
+use Rattle.law_role_outproxy.proofs.Vocabulary.{Mark, has_come, is_due, is_put}
 
 pub both_left : (a b : Bool) → a && b ≡ true → a ≡ true
 both_left true b e = refl

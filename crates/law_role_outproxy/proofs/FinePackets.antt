@@ -1,21 +1,8 @@
 -- the packets that an out proxy puts are fine, and are carried where it puts them
-use Rattle.std.proofs.Common.{◌≡◌, ℕ, ◌^◌, ◌<◌, true, length, arith, refl}
-use Rattle.rh_window.specs.Sides.{IsWindow}
-use Rattle.rh_rts.specs.declared.command.Cookie.{Cookie}
-use Rattle.rh_rts.specs.declared.command.TheConstants.{COOKIE_LEN}
-use Rattle.rh_rts.specs.Commands.{HaveSizes}
-use Rattle.rh_sig.specs.declared.name.Pipe.{Pipe}
-use Rattle.rh_sig.specs.declared.name.Pipe.TheVariants.{CoD, OsU}
-use Rattle.rh_sig.specs.declared.named.Named.{Named}
+use Rattle.law_order.proofs.Vocabulary.{◌≡◌, ℕ, ◌^◌, ◌<◌, true, length, arith, refl}
 use Rattle.rh_sig.specs.declared.named.Named.TheVariants as named
-use Rattle.rh_sig.specs.declared.ranges.TheConstants.{PROTOCOL_VERSION}
-use Rattle.rh_sig.specs.Looking.{carries}
-use Rattle.rh_sig.specs.Names.{row_of}
-use Rattle.rh_sig.specs.Values.{AreInRange, IsLifetime, IsTimeout, MayBeWritten, commands_of, name_of_named}
-use Rattle.rh_sig.proofs.Members.{carried}
-use Rattle.rh_outproxy.specs.declared.state.OutProxyConfig.{OutProxyConfig}
-use Rattle.law_moves.specs.Legible.Legible.{IsFine, MayGo}
-use Rattle.law_role_outproxy.specs.Legible.{IsConfig}
+use Rattle.law_moves.proofs.Vocabulary.{IsWindow, Cookie, COOKIE_LEN, HaveSizes, carried, Pipe, CoD, OsU, Named, PROTOCOL_VERSION, carries, row_of, AreInRange, IsLifetime, IsTimeout, MayBeWritten, commands_of, name_of_named, IsFine, MayGo}
+use Rattle.law_role_outproxy.proofs.Vocabulary.{OutProxyConfig, IsConfig}
 
 abbrev pub IsSized : Cookie → Type 0
 IsSized cookie = length cookie.0 ≡ COOKIE_LEN

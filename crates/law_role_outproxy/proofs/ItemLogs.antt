@@ -1,19 +1,9 @@
 -- the items of what was taken and put, with a message more
-use Rattle.std.proofs.Common.{◌≡◌, ℕ, Bool, true, false, ◌==◌, nat_eq, if◌then◌else◌, List, [], ◌∷◌, ◌++◌, arith, refl, sym, ap, ◌∙◌}
-use mathlib.Core.Path.{fun_ext}
-use Rattle.std.proofs.lemmas.List.{append_assoc, append-nil}
-use Rattle.std.proofs.lemmas.Bool.Decides.{nat_tests}
-use Rattle.rh_line.specs.declared.leg.Leg.{Leg}
-use Rattle.rh_line.specs.declared.leg.LegKind.{LegKind}
+use Rattle.law_order.proofs.Vocabulary.{◌≡◌, ℕ, Bool, true, false, ◌==◌, nat_eq, if◌then◌else◌, List, [], ◌∷◌, ◌++◌, arith, refl, sym, ap, ◌∙◌, append_assoc, append-nil, nat_tests, fun_ext, Item, more}
 use Rattle.rh_line.specs.declared.leg.LegKind.TheVariants as kinds
-use Rattle.rh_shell.specs.Rules.{Message}
-use Rattle.rh_shell.specs.Shells.{same_leg, is_of}
-use Rattle.law_moves.specs.Moves.{OnLeg}
-use Rattle.law_order.specs.Items.{Item}
-use Rattle.law_order.specs.Logs.{more}
-use Rattle.law_order.proofs.ByNumber.{by_test}
-use Rattle.law_role_outproxy.specs.Order.{from_server, items_of, items_on, client_leg, server_leg, came_log}
+use Rattle.law_moves.proofs.Vocabulary.{by_test, Leg, LegKind, Message, same_leg, is_of, OnLeg}
 use Rattle.law_role_outproxy.proofs.Conditions.{both_left, both_right}
+use Rattle.law_role_outproxy.proofs.Vocabulary.{from_server, items_of, items_on, client_leg, server_leg, came_log}
 
 pub items_more : (leg : Leg) (view : Message → List Item) (ones : List OnLeg) (one : OnLeg)
     → items_on leg view (ones ++ one ∷ []) ≡ items_on leg view ones ++ items_of leg view one

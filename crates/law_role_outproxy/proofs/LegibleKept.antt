@@ -1,25 +1,9 @@
 -- what an out proxy keeps, so that all that it puts reads back
-use Rattle.std.proofs.Common.{◌≡◌, ◌≤◌, Bool, false, List, Some, None, Ok, Err, arith, refl}
-use Rattle.std.specs.List.{AllByRecursion}
-use Rattle.std.specs.declared.option.Option.{Option}
-use Rattle.rh_pdu.specs.Frames.{IsPdu}
-use Rattle.rh_sig.specs.declared.name.Pipe.{Pipe}
-use Rattle.rh_sig.specs.declared.name.Pipe.TheVariants.{CoD}
-use Rattle.rh_line.specs.declared.leg.Leg.{Leg}
-use Rattle.rh_line.specs.Lines.{Incoming}
-use Rattle.rh_line.proofs.Queues.{each_push}
-use Rattle.rh_shell.specs.declared.due.Due.{Due}
-use Rattle.rh_shell.specs.Rules.{Message, Row}
-use Rattle.rh_outproxy.specs.declared.state.OutProxyConfig.{OutProxyConfig}
-use Rattle.rh_outproxy.specs.declared.state.Channel.{Channel}
+use Rattle.law_order.proofs.Vocabulary.{◌≡◌, ◌≤◌, Bool, false, List, Some, None, Ok, Err, arith, refl, AllByRecursion, Option}
 use Rattle.rh_outproxy.specs.declared.state.Channel.TheVariants as channels
-use Rattle.rh_outproxy.specs.OutProxy.{OutProxy, new_proxy}
-use Rattle.rh_outproxy.specs.Putting.{Pick}
-use Rattle.rh_outproxy.specs.Rows.{Done}
-use Rattle.law_moves.specs.Legible.Legible.{MayGo, MayGoOn, AllMayGo, AllReadBack, IsFineMessage, AreFine, IsLegible}
-use Rattle.law_moves.specs.Moves.{OnLeg, Passage, started, taken_by, put_by}
-use Rattle.law_moves.proofs.Legible.Each.{each_parted}
-use Rattle.law_role_outproxy.specs.Legible.{IsConfig, pipe_put}
+use Rattle.law_moves.proofs.Vocabulary.{IsPdu, Pipe, CoD, each_push, Leg, Incoming, Due, Message, Row, MayGo, MayGoOn, AllMayGo, AllReadBack, IsFineMessage, AreFine, IsLegible, OnLeg, Passage, started, taken_by, put_by}
+use Rattle.law_moves.proofs.Lemmas.{each_parted}
+use Rattle.law_role_outproxy.proofs.Vocabulary.{OutProxyConfig, Channel, OutProxy, new_proxy, Pick, Done, IsConfig, pipe_put}
 use Rattle.law_role_outproxy.proofs.FinePackets.{IsSized}
 
 -- ---- what is asked of a state

@@ -1,29 +1,12 @@
 -- whatever moves an out proxy makes, what it put reads back
-use Rattle.std.proofs.Common.{false, ◌&&◌, nat_le, List, [], ◌∷◌, Some, Ok, Err}
-use Rattle.std.specs.declared.option.Option.{Option}
-use Rattle.std.specs.declared.result.Result.{Result}
-use Rattle.law_order.proofs.ByNumber.{by_test}
-use Rattle.rh_sig.specs.declared.name.Pipe.{Pipe}
-use Rattle.rh_http.specs.declared.fault.HttpFault.{HttpFault}
-use Rattle.rh_http.specs.Lengths.{greatest_echo}
-use Rattle.rh_http.specs.Heads.Verdicts.{Asked, request_verdict}
-use Rattle.rh_line.specs.declared.leg.Leg.{Leg}
-use Rattle.rh_shell.specs.declared.answers.Behind.TheVariants.{Frames, PassedOver}
-use Rattle.rh_shell.specs.declared.answers.HeadRefused.{HeadRefused}
-use Rattle.rh_shell.specs.declared.answers.HeadTaken.{HeadTaken}
-use Rattle.rh_shell.specs.Rules.{Pdu, Packet}
-use Rattle.rh_outproxy.specs.declared.state.OutProxyConfig.{OutProxyConfig}
+use Rattle.law_order.proofs.Vocabulary.{false, ◌&&◌, nat_le, List, [], ◌∷◌, Some, Ok, Err, Option, Result}
 use Rattle.rh_outproxy.specs.declared.state.Answer.TheVariants as answers
 use Rattle.rh_outproxy.specs.declared.state.ClientLeg.TheVariants as clients
 use Rattle.rh_outproxy.specs.declared.state.ServerLeg.TheVariants as servers
-use Rattle.rh_outproxy.specs.OutProxy.{OutProxy, is_echo_put, new_proxy}
-use Rattle.rh_outproxy.specs.Rows.{is_co}
-use Rattle.rh_outproxy.specs.Opening.{head_by}
 use Rattle.rh_outproxy.specs.Putting as putting
 use Rattle.rh_outproxy.specs.Machine as machine
-use Rattle.law_moves.specs.Legible.Legible.{AllMayGo, AllReadBack, IsLegible}
-use Rattle.law_moves.specs.Moves.{OnLeg, Passage, now_at, Move, Up, HeadCame, PduCame, PacketCame, Puts, IsDrawn, Marks, Pings, moved, started, all_moved}
-use Rattle.law_role_outproxy.specs.Legible.{IsConfig, pipe_put}
+use Rattle.law_moves.proofs.Vocabulary.{by_test, Pipe, HttpFault, greatest_echo, Asked, request_verdict, Leg, Frames, PassedOver, HeadRefused, HeadTaken, Pdu, Packet, AllMayGo, AllReadBack, IsLegible, OnLeg, Passage, now_at, Move, Up, HeadCame, PduCame, PacketCame, Puts, IsDrawn, Marks, Pings, moved, started, all_moved}
+use Rattle.law_role_outproxy.proofs.Vocabulary.{OutProxyConfig, OutProxy, is_echo_put, new_proxy, is_co, head_by, IsConfig, pipe_put}
 use Rattle.law_role_outproxy.proofs.LegibleKept.{Kept, kept_starts, kept_taken, kept_put, kept_reads}
 use Rattle.law_role_outproxy.proofs.LegibleRows.{pdu_keeps, packet_keeps}
 use Rattle.law_role_outproxy.proofs.LegiblePuts.{put_goes}

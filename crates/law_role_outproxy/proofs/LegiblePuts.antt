@@ -1,37 +1,16 @@
 -- each message that an out proxy puts may go where it goes
-use Rattle.std.proofs.Common.{◌≡◌, ℕ, ◌+◌, ◌^◌, ◌<◌, ◌≤◌, Bool, true, false, ◌&&◌, ◌==◌, nat_le, if◌then◌else◌, List, [], ◌∷◌, Some, None, length, arith, rules, refl, sym, subst}
-use Rattle.std.specs.declared.option.Option.{Option}
-use Rattle.std.specs.List.{AllByRecursion}
 use Rattle.std.specs.Option.{IfSome}
-use Rattle.rh_window.specs.declared.recv_window.Ack.{Ack}
-use Rattle.rh_window.specs.Sides.{Receiver}
 use Rattle.rh_window.specs.Receiving as windows
-use Rattle.rh_window.specs.Sending.{may_send, after_sent}
-use Rattle.law_order.proofs.ByNumber.{by_test}
-use Rattle.rh_pdu.specs.Frames.{IsPdu}
-use Rattle.rh_rts.specs.declared.command.Cookie.{Cookie}
-use Rattle.rh_sig.specs.declared.name.Pipe.TheVariants.{CoD, OsU}
+use Rattle.law_order.proofs.Vocabulary.{◌≡◌, ℕ, ◌+◌, ◌^◌, ◌<◌, ◌≤◌, Bool, true, false, ◌&&◌, ◌==◌, nat_le, if◌then◌else◌, List, [], ◌∷◌, Some, None, length, arith, rules, refl, sym, subst, Option, AllByRecursion}
 use Rattle.rh_sig.specs.declared.named.Named.TheVariants as named
-use Rattle.rh_line.specs.declared.leg.Leg.{Leg}
-use Rattle.rh_line.specs.declared.leg.LegKind.{LegKind}
+use Rattle.rh_line.specs.Lines.{taken}
 use Rattle.rh_line.specs.declared.leg.LegKind.TheVariants as kinds
-use Rattle.rh_line.specs.Lines.{Line, is_empty, released, moved_on, taken, after_take}
-use Rattle.rh_shell.specs.declared.due.Due.{Due}
-use Rattle.rh_shell.specs.Rules.{Pdu, Packet}
-use Rattle.rh_shell.specs.Shells.{is_of}
-use Rattle.rh_outproxy.specs.declared.state.Answer.{Answer}
 use Rattle.rh_outproxy.specs.declared.state.Answer.TheVariants as answers
-use Rattle.rh_outproxy.specs.declared.state.Channel.{Channel}
 use Rattle.rh_outproxy.specs.declared.state.Channel.TheVariants as channels
 use Rattle.rh_outproxy.specs.declared.state.Mark.TheVariants as marks
-use Rattle.rh_outproxy.specs.declared.state.Ping.TheVariants.{NotDue}
-use Rattle.rh_outproxy.specs.OutProxy.{OutProxy, is_server_first, is_ping_due, is_due, joined}
-use Rattle.rh_outproxy.specs.Rows.{is_co, is_os}
-use Rattle.rh_outproxy.specs.Opening.{first_packet}
-use Rattle.rh_outproxy.specs.Acknowledging.{ack_due}
 use Rattle.rh_outproxy.specs.Putting as putting
-use Rattle.rh_outproxy.specs.Putting.{Pick, or_else}
-use Rattle.law_role_outproxy.specs.Legible.{pipe_put}
+use Rattle.law_moves.proofs.Vocabulary.{Ack, Receiver, may_send, after_sent, by_test, IsPdu, Cookie, CoD, OsU, Leg, LegKind, Line, is_empty, released, moved_on, after_take, Due, Pdu, Packet, is_of}
+use Rattle.law_role_outproxy.proofs.Vocabulary.{Answer, Channel, NotDue, OutProxy, is_server_first, is_ping_due, is_due, joined, is_co, is_os, first_packet, ack_due, or_else, pipe_put}
 use Rattle.law_role_outproxy.proofs.Conditions.{both_left}
 use Rattle.law_role_outproxy.proofs.FinePackets.{IsSized, timeout_goes, end_goes, handover_goes, ping_goes, conn_a2_goes, out_r1_a4_goes, ack_goes}
 use Rattle.law_role_outproxy.proofs.LegibleKept.{HasCookies, IsHeld, MayWait, IsSound, PutsWell}

@@ -1,40 +1,16 @@
 -- each row of an out proxy keeps it sound
-use Rattle.std.proofs.Common.{ℕ, ◌≤◌, Bool, true, false, ◌&&◌, ◌==◌, nat_lt, is_ok, if◌then◌else◌, List, [], ◌∷◌, ◌++◌, Some, None, Ok, Err, length, arith}
-use Rattle.std.proofs.lemmas.Bool.Decides.{nat_tests}
-use Rattle.std.specs.declared.option.Option.{Option}
-use Rattle.std.specs.declared.result.Result.{Result}
-use Rattle.std.specs.List.{list_any}
-use Rattle.rh_window.specs.Sides.{Receiver}
 use Rattle.rh_window.specs.Receiving.{after_admit}
-use Rattle.rh_window.specs.Sending.{after_acked, ack_verdict}
-use Rattle.law_order.proofs.ByNumber.{by_test}
-use Rattle.rh_pdu.specs.Frames.{IsPdu}
-use Rattle.rh_rts.specs.declared.command.Cookie.{Cookie}
-use Rattle.rh_rts.specs.declared.command.TheConstants.{TO_OUT_PROXY}
-use Rattle.rh_sig.specs.declared.name.Pipe.TheVariants.{CoD}
-use Rattle.rh_sig.specs.declared.named.Named.{Named}
+use Rattle.law_order.proofs.Vocabulary.{ℕ, ◌≤◌, Bool, true, false, ◌&&◌, ◌==◌, nat_lt, is_ok, if◌then◌else◌, List, [], ◌∷◌, ◌++◌, Some, None, Ok, Err, length, arith, nat_tests, Option, Result, list_any}
 use Rattle.rh_sig.specs.declared.named.Named.TheVariants as named
-use Rattle.rh_line.specs.declared.leg.Leg.{Leg}
-use Rattle.rh_line.specs.declared.line_fault.LineFault.{LineFault}
 use Rattle.rh_line.specs.declared.line_fault.LineFault.TheVariants as line_fault
-use Rattle.rh_line.specs.Lines.{channel_verdict}
-use Rattle.rh_line.proofs.Queues.{each_push}
-use Rattle.rh_shell.specs.declared.answers.Count.{Count}
 use Rattle.rh_shell.specs.declared.answers.Refused.TheVariants as refused
-use Rattle.rh_shell.specs.declared.due.Due.{Due}
-use Rattle.rh_shell.specs.declared.due.Origin.TheVariants.{Forwarded}
-use Rattle.rh_shell.specs.Rules.{Message, Pdu, Packet}
-use Rattle.rh_shell.specs.Waiting.{Waiting, better, edge_of, merged, takes}
 use Rattle.rh_shell.specs.Waiting as waits
-use Rattle.rh_outproxy.specs.declared.state.Channel.{Channel}
+use Rattle.rh_outproxy.specs.Acknowledging.{ack_by}
 use Rattle.rh_outproxy.specs.declared.state.Channel.TheVariants as channels
 use Rattle.rh_outproxy.specs.declared.state.Mark.TheVariants as marks
-use Rattle.rh_outproxy.specs.OutProxy.{OutProxy, is_successor, is_client_marked, joined}
-use Rattle.rh_outproxy.specs.Rows.{is_co, is_os, is_first, is_second, same_cookie, refuse, is_carrying, takes_pdus, taken, unexpected, forwarded, forwarded_by, passed_on}
-use Rattle.rh_outproxy.specs.Opening.{told_length, new_length, successor_length, opened, conn_c1_by}
-use Rattle.rh_outproxy.specs.Acknowledging.{acked, ack_row, admitted, line_row, on_pdu, on_ack_to, on_ack, ack_by}
 use Rattle.rh_outproxy.specs.Machine as machine
-use Rattle.law_moves.specs.Legible.Legible.{MayGo, IsFineMessage}
+use Rattle.law_moves.proofs.Vocabulary.{Receiver, after_acked, ack_verdict, by_test, IsPdu, Cookie, TO_OUT_PROXY, CoD, Named, each_push, Leg, LineFault, channel_verdict, Count, Due, Forwarded, Message, Pdu, Packet, Waiting, better, edge_of, merged, takes, MayGo, IsFineMessage}
+use Rattle.law_role_outproxy.proofs.Vocabulary.{Channel, OutProxy, is_successor, is_client_marked, joined, is_co, is_os, is_first, is_second, same_cookie, refuse, is_carrying, takes_pdus, taken, unexpected, forwarded, forwarded_by, passed_on, told_length, new_length, successor_length, opened, conn_c1_by, acked, ack_row, admitted, line_row, on_pdu, on_ack_to, on_ack}
 use Rattle.law_role_outproxy.proofs.FinePackets.{conn_c2_goes, ack_to_goes, in_r1_a4_goes, in_r2_a4_goes, out_r1_a2_goes, out_r1_a6_goes}
 use Rattle.law_role_outproxy.proofs.LegibleKept.{HasCookies, MayWait, IsSound, Keeps, keeps_anyhow, keeps_from}
 

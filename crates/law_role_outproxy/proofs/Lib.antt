@@ -1,3 +1,4 @@
+pub mod Vocabulary
 pub mod Conditions
 pub mod ItemLogs
 pub mod ProxyLaw
@@ -12,5 +13,5 @@ pub mod LegiblePuts
 pub mod LegibleMoves
 pub mod Sending
 pub mod Counted
-mod Refusing
-mod Putting
+pub mod Refusing
+pub mod Putting

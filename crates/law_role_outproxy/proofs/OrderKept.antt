@@ -1,26 +1,11 @@
 -- each move of an out proxy keeps the law of a proxy
-use Rattle.std.proofs.Common.{◌≡◌, ℕ, true, false, not, ◌&&◌, nat_le, List, [], ◌∷◌, Some, Ok, Err, refl, sym, subst}
-use Rattle.std.specs.declared.result.Result.{Result}
-use Rattle.law_order.proofs.ByNumber.{by_test}
-use Rattle.law_order.proofs.PasserKeeps.{passer_starts}
-use Rattle.rh_http.specs.declared.fault.HttpFault.{HttpFault}
-use Rattle.rh_http.specs.Heads.Verdicts.{Asked, request_verdict}
-use Rattle.rh_http.specs.Lengths.{greatest_echo}
-use Rattle.rh_line.specs.declared.leg.Leg.{Leg}
-use Rattle.rh_shell.specs.declared.answers.Behind.TheVariants.{Frames, PassedOver}
-use Rattle.rh_shell.specs.declared.answers.HeadRefused.{HeadRefused}
-use Rattle.rh_shell.specs.declared.answers.HeadTaken.{HeadTaken}
-use Rattle.rh_outproxy.specs.declared.state.OutProxyConfig.{OutProxyConfig}
+use Rattle.law_order.proofs.Vocabulary.{◌≡◌, ℕ, true, false, not, ◌&&◌, nat_le, List, [], ◌∷◌, Some, Ok, Err, refl, sym, subst, Result}
 use Rattle.rh_outproxy.specs.declared.state.Answer.TheVariants as answers
 use Rattle.rh_outproxy.specs.declared.state.ClientLeg.TheVariants as clients
-use Rattle.rh_outproxy.specs.declared.state.Ping.TheVariants.{Due as DueNow}
 use Rattle.rh_outproxy.specs.declared.state.ServerLeg.TheVariants as servers
-use Rattle.rh_outproxy.specs.OutProxy.{OutProxy, is_echo_put, new_proxy, is_over}
-use Rattle.rh_outproxy.specs.Rows.{is_co}
-use Rattle.rh_outproxy.specs.Opening.{head_by}
 use Rattle.rh_outproxy.specs.Machine as machine
-use Rattle.law_moves.specs.Moves.{Passage, now_at, Move, Up, HeadCame, PduCame, PacketCame, Puts, IsDrawn, Marks, Pings, moved, MayMove, is_at_work, is_in_use, started, all_moved, AreAllowed}
-use Rattle.law_role_outproxy.specs.Order.{KeepsOrder}
+use Rattle.law_moves.proofs.Vocabulary.{by_test, passer_starts, HttpFault, Asked, request_verdict, greatest_echo, Leg, Frames, PassedOver, HeadRefused, HeadTaken, Passage, now_at, Move, Up, HeadCame, PduCame, PacketCame, Puts, IsDrawn, Marks, Pings, moved, MayMove, is_at_work, is_in_use, started, all_moved, AreAllowed}
+use Rattle.law_role_outproxy.proofs.Vocabulary.{OutProxyConfig, Due as DueNow, OutProxy, is_echo_put, new_proxy, is_over, is_co, head_by, KeepsOrder}
 use Rattle.law_role_outproxy.proofs.Conditions.{both_right, no_false}
 use Rattle.law_role_outproxy.proofs.ProxyLaw.{picture_of, AreOther, Law, stays}
 use Rattle.law_role_outproxy.proofs.OrderRows.{pdu_law, packet_law}

@@ -1,35 +1,14 @@
 -- each message that is put keeps the law of a proxy
-use Rattle.std.proofs.Common.{◌≡◌, ℕ, ◌+◌, Bool, true, false, ◌&&◌, ◌||◌, ◌==◌, nat_le, if◌then◌else◌, List, [], ◌∷◌, ◌++◌, Some, None, length, refl, sym, ap, ◌∙◌}
-use Rattle.std.specs.declared.option.Option.{Option}
-use Rattle.rh_window.specs.declared.recv_window.Ack.{Ack}
-use Rattle.rh_window.specs.Sending.{may_send, after_sent}
-use Rattle.law_order.specs.Items.{Item}
-use Rattle.law_order.specs.Passing.{PassesPdu, PassesEnd, PassesHandover, passes}
-use Rattle.law_order.proofs.ByNumber.{by_test}
-use Rattle.rh_rts.specs.declared.command.Cookie.{Cookie}
-use Rattle.rh_sig.specs.declared.named.Named.{Named}
+use Rattle.law_order.proofs.Vocabulary.{◌≡◌, ℕ, ◌+◌, Bool, true, false, ◌&&◌, ◌||◌, ◌==◌, nat_le, if◌then◌else◌, List, [], ◌∷◌, ◌++◌, Some, None, length, refl, sym, ap, ◌∙◌, Option, Item, PassesPdu, PassesEnd, PassesHandover, passes}
 use Rattle.rh_sig.specs.declared.named.Named.TheVariants as named
-use Rattle.rh_line.specs.declared.leg.Leg.{Leg}
 use Rattle.rh_line.specs.declared.leg.LegKind.TheVariants as kinds
-use Rattle.rh_line.specs.declared.which.Which.TheVariants.{Current}
-use Rattle.rh_line.specs.Lines.{Line, is_empty, after_take, after_told}
-use Rattle.rh_shell.specs.declared.due.Due.{Due}
-use Rattle.rh_shell.specs.Rules.{Message, Text, Pdu, Packet}
-use Rattle.rh_shell.specs.Shells.{same_leg, is_of}
 use Rattle.rh_shell.specs.Waiting as waits
-use Rattle.rh_outproxy.specs.declared.state.Answer.{Answer}
 use Rattle.rh_outproxy.specs.declared.state.Answer.TheVariants as answers
 use Rattle.rh_outproxy.specs.declared.state.Mark.TheVariants as marks
-use Rattle.rh_outproxy.specs.declared.state.Ping.TheVariants.{NotDue}
 use Rattle.rh_outproxy.specs.declared.state.ServerLeg.TheVariants as servers
-use Rattle.rh_outproxy.specs.OutProxy.{OutProxy, is_server_first, is_server_marked, is_echo_drawn, is_ping_due, is_due, is_put, is_over, joined}
-use Rattle.rh_outproxy.specs.Rows.{is_co, is_os}
-use Rattle.rh_outproxy.specs.Opening.{first_packet}
-use Rattle.rh_outproxy.specs.Acknowledging.{ack_due}
 use Rattle.rh_outproxy.specs.Putting as putting
-use Rattle.rh_outproxy.specs.Putting.{Pick, or_else}
-use Rattle.law_moves.specs.Moves.{OnLeg, Passage, put_by}
-use Rattle.law_role_outproxy.specs.Order.{shelf_of, shelves_of, passer_of, to_client, items_of, client_leg, server_leg, put_items}
+use Rattle.law_moves.proofs.Vocabulary.{Ack, may_send, after_sent, by_test, Cookie, Named, Leg, Current, Line, is_empty, after_take, after_told, Due, Message, Text, Pdu, Packet, same_leg, is_of, OnLeg, Passage, put_by}
+use Rattle.law_role_outproxy.proofs.Vocabulary.{Answer, NotDue, OutProxy, is_server_first, is_server_marked, is_echo_drawn, is_ping_due, is_due, is_put, is_over, joined, is_co, is_os, first_packet, ack_due, Pick, or_else, shelf_of, shelves_of, passer_of, to_client, items_of, client_leg, server_leg, put_items}
 use Rattle.law_role_outproxy.proofs.Conditions.{both_left, both_right, either_right, due_came, due_unput, none_held}
 use Rattle.law_role_outproxy.proofs.ItemLogs.{items_more, items_none, server_apart}
 use Rattle.law_role_outproxy.proofs.ProxyLaw.{picture_of, AreOther, Law, stays, acts}

@@ -1,29 +1,12 @@
 -- each row keeps the law of a proxy
-use Rattle.std.proofs.Common.{◌≡◌, ℕ, Bool, true, not, is_ok, if◌then◌else◌, List, [], ◌∷◌, ◌++◌, Ok, Err, length, refl, sym, ap}
-use Rattle.std.specs.declared.result.Result.{Result}
-use Rattle.std.proofs.lemmas.List.{append-nil}
-use Rattle.rh_window.specs.Sides.{Receiver}
 use Rattle.rh_window.specs.Receiving.{after_admit}
-use Rattle.law_order.specs.Shelves.{PduNow, EndNow, HandoverNow}
-use Rattle.law_order.specs.Passing.{Takes}
-use Rattle.law_order.proofs.ByNumber.{by_test}
-use Rattle.rh_sig.specs.declared.named.Named.{Named}
+use Rattle.law_order.proofs.Vocabulary.{◌≡◌, ℕ, Bool, true, not, is_ok, if◌then◌else◌, List, [], ◌∷◌, ◌++◌, Ok, Err, length, refl, sym, ap, Result, append-nil, PduNow, EndNow, HandoverNow, Takes}
 use Rattle.rh_sig.specs.declared.named.Named.TheVariants as named
-use Rattle.rh_line.specs.declared.leg.Leg.{Leg}
-use Rattle.rh_line.specs.declared.line_fault.LineFault.{LineFault}
 use Rattle.rh_line.specs.declared.line_fault.LineFault.TheVariants as line_fault
-use Rattle.rh_line.specs.Lines.{channel_verdict}
-use Rattle.rh_shell.specs.declared.answers.Count.{Count}
-use Rattle.rh_shell.specs.Rules.{Pdu, Packet}
 use Rattle.rh_outproxy.specs.declared.state.Mark.TheVariants as marks
-use Rattle.rh_outproxy.specs.OutProxy.{OutProxy, has_come}
-use Rattle.rh_outproxy.specs.Rows.{Done, is_co, is_os, is_joined, is_carrying, takes_pdus, taken, unexpected}
-use Rattle.rh_outproxy.specs.Acknowledging.{on_pdu, admitted, line_row}
-use Rattle.rh_outproxy.specs.OutReplacement.{on_out_r1_a9}
-use Rattle.rh_outproxy.specs.Ending.{on_end_b1}
 use Rattle.rh_outproxy.specs.Machine as machine
-use Rattle.law_moves.specs.Moves.{Passage, taken_by}
-use Rattle.law_role_outproxy.specs.Order.{passer_of, put_items}
+use Rattle.law_moves.proofs.Vocabulary.{Receiver, by_test, Named, Leg, LineFault, channel_verdict, Count, Pdu, Packet, Passage, taken_by}
+use Rattle.law_role_outproxy.proofs.Vocabulary.{OutProxy, has_come, Done, is_co, is_os, is_joined, is_carrying, takes_pdus, taken, unexpected, on_pdu, admitted, line_row, on_out_r1_a9, on_end_b1, passer_of, put_items}
 use Rattle.law_role_outproxy.proofs.Conditions.{both_left, both_right, no_false, unput}
 use Rattle.law_role_outproxy.proofs.ItemLogs.{client_log, other_log, server_log}
 use Rattle.law_role_outproxy.proofs.ProxyLaw.{Law, acts}

@@ -1,29 +1,13 @@
 -- the rows that order is not about: what they forward is no item
-use Rattle.std.proofs.Common.{◌≡◌, ℕ, Bool, true, false, ◌&&◌, ◌==◌, nat_lt, if◌then◌else◌, List, [], ◌∷◌, ◌++◌, Some, None, Ok, Err, refl}
-use Rattle.std.specs.declared.option.Option.{Option}
-use Rattle.std.specs.List.{list_any}
-use Rattle.law_order.proofs.ByNumber.{by_test}
-use Rattle.rh_rts.specs.declared.command.Cookie.{Cookie}
-use Rattle.rh_rts.specs.declared.command.TheConstants.{TO_OUT_PROXY}
-use Rattle.rh_sig.specs.declared.named.Named.{Named}
+use Rattle.law_order.proofs.Vocabulary.{◌≡◌, ℕ, Bool, true, false, ◌&&◌, ◌==◌, nat_lt, if◌then◌else◌, List, [], ◌∷◌, ◌++◌, Some, None, Ok, Err, refl, Option, list_any}
 use Rattle.rh_sig.specs.declared.named.Named.TheVariants as named
-use Rattle.rh_line.specs.declared.leg.Leg.{Leg}
-use Rattle.rh_shell.specs.declared.answers.Count.{Count}
-use Rattle.rh_shell.specs.declared.due.Due.{Due}
-use Rattle.rh_shell.specs.Rules.{Message, Packet}
 use Rattle.rh_shell.specs.declared.answers.Refused.TheVariants as refused
-use Rattle.rh_shell.specs.declared.due.Origin.TheVariants.{Forwarded}
-use Rattle.rh_shell.specs.Waiting.{Waiting, better, edge_of, merged, takes}
 use Rattle.rh_shell.specs.Waiting as waits
-use Rattle.rh_outproxy.specs.declared.state.Channel.{Channel}
+use Rattle.rh_outproxy.specs.Acknowledging.{ack_by}
 use Rattle.rh_outproxy.specs.declared.state.Channel.TheVariants as channels
-use Rattle.rh_outproxy.specs.OutProxy.{OutProxy, is_successor, is_client_marked, joined}
-use Rattle.rh_outproxy.specs.Rows.{Done, is_first, is_second, same_cookie, refuse, is_carrying, taken, unexpected, forwarded, forwarded_by, passed_on}
-use Rattle.rh_outproxy.specs.Opening.{told_length, new_length, successor_length, opened, conn_c1_by}
-use Rattle.rh_outproxy.specs.Acknowledging.{acked, on_ack_to, on_ack, ack_by}
 use Rattle.rh_outproxy.specs.Machine as machine
-use Rattle.law_moves.specs.Moves.{Passage, taken_by}
-use Rattle.law_role_outproxy.specs.Order.{from_server, to_client, came_log}
+use Rattle.law_moves.proofs.Vocabulary.{by_test, Cookie, TO_OUT_PROXY, Named, Leg, Count, Due, Message, Packet, Forwarded, Waiting, better, edge_of, merged, takes, Passage, taken_by}
+use Rattle.law_role_outproxy.proofs.Vocabulary.{Channel, OutProxy, is_successor, is_client_marked, joined, Done, is_first, is_second, same_cookie, refuse, is_carrying, taken, unexpected, forwarded, forwarded_by, passed_on, told_length, new_length, successor_length, opened, conn_c1_by, acked, on_ack_to, on_ack, from_server, to_client, came_log}
 use Rattle.law_role_outproxy.proofs.ProxyLaw.{picture_of, AreOther, Law, stays}
 
 -- ---- what is forwarded is no item

@@ -1,14 +1,7 @@
 -- the law of a proxy, of an out proxy with what it took and put; and what keeps it
-use Rattle.std.proofs.Common.{◌≡◌, ℕ, Bool, false, List, [], ◌∷◌, ◌++◌, sym, ap, ◌∙◌, subst}
-use Rattle.law_order.specs.Items.{Item}
-use Rattle.law_order.specs.Logs.{Log}
-use Rattle.law_order.specs.Passing.{Passer, PasserLaw, Passing, MayPass, passes, came_at, passed_items}
-use Rattle.law_order.proofs.PasserKeeps.{passer_step}
-use Rattle.rh_shell.specs.declared.due.Due.{Due}
-use Rattle.rh_shell.specs.Rules.{Packet}
-use Rattle.rh_outproxy.specs.OutProxy.{OutProxy}
-use Rattle.law_moves.specs.Moves.{Passage}
-use Rattle.law_role_outproxy.specs.Order.{passer_of, to_client, came_log, put_items, KeepsOrder}
+use Rattle.law_order.proofs.Vocabulary.{◌≡◌, ℕ, Bool, false, List, [], ◌∷◌, ◌++◌, sym, ap, ◌∙◌, subst, Item, Log, Passer, PasserLaw, Passing, MayPass, passes, came_at, passed_items}
+use Rattle.law_moves.proofs.Vocabulary.{passer_step, Due, Packet, Passage}
+use Rattle.law_role_outproxy.proofs.Vocabulary.{OutProxy, passer_of, to_client, came_log, put_items, KeepsOrder}
 
 -- what order sees of a state
 pub record Picture : Type 0 where

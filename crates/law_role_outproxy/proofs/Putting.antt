@@ -1,5 +1,5 @@
 mod Goes
-mod Turns
+pub mod Turns
 mod ServerRows
 pub mod ToServer
 mod Forms

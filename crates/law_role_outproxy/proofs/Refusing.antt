@@ -1,7 +1,7 @@
 mod Told
 mod RowsKeep
 mod MovesKeep
-mod Refusals
+pub mod Refusals
 mod OneCookie
 mod Cookies
 pub mod Law

@@ -2,4 +2,3 @@ pub mod Legs
 mod Windows
 mod Sent
 pub mod OutProxySends
-pub mod Opening

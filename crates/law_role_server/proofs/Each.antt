@@ -1,11 +1,6 @@
 -- what holds of each element of a list holds of those that are found, and of a list that is changed
-use Rattle.std.proofs.Common.{ℕ, zero, suc, List, [], ◌∷◌, Bool, Some}
-use Rattle.std.specs.Prelude.{slice_get, slice_set, remove, find, IfSome}
-use Rattle.std.specs.List.{AllByRecursion}
-use Rattle.law_order.proofs.ByNumber.{by_test}
-use Rattle.rh_sig.specs.declared.named.Named.{Named}
-use Rattle.rh_shell.specs.declared.due.Due.{Due}
-use Rattle.rh_shell.specs.Waiting.{takes, better, merged, without_first}
+use Rattle.law_order.proofs.Vocabulary.{ℕ, zero, suc, List, [], ◌∷◌, Bool, Some, slice_get, slice_set, remove, find, IfSome, AllByRecursion}
+use Rattle.law_moves.proofs.Vocabulary.{by_test, Named, Due, takes, better, merged, without_first}
 
 -- ---- an element
 

@@ -1,59 +1,18 @@
 -- a server is a giver towards the client: its rows leave what order sees of that alone, and its
 -- puts and calls are a giver's acts
-use Rattle.std.proofs.Common.{◌≡◌, ℕ, suc, get_or, cond, ◌+◌, ◌==◌, ◌&&◌, List, [], ◌∷◌, ◌++◌, Bool, true, false, nat_eq, nat_lt, Some, None, refl, sym, ap, subst, ◌∙◌, rules, arith}
-use Rattle.std.specs.Prelude.{find, slice_get, length, nat_le, zero, not, Ok, Err}
-use Rattle.std.specs.declared.option.Option.{Option}
-use Rattle.std.specs.declared.result.Result.{Result}
-use Rattle.std.proofs.lemmas.List.{append_assoc, append-nil}
-use Rattle.std.proofs.lemmas.List.Quantifiers.{position-Some}
-use mathlib.Core.Path.{fun_ext}
-use Rattle.rh_rts.specs.declared.command.Cookie.{Cookie}
-use Rattle.rh_sig.specs.declared.named.Named.{Named}
+use Rattle.law_order.proofs.Vocabulary.{◌≡◌, ℕ, suc, get_or, cond, ◌+◌, ◌==◌, ◌&&◌, List, [], ◌∷◌, ◌++◌, Bool, true, false, nat_eq, nat_lt, Some, None, refl, sym, ap, subst, ◌∙◌, rules, arith, find, slice_get, length, nat_le, zero, not, Ok, Err, Option, Result, append_assoc, append-nil, position-Some, fun_ext, Item, Piece, Log, more, Giver, GiverLaw, Giving, Accepts, PutsPdu, PutsEnd, HandsOver, MayGive, gives, given_items, Closes as ClosesGiver}
 use Rattle.rh_sig.specs.declared.named.Named.TheVariants as named
-use Rattle.rh_keep.specs.Meters.{fits, may_put}
-use Rattle.rh_window.specs.Sending.{may_send}
-use Rattle.rh_window.specs.declared.recv_window.Ack.{Ack}
-use Rattle.rh_pdu.specs.Checking.{pdu_fault}
-use Rattle.rh_pdu.specs.declared.fault.PduFault.{PduFault}
-use Rattle.rh_line.specs.Queue.{queue_bytes, total, behind, front_length}
-use Rattle.rh_shell.specs.NearEnds.{first_of}
-use Rattle.rh_shell.specs.Hearing.{greeting as greeting_text}
 use Rattle.rh_shell.specs.declared.end_role.GiveRefused.TheVariants as give_refused
 use Rattle.rh_server.specs.declared.state.EndMark.TheVariants as end_mark
 use Rattle.rh_server.specs.declared.state.Greeting.TheVariants as greeting
-use Rattle.rh_server.specs.declared.state.Tells.{Tells}
 use Rattle.rh_server.specs.declared.state.Tells.TheVariants as tells
-use Rattle.rh_server.specs.declared.state.Leaving.{Leaving}
 use Rattle.rh_server.specs.declared.state.Leaving.TheVariants as leaving
-use Rattle.rh_server.specs.declared.state.InLeg.{InLeg}
-use Rattle.rh_line.specs.declared.leg.Leg.{Leg}
-use Rattle.rh_line.specs.declared.leg.LegKind.{LegKind}
-use Rattle.rh_line.specs.declared.leg.LegKind.TheVariants.{ClientOut, OutServer, ClientIn, InServer}
-use Rattle.rh_shell.specs.declared.answers.Count.{Count}
-use Rattle.rh_shell.specs.declared.due.Due.{Due}
-use Rattle.rh_shell.specs.declared.end_role.GiveRefused.{GiveRefused}
-use Rattle.rh_shell.specs.Rules.{Message, Text, Pdu, Packet}
-use Rattle.rh_shell.specs.Shells.{is_of}
-use Rattle.rh_shell.specs.Waiting.{Waiting, taken}
-use Rattle.law_moves.specs.Moves.{OnLeg, Move, Up, HeadCame, PduCame, PacketCame, Puts, IsDrawn, Marks, Pings, EndPassage, EndMove, Moves, Gives as IsGiven, Takes, Closes, Recycles, put_by, taken_by, given_by, with_first, end_now_at, end_started, end_moved, moved, all_end_moved}
-use Rattle.law_order.specs.Items.{Item, Piece}
-use Rattle.law_order.specs.Logs.{Log, more}
-use Rattle.law_order.specs.Giving.{Giver, GiverLaw, Giving, Accepts, PutsPdu, PutsEnd, HandsOver, MayGive, gives, given_items}
-use Rattle.law_order.specs.Giving.{Closes as ClosesGiver}
-use Rattle.law_order.proofs.ByNumber.{by_test, same_number, more_none}
-use Rattle.law_order.proofs.GiverKeeps.{giver_step, giver_starts, giver_same}
-use Rattle.rh_server.specs.declared.state.OutLeg.{OutLeg}
-use Rattle.rh_server.specs.OutLines.{lets, lets_packet}
-use Rattle.rh_server.specs.States.{Server, is_open, is_closing, is_put, is_confirmed, is_due, is_shut, is_nil, in_leg, with_in, without_in, without_out, out_place, is_waiting, stays}
-use Rattle.rh_server.specs.Opening.{Done, on_conn_a2, on_conn_b2, up}
-use Rattle.rh_server.specs.Acknowledging.{on_ack_to, on_ack, on_ping_traffic}
-use Rattle.rh_server.specs.InReplacement.{take, on_in_r1_a2, on_in_r1_a6, on_in_r2_a2}
-use Rattle.rh_server.specs.OutReplacement.{recycle, on_out_r1_a4, on_out_r1_a8, handed, last_number}
-use Rattle.rh_server.specs.Ending.{give, give_by, on_end_a2, drawn, drawn_by, in_is_drawn, lost_in, mark, mark_by, with_ack_dropped, settled}
-use Rattle.rh_server.specs.Putting.{Pick, or_else, put, put_by as put_by_kind, put_in, put_in_by, put_in_greeting, told_by, put_tells, put_tells_by, was_current, put_b1, put_b1_by, put_ack, put_ack_by, ack_due, put_out, put_out_at, put_out_place, put_open, next_out, out_greeting_at, put_out_greeting, put_waiting, waiting_at, waiting_by, was_put, counts, counts_at, gate, gate_at, put_pdu, pdu_by, may_go_at, goes, put_end, may_end_at, is_end_due, put_pdu_or_end, settled_pick, with_out}
-use Rattle.rh_server.specs.Servers.{rules as server_rules, acts as server_acts, first, on_is, on_os, packet, packet_by, pdu}
-use Rattle.law_role_server.specs.Order.{out_items, items_if, items_on, sent, giver_of}
-use Rattle.rh_server.proofs.Onces.{passes}
+use Rattle.law_moves.proofs.Vocabulary.{may_send, Ack, fits, may_put, by_test, same_number, more_none, giver_step, giver_starts, giver_same, pdu_fault, PduFault, Cookie, Named, queue_bytes, total, behind, front_length, Leg, LegKind, ClientOut, OutServer, ClientIn, InServer, first_of, greeting as greeting_text, Count, Due, GiveRefused, Message, Text, Pdu, Packet, is_of, Waiting, taken, OnLeg, Move, Up, HeadCame, PduCame, PacketCame, Puts, IsDrawn, Marks, Pings, EndPassage}
+use Rattle.law_moves.proofs.Vocabulary.{EndMove, Moves, Gives as IsGiven, Takes, Closes, Recycles, put_by, taken_by, given_by, with_first, end_now_at, end_started, end_moved, moved, all_end_moved}
+use Rattle.law_role_server.proofs.Vocabulary.{passes, Tells, Leaving, InLeg, OutLeg, lets, lets_packet, Server, is_open, is_closing, is_put, is_confirmed, is_due, is_shut, is_nil, in_leg, with_in, without_in, without_out, out_place, is_waiting, stays, Done, on_conn_a2, on_conn_b2, up, on_ack_to, on_ack, on_ping_traffic, take, on_in_r1_a2, on_in_r1_a6, on_in_r2_a2, recycle, on_out_r1_a4, on_out_r1_a8, handed, last_number, give, give_by, on_end_a2, drawn, drawn_by, in_is_drawn}
+use Rattle.law_role_server.proofs.Vocabulary.{lost_in, mark, mark_by, with_ack_dropped, settled, Pick, or_else, put, put_by as put_by_kind, put_in, put_in_by, put_in_greeting, told_by, put_tells, put_tells_by, was_current, put_b1, put_b1_by, put_ack, put_ack_by, ack_due, put_out, put_out_at, put_out_place, put_open, next_out, out_greeting_at, put_out_greeting, put_waiting, waiting_at, waiting_by, was_put, counts, counts_at, gate, gate_at, put_pdu, pdu_by, may_go_at, goes}
+use Rattle.law_role_server.proofs.Vocabulary.{put_end, may_end_at, is_end_due, put_pdu_or_end, settled_pick, with_out, rules as server_rules, acts as server_acts, first, on_is, on_os, packet, packet_by, pdu, out_items, items_if, items_on, sent, giver_of}
+use Rattle.law_role_server.proofs.Counted.BeforeC1.{no_false as never}
 
 -- ---- logs
 
@@ -334,16 +293,12 @@ act p n t m a is new items may law =
     (giver_same (gives g a) (giver_of p.given t) (more g.writing (given_items a) (sent p)) new
     (giver_step g (sent p) a law may))
 
-both : (a b : Bool) → a && b ≡ true → (a ≡ true) × (b ≡ true)
+pub both : (a b : Bool) → a && b ≡ true → (a ≡ true) × (b ≡ true)
 both true true e = (refl, refl)
 both true false e = absurd (cc)
 both false b e = absurd (cc)
 
-never : (a : Bool) → a && false ≡ true → ⊥
-never true e = absurd (cc)
-never false e = absurd (cc)
-
-negated : (a : Bool) → not a ≡ true → a ≡ false
+pub negated : (a : Bool) → not a ≡ true → a ≡ false
 negated true e = absurd (cc)
 negated false e = refl
 
@@ -497,7 +452,7 @@ got_leg [] place leg e = absurd (cc)
 got_leg (first ∷ legs) zero leg e = ap (the_leg first) e
 got_leg (first ∷ legs) (suc place) leg e = got_leg legs place leg e
 
-found : (n : ℕ) (legs : List OutLeg) (place : ℕ) (leg : OutLeg) → out_place n legs ≡ Some place
+pub found : (n : ℕ) (legs : List OutLeg) (place : ℕ) (leg : OutLeg) → out_place n legs ≡ Some place
     → slice_get legs place ≡ Some leg → leg.number ≡ n
 found n legs place leg e there =
     let at = position-Some (λ (l : OutLeg). l.number == n) legs place leg e in

@@ -1,45 +1,12 @@
 -- the is legs that a server keeps, by their numbers
-use Rattle.std.proofs.Common.{◌≡◌, ◌≢◌, ℕ, suc, ◌+◌, ◌<◌, ◌≤◌, ◌==◌, ◌&&◌, ◌||◌, cond, nat_eq, nat_lt, List, [], ◌∷◌, ◌++◌, length, Bool, true, false, not, Some, None, arith, refl, sym, ap, ◌∙◌, subst}
-use Rattle.std.specs.Prelude.{position, find}
-use Rattle.std.specs.List.{list_any, position_or_len}
-use Rattle.std.specs.declared.option.Option.{Option}
-use Rattle.std.proofs.lemmas.Bool.Decides.{nat_tests}
-use Rattle.law_order.proofs.ByNumber.{same_number, other_number, test_same, test_other}
-use Rattle.rh_server.specs.declared.state.InStage.{InStage}
-use Rattle.rh_server.specs.declared.state.InLeg.{InLeg}
-use Rattle.rh_server.specs.States.{is_fresh, is_waiting, stays, in_place, in_at, in_leg, set_at, removed_at}
-use Rattle.rh_server.specs.InReplacement.{first_waiting, has_fresh_below}
+use Rattle.law_order.proofs.Vocabulary.{◌≡◌, ◌≢◌, ℕ, suc, ◌+◌, ◌<◌, ◌≤◌, ◌==◌, ◌&&◌, ◌||◌, cond, nat_eq, nat_lt, List, [], ◌∷◌, ◌++◌, Bool, true, false, Some, None, arith, refl, sym, ap, ◌∙◌, subst, position, find, list_any, Option, nat_tests}
+use Rattle.law_moves.proofs.Vocabulary.{same_number, other_number, test_same, test_other}
+use Rattle.law_role_server.proofs.Vocabulary.{InStage, InLeg, is_fresh, is_waiting, stays, in_place, in_at, in_leg, set_at, removed_at, first_waiting, has_fresh_below}
+use Rattle.law_role_server.proofs.Counted.InLegs.{place_step, next_place}
 
 -- ---- places
 
-abbrev next_place : Option ℕ → Option ℕ
-next_place None = None
-next_place (Some place) = Some (suc place)
-
-place_step : {X : Type 0} (test : X → Bool) (x : X) (xs : List X)
-    → position test (x ∷ xs) ≡ cond (test x) (Some 0) (next_place (position test xs))
-place_step test x xs = by (test x)
-  where
-    is_there : (n : ℕ) → nat_lt 0 (suc n) ≡ true
-    is_there n = grind (arith, nat_tests)
-
-    further : (a b : ℕ) (t u : Bool) → nat_lt a b ≡ t → nat_lt (1 + a) (suc b) ≡ u
-        → cond u (Some (1 + a)) None ≡ next_place (cond t (Some a) None)
-    further a b true true e f = ap (λ (n : ℕ). Some n) (omega arith)
-    further a b false false e f = refl
-    further a b true false e f = absurd (grind (arith, nat_tests))
-    further a b false true e f = absurd (grind (arith, nat_tests))
-
-    by : (b : Bool)
-        → cond (nat_lt (cond (not b) (1 + position_or_len test xs) 0) (length (x ∷ xs)))
-        (Some (cond (not b) (1 + position_or_len test xs) 0)) None
-        ≡ cond b (Some 0) (next_place (position test xs))
-    by true = ap (λ t. cond t (Some 0) None) (is_there (length xs))
-    by false = further (position_or_len test xs) (length xs)
-        (nat_lt (position_or_len test xs) (length xs))
-        (nat_lt (1 + position_or_len test xs) (suc (length xs))) refl refl
-
-in_found : (test : InLeg → Bool) (legs : List InLeg)
+pub in_found : (test : InLeg → Bool) (legs : List InLeg)
     → in_at legs (position test legs) ≡ find test legs
 in_found test [] = refl
 in_found test (leg ∷ legs) =

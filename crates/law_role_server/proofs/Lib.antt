@@ -1,13 +1,14 @@
+pub mod Vocabulary
 pub mod Numbered
-mod Gives
-mod InSpots
-mod TakesKept
+pub mod Gives
+pub mod InSpots
+pub mod TakesKept
 mod TakesQuiet
-mod TakesRows
+pub mod TakesRows
 mod TakesLegs
 mod TakesOpens
-mod Takes
-mod Each
+pub mod Takes
+pub mod Each
 mod Putable
 mod Telling
 mod Sounds

@@ -1,16 +1,13 @@
 -- the one of a number among those that are kept, and what is said of it
-use Rattle.std.proofs.Common.{◌≡◌, ℕ, zero, suc, ◌==◌, Bool, true, false, true≢false, List, [], ◌∷◌, ◌++◌, Some, None, refl, sym, ap, ◌∙◌, subst}
-use Rattle.std.proofs.lemmas.Bool.{or_parts}
-use Rattle.std.specs.List.{AllByRecursion, list_any}
-use Rattle.std.specs.Prelude.{slice_get, slice_set, remove}
-use Rattle.law_order.proofs.ByNumber.{same_number}
+use Rattle.law_order.proofs.Vocabulary.{◌≡◌, ℕ, zero, suc, ◌==◌, Bool, true, false, true≢false, List, [], ◌∷◌, ◌++◌, Some, None, refl, sym, ap, ◌∙◌, subst, or_parts, AllByRecursion, list_any, slice_get, slice_set, remove}
+use Rattle.law_moves.proofs.Vocabulary.{same_number}
 
 abbrev pub If : Bool → Type 0 → Type 0 → Type 0
 If true A B = A
 If false A B = B
 
 -- the one that is at the place
-one : {X : Type 0} (x y : X) → Some x ≡ Some y → x ≡ y
+pub one : {X : Type 0} (x y : X) → Some x ≡ Some y → x ≡ y
 one x y e = cc
 
 module _ {X : Type 0} (number : X → ℕ) (n : ℕ) where

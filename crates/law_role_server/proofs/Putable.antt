@@ -1,15 +1,9 @@
 -- packets that a server may put: their values have their sizes and ranges
-use Rattle.std.proofs.Common.{◌≡◌, ℕ, ◌<◌, ◌≤◌, ◌^◌, [], length, arith, refl}
-use Rattle.rh_window.specs.Sides.{IsWindow}
-use Rattle.rh_rts.specs.declared.command.Cookie.{Cookie}
-use Rattle.rh_rts.specs.declared.command.TheConstants.{COOKIE_LEN, GREATEST_DESTINATION}
-use Rattle.rh_sig.specs.declared.name.Pipe.TheVariants.{IsD, OsD}
+use Rattle.law_order.proofs.Vocabulary.{◌≡◌, ℕ, ◌<◌, ◌≤◌, ◌^◌, [], length, arith, refl}
+use Rattle.rh_sig.proofs.Members.{in_front}
 use Rattle.rh_sig.specs.declared.named.Named.TheVariants as named
-use Rattle.rh_sig.specs.Names.{row_of}
 use Rattle.rh_sig.specs.declared.name.Name.TheVariants as name
-use Rattle.rh_sig.specs.Values.{IsTimeout}
-use Rattle.rh_sig.proofs.Members.{in_front, carried}
-use Rattle.law_moves.specs.Legible.Legible.{MayGo}
+use Rattle.law_moves.proofs.Vocabulary.{IsWindow, Cookie, COOKIE_LEN, GREATEST_DESTINATION, carried, IsD, OsD, row_of, IsTimeout, MayGo}
 
 abbrev pub IsCookie : Cookie → Type 0
 IsCookie cookie = length cookie.0 ≡ COOKIE_LEN

@@ -1,29 +1,10 @@
 -- what a server puts may go on its pipe, whatever happens, so that it reads back
-use Rattle.std.proofs.Common.{ℕ, List, [], ◌∷◌, Some, None, Ok, Err, arith, refl}
-use Rattle.std.specs.declared.option.Option.{Option}
-use Rattle.std.specs.declared.result.Result.{Result}
-use Rattle.rh_window.specs.Sides.{IsWindow}
-use Rattle.law_order.proofs.ByNumber.{by_test}
-use Rattle.rh_sig.specs.declared.name.Pipe.{Pipe}
-use Rattle.rh_sig.specs.declared.named.Named.{Named}
-use Rattle.rh_line.specs.declared.leg.Leg.{Leg}
-use Rattle.rh_line.specs.declared.leg.LegKind.{LegKind}
-use Rattle.rh_line.specs.declared.leg.LegKind.TheVariants.{ClientOut, OutServer, ClientIn, InServer}
-use Rattle.rh_line.proofs.Queues.{each_push}
-use Rattle.rh_shell.specs.declared.answers.Count.{Count}
-use Rattle.rh_shell.specs.declared.end_role.GiveRefused.{GiveRefused}
-use Rattle.rh_shell.specs.Rules.{Message, Pdu, Packet}
-use Rattle.rh_server.specs.States.{Server}
-use Rattle.rh_server.specs.Opening.{Done, may_up_by, up_by}
-use Rattle.rh_server.specs.InReplacement.{take}
-use Rattle.rh_server.specs.Ending.{give}
-use Rattle.rh_server.specs.Putting.{Pick, put}
-use Rattle.rh_server.specs.Servers.{rules, acts, first, on_is, on_os, packet_by, pdu_by}
-use Rattle.rh_server.specs.Acknowledging.{on_pdu}
-use Rattle.law_moves.specs.Legible.Legible.{AllMayGo, AllReadBack, MayGoOn, IsFineMessage, AreFine, IsLegible}
-use Rattle.law_moves.specs.Moves.{OnLeg, Passage, Move, Up, HeadCame, PduCame, PacketCame, Puts, IsDrawn, Marks, Pings, EndPassage, EndMove, Moves, Gives, Takes, Closes, Recycles, moved, put_by, taken_by, given_by, with_first, end_now_at, end_started, end_moved, all_end_moved}
-use Rattle.law_moves.proofs.Legible.Each.{each_parted}
-use Rattle.law_role_server.specs.Legible.{pipe_put}
+use Rattle.law_order.proofs.Vocabulary.{ℕ, List, [], ◌∷◌, Some, None, Ok, Err, arith, refl, Option, Result}
+use Rattle.rh_server.specs.Servers.{pdu_by}
+use Rattle.law_moves.proofs.Vocabulary.{IsWindow, by_test, Pipe, Named, each_push, Leg, LegKind, ClientOut, OutServer, ClientIn, InServer, Count, GiveRefused, Message, Pdu, Packet, AllMayGo, AllReadBack, MayGoOn, IsFineMessage, AreFine, IsLegible, OnLeg, Passage, Move, Up, HeadCame, PduCame, PacketCame, Puts, IsDrawn, Marks, Pings, EndPassage, EndMove, Moves, Gives, Takes, Closes, Recycles, moved, put_by, taken_by, given_by, with_first, end_now_at, end_started, end_moved}
+use Rattle.law_moves.proofs.Vocabulary.{all_end_moved}
+use Rattle.law_moves.proofs.Lemmas.{each_parted}
+use Rattle.law_role_server.proofs.Vocabulary.{Server, Done, may_up_by, up_by, take, give, Pick, put, rules, acts, first, on_is, on_os, packet_by, on_pdu, pipe_put}
 use Rattle.law_role_server.proofs.Sounds.{Sound}
 use Rattle.law_role_server.proofs.SoundRows.{RowSound, row_any, pdu_row, is_sound, os_sound, take_sound, recycle_sound}
 use Rattle.law_role_server.proofs.SoundPuts.{PickSound, puts, up_sound, drawn_sound, mark_sound, give_sound}

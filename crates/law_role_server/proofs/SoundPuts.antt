@@ -1,52 +1,19 @@
 -- what a server puts is fine, and so is what it may put then
-use Rattle.std.proofs.Common.{◌≡◌, ℕ, ◌+◌, ◌==◌, ◌&&◌, List, [], ◌∷◌, Some, None, Err, ◌++◌, refl}
-use Rattle.std.specs.Prelude.{IfSome, slice_get, find, nat_le, length}
-use Rattle.std.specs.List.{AllByRecursion}
-use Rattle.std.specs.declared.option.Option.{Option}
-use Rattle.std.specs.declared.result.Result.{Result}
-use Rattle.rh_window.specs.declared.recv_window.Ack.{Ack}
-use Rattle.law_order.proofs.ByNumber.{by_test}
-use Rattle.rh_pdu.specs.Checking.{pdu_fault}
-use Rattle.rh_pdu.specs.Frames.{IsPdu}
-use Rattle.rh_pdu.specs.declared.fault.PduFault.{PduFault}
-use Rattle.rh_pdu.proofs.Pdus.{pdu_from_none}
-use Rattle.rh_rts.specs.declared.command.Cookie.{Cookie}
-use Rattle.rh_sig.specs.declared.name.Pipe.{Pipe}
-use Rattle.rh_sig.specs.declared.name.Pipe.TheVariants.{IsD, OsD}
-use Rattle.rh_sig.specs.declared.named.Named.{Named}
+use Rattle.law_order.proofs.Vocabulary.{◌≡◌, ℕ, ◌+◌, ◌==◌, ◌&&◌, List, [], ◌∷◌, Some, None, Err, ◌++◌, refl, IfSome, slice_get, find, nat_le, length, AllByRecursion, Option, Result}
 use Rattle.rh_sig.specs.declared.named.Named.TheVariants as named
-use Rattle.rh_line.specs.Lines.{due}
-use Rattle.rh_line.specs.Queue.{queue_bytes, total, behind, front_length}
-use Rattle.rh_line.specs.declared.leg.LegKind.{LegKind}
-use Rattle.rh_line.specs.declared.leg.LegKind.TheVariants.{ClientOut, OutServer, ClientIn, InServer}
-use Rattle.rh_line.specs.declared.which.Which.TheVariants.{Current}
-use Rattle.rh_line.proofs.Queues.{each_push}
-use Rattle.rh_shell.specs.declared.due.Due.{Due}
-use Rattle.rh_shell.specs.declared.end_role.GiveRefused.{GiveRefused}
 use Rattle.rh_shell.specs.declared.end_role.GiveRefused.TheVariants as give_refused
-use Rattle.rh_shell.specs.NearEnds.{first_of}
-use Rattle.rh_shell.specs.Rules.{Packet}
-use Rattle.rh_shell.specs.Waiting.{taken}
 use Rattle.rh_server.specs.declared.state.EndMark.TheVariants as end_mark
 use Rattle.rh_server.specs.declared.state.Greeting.TheVariants as greeting
-use Rattle.rh_server.specs.declared.state.Tells.{Tells}
 use Rattle.rh_server.specs.declared.state.Tells.TheVariants as tells
-use Rattle.rh_server.specs.declared.state.Leaving.{Leaving}
 use Rattle.rh_server.specs.declared.state.Leaving.TheVariants as leaving
-use Rattle.rh_server.specs.declared.state.InLeg.{InLeg}
-use Rattle.rh_server.specs.declared.state.OutLeg.{OutLeg}
-use Rattle.rh_server.specs.OutLines.{Gate, lets, is_ack_of}
-use Rattle.rh_server.specs.States.{Server, is_open, is_due, is_shut, is_closing, is_waiting, stays, in_leg, with_in, without_in, without_out, out_place, out_cookie}
-use Rattle.rh_server.specs.Opening.{in_leg_up, up_by}
-use Rattle.rh_server.specs.Ending.{give, give_by, settled, in_is_drawn, drawn_by, lost_in, without_ack_of, with_ack_dropped, mark_by}
-use Rattle.rh_server.specs.Putting.{Pick, or_else, put_by, told_by, put_in_greeting, put_tells, put_tells_by, was_current, put_b1, put_b1_by, ack_due, put_ack, put_ack_by, put_in_by, out_greeting_at, put_out_greeting, gate_at, counts, counts_at, was_put, waiting_by, waiting_at, put_waiting, may_go_at, pdu_by, put_pdu, may_end_at, is_end_due, put_end, put_pdu_or_end, next_out, settled_pick, put_open, put_out_place, put_out_at}
-use Rattle.law_moves.specs.Legible.Legible.{MayGoOn}
-use Rattle.law_role_server.specs.Legible.{pipe_to}
+use Rattle.law_moves.proofs.Vocabulary.{Ack, by_test, pdu_from_none, pdu_fault, IsPdu, PduFault, Cookie, Pipe, IsD, OsD, Named, each_push, due, queue_bytes, total, behind, front_length, LegKind, ClientOut, OutServer, ClientIn, InServer, Current, Due, GiveRefused, first_of, Packet, taken, MayGoOn}
+use Rattle.law_role_server.proofs.Vocabulary.{Tells, Leaving, InLeg, OutLeg, Gate, lets, is_ack_of, Server, is_open, is_due, is_shut, is_closing, is_waiting, stays, in_leg, with_in, without_in, without_out, out_place, out_cookie, in_leg_up, up_by, give, give_by, settled, in_is_drawn, drawn_by, lost_in, without_ack_of, with_ack_dropped, mark_by, Pick, or_else, put_by, told_by, put_in_greeting, put_tells, put_tells_by, was_current, put_b1, put_b1_by, ack_due, put_ack}
+use Rattle.law_role_server.proofs.Vocabulary.{put_ack_by, put_in_by, out_greeting_at, put_out_greeting, gate_at, counts, counts_at, was_put, waiting_by, waiting_at, put_waiting, may_go_at, pdu_by, put_pdu, may_end_at, is_end_due, put_end, put_pdu_or_end, next_out, settled_pick, put_open, put_out_place, put_out_at, pipe_to}
 use Rattle.law_role_server.proofs.Each.{each_found, each_without}
 use Rattle.law_role_server.proofs.Putable.{end_b1, conn_b3, in_r1_b1, in_r1_b2, ack}
-use Rattle.law_role_server.proofs.TakesKept.{both}
 use Rattle.law_role_server.proofs.Telling.{IsDue, ack_is_due, told_tells, acked_tells}
 use Rattle.law_role_server.proofs.Sounds.{IsLeg, MayWait, Sound, queue_is, packets_are, legs_are, leg_found, leg_set, leg_gone, settles}
+use Rattle.law_role_server.proofs.Gives.{both}
 
 -- a message that may go on the pipe, and the state behind it
 abbrev pub PickSound : Option Pipe → Pick → Type 0

@@ -1,52 +1,22 @@
 -- the rows of a server keep what it may put fine, where what they took is
-use Rattle.std.proofs.Common.{◌≡◌, ℕ, ◌==◌, ◌&&◌, List, [], ◌∷◌, Bool, true, false, not, Some, None, Ok, Err, arith, subst}
-use Rattle.std.specs.Prelude.{if◌then◌else◌, IfSome, slice_get, nat_lt}
-use Rattle.std.specs.List.{AllByRecursion, list_any}
-use Rattle.std.specs.declared.option.Option.{Option}
-use Rattle.std.specs.declared.result.Result.{Result}
-use Rattle.law_order.proofs.ByNumber.{by_test}
-use Rattle.rh_rts.specs.declared.command.Cookie.{Cookie}
-use Rattle.rh_sig.specs.declared.name.Pipe.TheVariants.{OsD}
-use Rattle.rh_sig.specs.declared.named.Named.{Named}
+use Rattle.law_order.proofs.Vocabulary.{◌≡◌, ℕ, ◌==◌, ◌&&◌, List, [], ◌∷◌, Bool, true, false, not, Some, None, Ok, Err, arith, subst, if◌then◌else◌, IfSome, slice_get, nat_lt, AllByRecursion, list_any, Option, Result}
 use Rattle.rh_sig.specs.declared.named.Named.TheVariants as named
-use Rattle.rh_sig.specs.Values.{IsTimeout}
-use Rattle.rh_line.specs.Lines.{Line, after_admit, admit_verdict, after_end, after_finish, taken, released}
-use Rattle.rh_line.specs.declared.line_fault.LineFault.{LineFault}
-use Rattle.rh_line.specs.declared.line_fault.LineFault.TheVariants.{Window, Over}
-use Rattle.rh_line.specs.declared.which.Which.{Which}
-use Rattle.rh_line.specs.declared.which.Which.TheVariants.{Current, Next}
-use Rattle.rh_line.proofs.Queues.{each_push}
-use Rattle.rh_shell.specs.declared.answers.Count.{Count}
+use Rattle.rh_line.specs.Lines.{taken}
 use Rattle.rh_shell.specs.declared.answers.Refused.TheVariants as refused
-use Rattle.rh_shell.specs.declared.due.Due.{Due}
-use Rattle.rh_shell.specs.declared.due.Origin.TheVariants.{Forwarded}
-use Rattle.rh_shell.specs.declared.end_role.RecycleRefused.{RecycleRefused}
-use Rattle.rh_shell.specs.Waiting.{Waiting, to_forward, pushed, with_due, merged, better, takes, edge_of, count as count_of, forwarded}
-use Rattle.rh_server.specs.declared.state.Stage.{Stage}
 use Rattle.rh_server.specs.declared.state.Stage.TheVariants as stage
-use Rattle.rh_server.specs.declared.state.InStage.{InStage}
 use Rattle.rh_server.specs.declared.state.InStage.TheVariants as in_stage
 use Rattle.rh_server.specs.declared.state.Tells.TheVariants as tells
 use Rattle.rh_server.specs.declared.state.Leaving.TheVariants as leaving
-use Rattle.rh_server.specs.declared.state.Replacement.{Replacement}
 use Rattle.rh_server.specs.declared.state.Replacement.TheVariants as replacement
-use Rattle.rh_server.specs.declared.state.InLeg.{InLeg}
 use Rattle.rh_server.specs.declared.out_line.Kind.TheVariants as kind
-use Rattle.rh_server.specs.declared.state.OutLeg.{OutLeg}
-use Rattle.rh_server.specs.OutLines.{has, waits}
-use Rattle.rh_server.specs.States.{Server, is_open, is_fresh, same_cookie, in_leg, out_at, out_place, out_cookie}
-use Rattle.rh_server.specs.Opening.{Done, took, refuse, unexpected, is_first, opens, first_out_at, with_first_out, conn_a2_at, on_conn_a2, first_in, with_first_in, conn_b2_at, on_conn_b2}
-use Rattle.rh_server.specs.Acknowledging.{channel_at, is_full, out_server, admitted_by, admitted_on, on_pdu, forward_by, forwards, forwards_writing, forwards_to, channel_leg, on_ack_to, acked_at, acked_in, acked_cookie, on_ack, on_ping_traffic}
-use Rattle.rh_server.specs.InReplacement.{moved_if, take, announced, in_r1_a2_by, in_r1_a2_at, on_in_r1_a2, leaves, leaves_by, hands_over, on_in_r1_a6, in_r2_a2_on, on_in_r2_a2}
-use Rattle.rh_server.specs.OutReplacement.{asks, recycle, is_under_way, last_number, answered_by, answered_on, out_r1_a4_by, out_r1_a4_at, may_answer, on_out_r1_a4, confirms, out_r1_a8_at, on_out_r1_a8}
-use Rattle.rh_server.specs.Ending.{is_over_on, end_a2_on_leg, end_a2_waiting, end_a2_at, on_end_a2}
-use Rattle.rh_server.specs.Servers.{on_is, on_os}
-use Rattle.law_moves.specs.Legible.Legible.{IsFine, MayGo}
+use Rattle.law_moves.proofs.Vocabulary.{by_test, Cookie, OsD, Named, IsTimeout, each_push, Line, after_admit, admit_verdict, after_end, after_finish, released, LineFault, Window, Over, Which, Current, Next, Count, Due, Forwarded, RecycleRefused, Waiting, to_forward, pushed, with_due, merged, better, takes, edge_of, count as count_of, forwarded, IsFine, MayGo}
+use Rattle.law_role_server.proofs.Vocabulary.{Stage, InStage, Replacement, InLeg, OutLeg, has, waits, Server, is_open, is_fresh, same_cookie, in_leg, out_at, out_place, out_cookie, Done, took, refuse, unexpected, is_first, opens, first_out_at, with_first_out, conn_a2_at, on_conn_a2, first_in, with_first_in, conn_b2_at, on_conn_b2, channel_at, is_full, out_server, admitted_by, admitted_on, on_pdu, forward_by, forwards, forwards_writing, forwards_to, channel_leg, on_ack_to}
+use Rattle.law_role_server.proofs.Vocabulary.{acked_at, acked_in, acked_cookie, on_ack, on_ping_traffic, moved_if, take, announced, in_r1_a2_by, in_r1_a2_at, on_in_r1_a2, leaves, leaves_by, hands_over, on_in_r1_a6, in_r2_a2_on, on_in_r2_a2, asks, recycle, is_under_way, last_number, answered_by, answered_on, out_r1_a4_by, out_r1_a4_at, may_answer, on_out_r1_a4, confirms, out_r1_a8_at, on_out_r1_a8, is_over_on, end_a2_on_leg, end_a2_waiting, end_a2_at, on_end_a2, on_is, on_os}
 use Rattle.law_role_server.proofs.Each.{each_merged}
 use Rattle.law_role_server.proofs.Putable.{IsCookie, AreOfAck, conn_c1, in_r2_a3, out_r1_a5, out_r1_a9, ack_to}
-use Rattle.law_role_server.proofs.TakesKept.{both}
 use Rattle.law_role_server.proofs.Telling.{admitted_tells, ended_tells, released_tells}
 use Rattle.law_role_server.proofs.Sounds.{AreTold, IsStage, IsInStage, IsLeg, MayWait, Sound, stage_is, line_is, packets_are, packet_added, leg_found, leg_set, next_opens, no_both, moves, asks_sound}
+use Rattle.law_role_server.proofs.Gives.{both}
 
 -- behind a row's answer: where it took what came, by what F says of that
 abbrev pub RowSound : Type 0 → Done → Type 0

@@ -1,36 +1,11 @@
 -- what a server keeps of what it may put: sizes, ranges and PDUs
-use Rattle.std.proofs.Common.{◌≡◌, ℕ, ◌&&◌, ◌||◌, List, Bool, true, false, not, Some, None}
-use Rattle.std.specs.Prelude.{IfSome}
-use Rattle.std.specs.List.{AllByRecursion}
-use Rattle.std.specs.declared.option.Option.{Option}
-use Rattle.rh_window.specs.Sides.{Receiver, IsWindow}
-use Rattle.law_order.proofs.ByNumber.{by_test}
-use Rattle.rh_pdu.specs.Frames.{IsPdu}
-use Rattle.rh_rts.specs.declared.command.Cookie.{Cookie}
-use Rattle.rh_sig.specs.declared.name.Pipe.TheVariants.{OsD}
-use Rattle.rh_sig.specs.declared.named.Named.{Named}
+use Rattle.law_order.proofs.Vocabulary.{◌≡◌, ℕ, ◌&&◌, ◌||◌, List, Bool, true, false, not, Some, None, IfSome, AllByRecursion, Option}
 use Rattle.rh_sig.specs.declared.named.Named.TheVariants as named
-use Rattle.rh_sig.specs.Values.{IsTimeout}
-use Rattle.rh_line.specs.Lines.{Line, after_open_next, moved_on, is_empty}
-use Rattle.rh_line.specs.Lines.{settled as line_settled}
-use Rattle.rh_line.proofs.Queues.{each_push}
-use Rattle.rh_shell.specs.declared.due.Due.{Due}
-use Rattle.rh_shell.specs.Waiting.{Waiting, added, own}
 use Rattle.rh_server.specs.declared.out_line.Kind.TheVariants as kind
-use Rattle.rh_server.specs.declared.state.Stage.{Stage}
 use Rattle.rh_server.specs.declared.state.Stage.TheVariants as stage
-use Rattle.rh_server.specs.declared.state.Edge.{Edge}
-use Rattle.rh_server.specs.declared.state.Edge.TheVariants.{Shut}
-use Rattle.rh_server.specs.declared.state.InStage.{InStage}
-use Rattle.rh_server.specs.declared.state.InStage.TheVariants.{Fresh, Waits, Opened}
 use Rattle.rh_server.specs.declared.state.Tells.TheVariants as tells
-use Rattle.rh_server.specs.declared.state.InLeg.{InLeg}
-use Rattle.rh_server.specs.OutLines.{waits}
-use Rattle.rh_server.specs.States.{Server, in_at, in_leg, in_place, set_at, removed_at, with_in, without_in}
-use Rattle.rh_server.specs.InReplacement.{ended_if, opens_next, opens_leg, first_waiting, waiting_place, next_opened, becomes_current, moved_if}
-use Rattle.rh_server.specs.OutReplacement.{asks, wishes, wished}
-use Rattle.rh_server.specs.Ending.{is_complete, completed, settled}
-use Rattle.law_moves.specs.Legible.Legible.{MayGo}
+use Rattle.law_moves.proofs.Vocabulary.{Receiver, IsWindow, by_test, IsPdu, Cookie, OsD, Named, IsTimeout, each_push, Line, after_open_next, moved_on, is_empty, settled as line_settled, Due, Waiting, added, own, MayGo}
+use Rattle.law_role_server.proofs.Vocabulary.{Stage, Edge, Shut, InStage, Fresh, Waits, Opened, InLeg, waits, Server, in_at, in_leg, in_place, set_at, removed_at, with_in, without_in, ended_if, opens_next, opens_leg, first_waiting, waiting_place, next_opened, becomes_current, moved_if, asks, wishes, wished, is_complete, completed, settled}
 use Rattle.law_role_server.proofs.Each.{each_got, each_set, each_removed}
 use Rattle.law_role_server.proofs.Putable.{IsCookie, in_r1_a3, out_r1_a1}
 use Rattle.law_role_server.proofs.Telling.{IsTelling, Tells, opened_tells, moved_tells}

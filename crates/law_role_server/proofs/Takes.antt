@@ -1,48 +1,17 @@
 -- a server takes in order: each move that is allowed keeps the law of an end that takes
-use Rattle.std.proofs.Common.{◌≡◌, ◌≢◌, ℕ, ◌+◌, ◌<◌, ◌==◌, ◌&&◌, ◌||◌, cond, nat_eq, nat_lt, List, [], ◌∷◌, Bool, true, false, not, IsTrue, Some, None, Ok, Err, arith, refl, sym, ap, ◌∙◌, subst}
-use Rattle.std.specs.Prelude.{nat_le, length}
-use Rattle.std.specs.declared.option.Option.{Option}
-use Rattle.std.specs.declared.result.Result.{Result}
-use mathlib.Core.Path.{fun_ext}
-use Rattle.rh_rts.specs.declared.command.Cookie.{Cookie}
-use Rattle.rh_sig.specs.declared.named.Named.{Named}
+use Rattle.law_order.proofs.Vocabulary.{◌≡◌, ◌≢◌, ℕ, ◌+◌, ◌<◌, ◌==◌, ◌&&◌, ◌||◌, cond, nat_eq, nat_lt, List, [], ◌∷◌, Bool, true, false, not, IsTrue, Some, None, Ok, Err, arith, refl, sym, ap, ◌∙◌, subst, nat_le, length, Option, Result, fun_ext, Log, TakerLaw}
 use Rattle.rh_sig.specs.declared.named.Named.TheVariants as named
-use Rattle.rh_pdu.specs.Checking.{pdu_fault}
-use Rattle.rh_pdu.specs.declared.fault.PduFault.{PduFault}
-use Rattle.rh_line.specs.Queue.{queue_bytes, total}
-use Rattle.rh_line.specs.declared.leg.Leg.{Leg}
-use Rattle.rh_line.specs.declared.leg.LegKind.{LegKind}
-use Rattle.rh_line.specs.declared.leg.LegKind.TheVariants.{ClientOut, OutServer, ClientIn, InServer}
-use Rattle.rh_line.specs.declared.which.Which.{Which}
-use Rattle.law_order.specs.Logs.{Log}
-use Rattle.law_order.specs.Taking.{TakerLaw}
-use Rattle.law_order.proofs.ByNumber.{by_test, same_number}
-use Rattle.law_order.proofs.ShelvesKeep.{shelves_alike, shelves_fewer}
-use Rattle.law_order.proofs.TakerKeeps.{taker_starts}
-use Rattle.rh_shell.specs.declared.answers.Count.{Count}
-use Rattle.rh_shell.specs.declared.end_role.GiveRefused.{GiveRefused}
 use Rattle.rh_shell.specs.declared.end_role.GiveRefused.TheVariants as give_refused
-use Rattle.rh_shell.specs.Rules.{Message, Pdu, Packet}
-use Rattle.rh_shell.specs.Shells.{is_of}
-use Rattle.law_moves.specs.Moves.{Move, Up, HeadCame, PduCame, PacketCame, Puts, IsDrawn, Marks, Pings, EndPassage, EndMove, Moves, Gives, Takes, Closes, Recycles, MayMove, MayEndMove, AreAllowedAtEnd, put_by, taken_by, given_by, with_first, started, end_now_at, end_started, end_moved, all_end_moved, is_at_work}
-use Rattle.rh_server.specs.declared.state.InLeg.{InLeg}
-use Rattle.rh_server.specs.declared.state.InStage.{InStage}
+use Rattle.rh_server.specs.Servers.{pdu_by}
 use Rattle.rh_server.specs.declared.state.InStage.TheVariants as in_stage
-use Rattle.rh_server.specs.declared.state.Leaving.{Leaving}
 use Rattle.rh_server.specs.declared.state.Leaving.TheVariants as leaving
-use Rattle.rh_server.specs.States.{Server, is_put, is_closing, is_waiting, stays, has_left, in_leg, with_in, without_in, without_out}
-use Rattle.rh_server.specs.Opening.{Done, may_up, may_up_by, has_room, up, up_by}
-use Rattle.rh_server.specs.Acknowledging.{channel_at, on_pdu, on_ack_to}
-use Rattle.rh_server.specs.InReplacement.{take}
-use Rattle.rh_server.specs.OutReplacement.{on_out_r1_a8, recycle}
-use Rattle.rh_server.specs.Ending.{give, give_by, settled, in_is_done, in_is_drawn, is_done, drawn_by, waits_ended, ended_on, lost_in, in_only_marks, only_marks, with_ack_dropped, mark_by}
-use Rattle.rh_server.specs.Putting.{Pick, put_in, put_out}
-use Rattle.rh_server.specs.Putting.{put_by as put_by_kind}
-use Rattle.rh_server.specs.Servers.{rules, acts, first, on_is, on_os, packet_by, pdu_by}
-use Rattle.law_role_server.specs.Order.{in_items, got, is_up, came_up, has_leg, ended_by, shelves_of, taker_of}
-use Rattle.law_role_server.proofs.Gives.{log_more, log_other}
+use Rattle.law_moves.proofs.Vocabulary.{by_test, same_number, shelves_alike, shelves_fewer, taker_starts, or_none, pdu_fault, PduFault, Cookie, Named, queue_bytes, total, Leg, LegKind, ClientOut, OutServer, ClientIn, InServer, Which, Count, GiveRefused, Message, Pdu, Packet, is_of, Move, Up, HeadCame, PduCame, PacketCame, Puts, IsDrawn, Marks, Pings, EndPassage, EndMove, Moves, Gives, Takes, Closes, Recycles, MayMove, MayEndMove, AreAllowedAtEnd, put_by, taken_by, given_by}
+use Rattle.law_moves.proofs.Vocabulary.{with_first, started, end_now_at, end_started, end_moved, all_end_moved, is_at_work}
+use Rattle.law_role_server.proofs.Vocabulary.{InLeg, InStage, Leaving, Server, is_put, is_closing, is_waiting, stays, has_left, in_leg, with_in, without_in, without_out, Done, may_up, may_up_by, has_room, up, up_by, channel_at, on_pdu, on_ack_to, take, on_out_r1_a8, recycle, give, give_by, settled, in_is_done, in_is_drawn, is_done, drawn_by, waits_ended, ended_on, lost_in, in_only_marks, only_marks, with_ack_dropped, mark_by, Pick, put_in, put_out, put_by as put_by_kind}
+use Rattle.law_role_server.proofs.Vocabulary.{rules, acts, first, on_is, on_os, packet_by, in_items, got, is_up, came_up, has_leg, ended_by, shelves_of, taker_of}
+use Rattle.law_role_server.proofs.Gives.{log_more, log_other, both}
 use Rattle.law_role_server.proofs.InSpots.{Spot, spot, spots, spot_by, at, leg_spot, at_number}
-use Rattle.law_role_server.proofs.TakesKept.{reads, ended_at, leaves_at, is_coming, top, Took, both}
+use Rattle.law_role_server.proofs.TakesKept.{reads, ended_at, leaves_at, is_coming, top, Took, differ as differs}
 use Rattle.law_role_server.proofs.TakesQuiet.{Quiet, still, set_quiet, quietly, RowTook, quiet_row, PickQuiet, settled_quiet, quiet_then, conn_a2_quiet, ack_to_quiet, ack_quiet, ping_quiet, a4_quiet, a8_quiet, recycle_quiet, dropped_quiet, out_quiet, in_quiet}
 use Rattle.law_role_server.proofs.TakesRows.{pdu_took, end_took, a6_row, take_took}
 use Rattle.law_role_server.proofs.TakesLegs.{up_took, gone_took, left_low, open_low, leg_high, in_r2_a2_row, conn_b2_row}
@@ -192,13 +161,9 @@ ended_waits in_stage.Fresh e = absurd (cc)
 ended_waits in_stage.Opened e = absurd (cc)
 ended_waits (in_stage.Waits window timeout ended) e = refl
 
-not_false : (b : Bool) → not b ≡ false → b ≡ true
+pub not_false : (b : Bool) → not b ≡ false → b ≡ true
 not_false true e = refl
 not_false false e = absurd (cc)
-
-differs : (b : Bool) → b ≡ true → b ≡ false → ⊥
-differs true e f = absurd (cc)
-differs false e f = absurd (cc)
 
 abbrev spot_of : ℕ → InStage → Bool → Spot
 spot_of number stage stays = record { number = number; stage = stage; stays = stays }
@@ -266,10 +231,6 @@ module _ (p : EndPassage Server) (up_legs : ℕ → Bool) (n : ℕ) (l : TookAt 
       (settled_quiet t)) l
 
 -- ---- each move
-
-or_none : (b : Bool) → b ≡ b || false
-or_none true = refl
-or_none false = refl
 
 -- no is leg came up
 same_up : (p : EndPassage Server) (up : ℕ → Bool) → TookAt p up → TookAt p (λ n. up n || false)
@@ -455,7 +416,7 @@ end_move_took p up_legs Recycles may l =
     (quietly p.taken up_legs (got p) p.passage.role (recycle p.passage.role).0
     (recycle_quiet p.passage.role) l)
 
-or_again : (a b c : Bool) → (a || b) || c ≡ a || (b || c)
+pub or_again : (a b c : Bool) → (a || b) || c ≡ a || (b || c)
 or_again true b c = refl
 or_again false b c = refl
 

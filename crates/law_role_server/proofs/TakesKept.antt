@@ -1,28 +1,13 @@
 -- what a server keeps of the law of an end that takes, while its IN channels are replaced
-use Rattle.std.proofs.Common.{◌≡◌, ◌≢◌, ℕ, suc, ◌<◌, ◌≤◌, ◌&&◌, ◌||◌, cond, nat_lt, List, [], Bool, true, false, not, Some, None, arith, refl, sym, ap, ◌∙◌, subst}
-use Rattle.std.specs.Prelude.{count_by}
-use Rattle.std.specs.declared.option.Option.{Option}
-use Rattle.std.proofs.lemmas.Bool.Decides.{nat_tests}
-use Rattle.law_order.specs.Logs.{Log}
-use Rattle.law_order.specs.Shelves.{Shelf, blank}
-use Rattle.law_order.specs.Taking.{TakerLaw}
-use Rattle.law_order.proofs.ByNumber.{by_test}
+use Rattle.law_order.proofs.Vocabulary.{◌≡◌, ◌≢◌, ℕ, suc, ◌<◌, ◌≤◌, ◌||◌, cond, nat_lt, List, [], Bool, true, false, not, Some, None, arith, refl, sym, ap, ◌∙◌, subst, count_by, Option, nat_tests, Log, Shelf, blank, TakerLaw}
 use Rattle.rh_sig.specs.declared.named.Named.TheVariants as named
-use Rattle.rh_shell.specs.Waiting.{Waiting}
-use Rattle.rh_shell.specs.Waiting.{added}
 use Rattle.rh_server.specs.declared.out_line.Kind.TheVariants as kind
-use Rattle.rh_server.specs.declared.state.Stage.{Stage}
 use Rattle.rh_server.specs.declared.state.Stage.TheVariants as stage
 use Rattle.rh_server.specs.declared.state.Tells.TheVariants as tells
-use Rattle.rh_server.specs.declared.state.InStage.{InStage}
-use Rattle.rh_server.specs.declared.state.InStage.TheVariants.{Fresh, Waits, Opened}
-use Rattle.rh_server.specs.declared.state.InLeg.{InLeg}
-use Rattle.rh_server.specs.OutLines.{is_own, waits}
-use Rattle.rh_server.specs.States.{Server, is_waiting, is_fresh, set_at, in_place}
-use Rattle.rh_server.specs.InReplacement.{opens_next, opens_leg, first_waiting, next_opened}
-use Rattle.rh_server.proofs.Onces.{none_found}
-use Rattle.law_role_server.specs.Order.{shelf, waits_ended}
+use Rattle.law_moves.proofs.Vocabulary.{by_test, Waiting, added}
+use Rattle.law_role_server.proofs.Vocabulary.{none_found, Stage, InStage, Fresh, Waits, Opened, InLeg, is_own, waits, Server, is_waiting, is_fresh, set_at, in_place, opens_next, opens_leg, first_waiting, next_opened, shelf}
 use Rattle.law_role_server.proofs.InSpots.{Spot, spot, spots, spot_by, at, put_at, first_spot, set_spot, IsSorted, sorted_put, in_range, waits_at, fresh_at, IsFirst, none_waits, first_waits, at_put}
+use Rattle.law_role_server.specs.Order.{waits_ended}
 
 -- ---- what the law reads
 
@@ -150,15 +135,6 @@ pub record Took (out : List (List ℕ)) (up : ℕ → Bool) (came : Log) (d : Re
 pub differ : (b : Bool) → b ≡ true → b ≡ false → ⊥
 differ true a b = absurd (cc)
 differ false a b = absurd (cc)
-
-pub both : (a b : Bool) → a && b ≡ true → (a ≡ true) × (b ≡ true)
-both true true e = (refl, refl)
-both true false e = absurd (cc)
-both false b e = absurd (cc)
-
-pub negated : (a : Bool) → not a ≡ true → a ≡ false
-negated true e = absurd (cc)
-negated false e = refl
 
 pub falsely : (b : Bool) → (b ≡ true → ⊥) → b ≡ false
 falsely true none = absurd (none refl)

@@ -1,33 +1,17 @@
 -- is legs that come up, are opened, carry one channel more, and go, keep the law of an end that
 -- takes
-use Rattle.std.proofs.Common.{◌≡◌, ◌≢◌, ℕ, suc, ◌+◌, ◌<◌, ◌≤◌, ◌==◌, ◌&&◌, ◌||◌, nat_eq, nat_lt, List, [], ◌∷◌, ◌++◌, Bool, true, false, not, Some, None, arith, refl, sym, ap, ◌∙◌, subst}
-use Rattle.std.specs.declared.option.Option.{Option}
-use Rattle.std.proofs.lemmas.Bool.Decides.{nat_tests}
-use Rattle.law_order.specs.Logs.{Log, more}
-use Rattle.law_order.specs.Shelves.{Shelf}
-use Rattle.law_order.proofs.ByNumber.{by_test, same_number, other_number, test_other, more_none}
-use Rattle.law_order.proofs.ShelvesKeep.{shelves_fewer}
-use Rattle.rh_rts.specs.declared.command.Cookie.{Cookie}
+use Rattle.law_order.proofs.Vocabulary.{◌≡◌, ◌≢◌, ℕ, suc, ◌+◌, ◌<◌, ◌≤◌, ◌==◌, ◌&&◌, ◌||◌, nat_eq, nat_lt, List, [], ◌∷◌, ◌++◌, Bool, true, false, not, Some, None, arith, refl, sym, ap, ◌∙◌, subst, Option, nat_tests, Log, more, Shelf}
 use Rattle.rh_sig.specs.declared.named.Named.TheVariants as named
-use Rattle.rh_line.specs.declared.which.Which.{Which}
-use Rattle.rh_line.specs.declared.which.Which.TheVariants.{Current, Next}
-use Rattle.rh_shell.specs.declared.answers.Count.{Count}
-use Rattle.rh_shell.specs.Waiting.{Waiting, added}
-use Rattle.rh_server.specs.declared.state.Stage.{Stage}
 use Rattle.rh_server.specs.declared.state.Stage.TheVariants as stage
-use Rattle.rh_server.specs.declared.state.InStage.TheVariants.{Fresh, Opened}
 use Rattle.rh_server.specs.declared.state.Tells.TheVariants as tells
-use Rattle.rh_server.specs.declared.state.InLeg.{InLeg}
 use Rattle.rh_server.specs.declared.out_line.Kind.TheVariants as kind
-use Rattle.rh_server.specs.OutLines.{waits}
-use Rattle.rh_server.specs.States.{Server, is_fresh, is_waiting, same_cookie, in_leg, without_in}
-use Rattle.rh_server.specs.Opening.{took, unexpected, is_first, in_leg_up, opens, first_in, with_first_in, conn_b2_at, on_conn_b2}
-use Rattle.rh_server.specs.Acknowledging.{channel_at}
-use Rattle.rh_server.specs.InReplacement.{in_r2_a2_on, on_in_r2_a2}
+use Rattle.law_moves.proofs.Vocabulary.{by_test, same_number, other_number, test_other, more_none, shelves_fewer, Cookie, Which, Current, Next, Count, Waiting, added}
+use Rattle.law_role_server.proofs.Vocabulary.{Stage, Fresh, Opened, InLeg, waits, Server, is_fresh, is_waiting, same_cookie, in_leg, without_in, took, unexpected, is_first, in_leg_up, opens, first_in, with_first_in, conn_b2_at, on_conn_b2, channel_at, in_r2_a2_on, on_in_r2_a2}
 use Rattle.law_role_server.proofs.InSpots.{Spot, spot, spots, spot_by, at, put_at, gone, leg_spot, set_spot, gone_spot, push_spot, at_number, IsSorted, sorted_put, sorted_gone, sorted_push, sorted_higher, in_range, out_of_range, waits_at, fresh_at, at_put, at_gone, at_push}
-use Rattle.law_role_server.proofs.TakesKept.{Read, reads, has_begun, due_a3, ended_at, leaves_at, is_coming, top, next_number, Kept, Took, differ, both, negated, falsely}
+use Rattle.law_role_server.proofs.TakesKept.{Read, reads, has_begun, due_a3, ended_at, leaves_at, is_coming, top, next_number, Kept, Took, differ, falsely}
 use Rattle.law_role_server.proofs.TakesQuiet.{RowTook, calm_added, in_there}
 use Rattle.law_role_server.proofs.TakesRows.{not_ended, with_legs, on_current, on_next}
+use Rattle.law_role_server.proofs.Gives.{both, negated}
 
 -- ---- ranges
 

@@ -1,29 +1,15 @@
 -- IN_R1/A2 keeps the law of an end that takes
-use Rattle.std.proofs.Common.{◌≡◌, ◌≢◌, ℕ, suc, ◌<◌, ◌≤◌, ◌&&◌, ◌||◌, nat_eq, nat_lt, List, [], Bool, true, false, not, Some, None, arith, refl, sym, ap, ◌∙◌, subst}
-use Rattle.std.specs.declared.option.Option.{Option}
-use Rattle.std.proofs.lemmas.Bool.Decides.{nat_tests}
-use Rattle.law_order.specs.Logs.{Log}
-use Rattle.law_order.specs.Shelves.{blank, Follows}
-use Rattle.law_order.specs.Taking.{Hears}
-use Rattle.law_order.proofs.ByNumber.{by_test, same_number, other_number, more_none}
-use Rattle.law_order.proofs.TakerKeeps.{taker_step}
-use Rattle.rh_rts.specs.declared.command.Cookie.{Cookie}
-use Rattle.rh_shell.specs.declared.answers.Count.{Count}
-use Rattle.rh_shell.specs.Waiting.{Waiting}
-use Rattle.rh_server.specs.declared.state.Stage.{Stage}
+use Rattle.law_order.proofs.Vocabulary.{◌≡◌, ◌≢◌, ℕ, suc, ◌<◌, ◌≤◌, ◌&&◌, ◌||◌, nat_eq, nat_lt, List, [], Bool, true, false, not, Some, None, arith, refl, sym, ap, ◌∙◌, subst, Option, nat_tests, Log, blank, Follows, Hears}
 use Rattle.rh_server.specs.declared.state.Stage.TheVariants as stage
-use Rattle.rh_server.specs.declared.state.InStage.TheVariants.{Waits}
-use Rattle.rh_server.specs.declared.state.InLeg.{InLeg}
 use Rattle.rh_server.specs.declared.out_line.Kind.TheVariants as kind
-use Rattle.rh_server.specs.OutLines.{waits}
-use Rattle.rh_server.specs.States.{Server, is_fresh, same_cookie, in_leg, with_in}
-use Rattle.rh_server.specs.Opening.{took, unexpected, is_first}
-use Rattle.rh_server.specs.InReplacement.{next_opened, opens_leg, first_waiting, has_fresh_below, announced, in_r1_a2_by, in_r1_a2_at, on_in_r1_a2}
-use Rattle.law_role_server.specs.Order.{waits_ended}
+use Rattle.law_moves.proofs.Vocabulary.{by_test, same_number, other_number, more_none, taker_step, Cookie, Count, Waiting}
+use Rattle.law_role_server.proofs.Vocabulary.{Stage, Waits, InLeg, waits, Server, is_fresh, same_cookie, in_leg, with_in, took, unexpected, is_first, next_opened, opens_leg, first_waiting, has_fresh_below, announced, in_r1_a2_by, in_r1_a2_at, on_in_r1_a2}
 use Rattle.law_role_server.proofs.InSpots.{Spot, spot, spots, spot_by, at, put_at, leg_spot, set_spot, at_number, sorted_put, in_range, waits_at, fresh_at, IsFirst, at_put, put_here, put_other, the, fresh_above}
-use Rattle.law_role_server.proofs.TakesKept.{Read, reads, has_begun, ended_at, leaves_at, is_coming, LawAt, top, next_number, AreBehind, Took, Ready, differ, both, negated, falsely, not_both, coming_of, opened_took}
+use Rattle.law_role_server.proofs.TakesKept.{Read, reads, has_begun, ended_at, leaves_at, is_coming, LawAt, top, next_number, AreBehind, Took, Ready, differ, falsely, not_both, coming_of, opened_took}
 use Rattle.law_role_server.proofs.TakesQuiet.{RowTook, in_there}
 use Rattle.law_role_server.proofs.TakesRows.{not_ended, taker_at, with_legs}
+use Rattle.law_role_server.proofs.Gives.{both, negated}
+use Rattle.law_role_server.specs.Order.{waits_ended}
 
 -- one on which nothing came doesn't wait
 fresh_alone : (o : Option Spot) → fresh_at o ≡ true → waits_at o ≡ false

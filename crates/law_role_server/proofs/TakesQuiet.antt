@@ -1,45 +1,20 @@
 -- what a server does that leaves alone what it takes
-use Rattle.std.proofs.Common.{◌≡◌, ℕ, ◌+◌, ◌==◌, ◌&&◌, cond, List, [], Bool, true, false, not, Some, None, Ok, Err, arith, refl, sym, ap, ◌∙◌, subst}
-use Rattle.std.specs.Prelude.{find, slice_get}
-use Rattle.std.specs.declared.option.Option.{Option}
-use Rattle.std.specs.declared.result.Result.{Result}
-use Rattle.std.proofs.lemmas.List.Sums.{sum_by_push}
-use Rattle.rh_window.specs.declared.recv_window.Ack.{Ack}
-use Rattle.law_order.specs.Items.{Item}
-use Rattle.law_order.specs.Logs.{Log, more}
-use Rattle.law_order.proofs.ByNumber.{by_test, more_none}
-use Rattle.rh_rts.specs.declared.command.Cookie.{Cookie}
-use Rattle.rh_sig.specs.declared.named.Named.{Named}
+use Rattle.law_order.proofs.Vocabulary.{◌≡◌, ℕ, ◌+◌, ◌==◌, ◌&&◌, cond, List, [], Bool, true, false, not, Some, None, Ok, Err, arith, refl, sym, ap, ◌∙◌, subst, find, slice_get, Option, Result, sum_by_push, Item, Log, more}
 use Rattle.rh_sig.specs.declared.named.Named.TheVariants as named
-use Rattle.rh_line.specs.Queue.{front_length}
-use Rattle.rh_shell.specs.declared.end_role.RecycleRefused.{RecycleRefused}
-use Rattle.rh_shell.specs.declared.answers.Count.{Count}
-use Rattle.rh_shell.specs.declared.due.Due.{Due}
-use Rattle.rh_shell.specs.Rules.{Packet}
-use Rattle.rh_shell.specs.Waiting.{Waiting, added, own, taken, forwarded}
 use Rattle.rh_server.specs.declared.out_line.Kind.TheVariants as kind
-use Rattle.rh_server.specs.declared.state.Stage.{Stage}
 use Rattle.rh_server.specs.declared.state.Stage.TheVariants as stage
 use Rattle.rh_server.specs.declared.state.EndMark.TheVariants as end_mark
 use Rattle.rh_server.specs.declared.state.Greeting.TheVariants as greeting
-use Rattle.rh_server.specs.declared.state.Tells.{Tells}
 use Rattle.rh_server.specs.declared.state.Tells.TheVariants as tells
-use Rattle.rh_server.specs.declared.state.Leaving.{Leaving}
 use Rattle.rh_server.specs.declared.state.Leaving.TheVariants as leaving
-use Rattle.rh_server.specs.declared.state.Replacement.{Replacement}
 use Rattle.rh_server.specs.declared.state.Replacement.TheVariants as replacement
-use Rattle.rh_server.specs.declared.state.InLeg.{InLeg}
-use Rattle.rh_server.specs.declared.state.OutLeg.{OutLeg}
-use Rattle.rh_server.specs.OutLines.{Gate, is_own, is_kind, lets, is_ack_of}
-use Rattle.rh_server.specs.States.{Server, is_open, is_put, is_due, is_shut, stays, same_cookie, set_at, in_place, in_leg, with_in, out_at, out_place, out_cookie, without_out}
-use Rattle.rh_server.specs.Opening.{Done, took, unexpected, is_first, opens, with_first_out, first_out_at, conn_a2_at, on_conn_a2}
-use Rattle.rh_server.specs.Acknowledging.{forward_by, forwards, forwards_writing, forwards_to, channel_leg, on_ack_to, acked_at, acked_in, acked_cookie, on_ack, on_ping_traffic}
-use Rattle.rh_server.specs.OutReplacement.{asks, wishes, wished, recycle, is_under_way, last_number, answered_by, answered_on, out_r1_a4_by, out_r1_a4_at, may_answer, on_out_r1_a4, confirms, out_r1_a8_at, on_out_r1_a8, handed}
-use Rattle.rh_server.specs.Ending.{are_lost, is_complete, completed, settled, without_ack_of, with_ack_dropped}
-use Rattle.rh_server.specs.Putting.{Pick, or_else, counts, counts_at, was_put, was_current, told_by, put_in_greeting, put_tells, put_tells_by, put_b1, put_b1_by, put_ack, put_ack_by, ack_due, put_in, put_in_by, out_greeting_at, put_out_greeting, waiting_by, waiting_at, put_waiting, gate_at, may_go_at, pdu_by, put_pdu, may_end_at, is_end_due, put_end, put_pdu_or_end, next_out, settled_pick, put_open, put_out_place, put_out_at, put_out}
-use Rattle.rh_server.proofs.Onces.{one_if, same_forwarded, none_taken}
+use Rattle.law_moves.proofs.Vocabulary.{Ack, by_test, more_none, Cookie, Named, front_length, RecycleRefused, Count, Due, Packet, Waiting, added, own, taken, forwarded}
+use Rattle.law_role_server.proofs.Vocabulary.{one_if, same_forwarded, none_taken, Stage, Tells, Leaving, Replacement, InLeg, OutLeg, Gate, is_own, is_kind, lets, is_ack_of, Server, is_open, is_put, is_due, is_shut, stays, same_cookie, set_at, in_place, in_leg, with_in, out_at, out_place, out_cookie, without_out, Done, took, unexpected, is_first, opens, with_first_out, first_out_at, conn_a2_at, on_conn_a2, forward_by, forwards, forwards_writing, forwards_to, channel_leg}
+use Rattle.law_role_server.proofs.Vocabulary.{on_ack_to, acked_at, acked_in, acked_cookie, on_ack, on_ping_traffic, asks, wishes, wished, recycle, is_under_way, last_number, answered_by, answered_on, out_r1_a4_by, out_r1_a4_at, may_answer, on_out_r1_a4, confirms, out_r1_a8_at, on_out_r1_a8, handed, are_lost, is_complete, completed, settled, without_ack_of, with_ack_dropped, Pick, or_else, counts, counts_at, was_put, was_current, told_by, put_in_greeting, put_tells}
+use Rattle.law_role_server.proofs.Vocabulary.{put_tells_by, put_b1, put_b1_by, put_ack, put_ack_by, ack_due, put_in, put_in_by, out_greeting_at, put_out_greeting, waiting_by, waiting_at, put_waiting, gate_at, may_go_at, pdu_by, put_pdu, may_end_at, is_end_due, put_end, put_pdu_or_end, next_out, settled_pick, put_open, put_out_place, put_out_at, put_out}
 use Rattle.law_role_server.proofs.InSpots.{Spot, spot, spots, spot_by, at, put_at, leg_spot, set_spot, at_number, put_same}
-use Rattle.law_role_server.proofs.TakesKept.{has_begun, Read, reads, due_a3, Took, both}
+use Rattle.law_role_server.proofs.TakesKept.{has_begun, Read, reads, due_a3, Took}
+use Rattle.law_role_server.proofs.Gives.{both}
 
 -- ---- what a server takes is left alone
 

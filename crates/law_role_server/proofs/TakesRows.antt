@@ -1,41 +1,17 @@
 -- what comes on the is legs, and what is taken, keeps the law of an end that takes
-use Rattle.std.proofs.Common.{◌≡◌, ℕ, suc, ◌<◌, ◌≤◌, ◌==◌, ◌&&◌, ◌||◌, cond, List, [], ◌∷◌, ◌++◌, length, Bool, true, false, not, is_ok, Some, None, Ok, Err, arith, refl, sym, ap, ◌∙◌, subst}
-use Rattle.std.specs.declared.option.Option.{Option}
-use Rattle.std.specs.declared.result.Result.{Result}
 use Rattle.rh_window.specs.Receiving as windows
-use Rattle.law_order.specs.Items.{Piece, Stop, Handover}
-use Rattle.law_order.specs.Logs.{Log, more, change}
-use Rattle.law_order.specs.Shelves.{PduNow, PduNext, EndNow, EndNext, EndLater, HandoverNow, MovesOn}
-use Rattle.law_order.specs.Taking.{Taker, Hears, TakesPdu}
-use Rattle.law_order.proofs.ByNumber.{by_test, same_number, more_none, change_here, change_other}
-use Rattle.law_order.proofs.TakerKeeps.{taker_step}
-use Rattle.rh_rts.specs.declared.command.Cookie.{Cookie}
-use Rattle.rh_line.specs.Lines.{Line, Incoming, is_empty, channel_verdict, admit_verdict, released, settled as settled_line, moved_on, after_end, after_finish, after_take}
+use Rattle.law_order.proofs.Vocabulary.{◌≡◌, ℕ, suc, ◌<◌, ◌≤◌, ◌==◌, ◌&&◌, ◌||◌, cond, List, [], ◌∷◌, ◌++◌, length, Bool, true, false, not, is_ok, Some, None, Ok, Err, arith, refl, sym, ap, ◌∙◌, subst, Option, Result, Piece, Stop, Handover, Log, more, change, PduNow, PduNext, EndNow, EndNext, EndLater, HandoverNow, MovesOn, Taker, Hears, TakesPdu}
 use Rattle.rh_line.specs.Lines as lines
-use Rattle.rh_line.specs.declared.line_fault.LineFault.{LineFault}
 use Rattle.rh_line.specs.declared.line_fault.LineFault.TheVariants as line_fault
-use Rattle.rh_line.specs.declared.which.Which.{Which}
-use Rattle.rh_line.specs.declared.which.Which.TheVariants.{Current, Next}
-use Rattle.rh_shell.specs.declared.answers.Count.{Count}
-use Rattle.rh_shell.specs.Waiting.{Waiting}
-use Rattle.rh_server.specs.declared.state.InStage.{InStage}
-use Rattle.rh_server.specs.declared.state.InStage.TheVariants.{Fresh, Waits, Opened}
-use Rattle.rh_server.specs.declared.state.Edge.TheVariants.{Shut}
 use Rattle.rh_server.specs.declared.state.Leaving.TheVariants as leaving
-use Rattle.rh_server.specs.declared.state.InLeg.{InLeg}
 use Rattle.rh_server.specs.declared.out_line.Kind.TheVariants as kind
-use Rattle.rh_server.specs.OutLines.{is_own, waits}
-use Rattle.rh_server.specs.States.{Server, is_open, is_waiting, same_cookie, in_leg, with_in}
-use Rattle.rh_server.specs.Opening.{took, unexpected, is_first}
-use Rattle.rh_server.specs.Acknowledging.{channel_at, admitted_by, admitted_on, on_pdu}
-use Rattle.rh_server.specs.InReplacement.{becomes_current, moved_if, leaves_by, hands_over, on_in_r1_a6}
-use Rattle.rh_server.specs.Ending.{end_a2_on_leg, end_a2_waiting, end_a2_at, on_end_a2}
-use Rattle.rh_server.proofs.Onces.{none_counts}
-use Rattle.law_moves.specs.Moves.{with_first, started}
-use Rattle.law_role_server.specs.Order.{waits_ended}
+use Rattle.law_moves.proofs.Vocabulary.{by_test, same_number, more_none, change_here, change_other, taker_step, Cookie, Incoming, is_empty, channel_verdict, released, settled as settled_line, moved_on, after_end, after_finish, LineFault, Which, Current, Next, Count, Waiting, with_first, started}
+use Rattle.law_role_server.proofs.Vocabulary.{none_counts, InStage, Fresh, Waits, Opened, Shut, InLeg, is_own, waits, Server, is_open, is_waiting, same_cookie, in_leg, with_in, took, unexpected, is_first, channel_at, admitted_by, admitted_on, on_pdu, becomes_current, moved_if, leaves_by, hands_over, on_in_r1_a6, end_a2_on_leg, end_a2_waiting, end_a2_at, on_end_a2}
 use Rattle.law_role_server.proofs.InSpots.{Spot, spot, spots, spot_by, at, put_at, leg_spot, set_spot, at_number, IsSorted, sorted_put, in_range, waits_at, fresh_at, IsFirst, at_put}
-use Rattle.law_role_server.proofs.TakesKept.{Read, reads, due_a3, ended_at, leaves_at, is_coming, LawAt, LawBy, top, next_number, AreBehind, Took, Ready, differ, both, negated, falsely, not_both, coming_of, opened_took}
+use Rattle.law_role_server.proofs.TakesKept.{Read, reads, due_a3, ended_at, leaves_at, is_coming, LawAt, LawBy, top, next_number, AreBehind, Took, Ready, differ, falsely, not_both, coming_of, opened_took}
 use Rattle.law_role_server.proofs.TakesQuiet.{RowTook, in_there}
+use Rattle.law_role_server.proofs.Gives.{both, negated}
+use Rattle.law_role_server.specs.Order.{waits_ended}
 
 -- ---- tests
 
@@ -64,7 +40,7 @@ at_current false f true true e = absurd (cc)
 at_current false f true false e = absurd (cc)
 at_current false f false b e = absurd (cc)
 
-at_next : (a f h b : Bool)
+pub at_next : (a f h b : Bool)
     → (cond (a && not f) (Some Current) (cond (h && b) (Some Next) None)) ≡ Some Next
     → (h ≡ true) × (b ≡ true)
 at_next true false h b e = absurd (cc)

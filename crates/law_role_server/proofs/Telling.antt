@@ -1,22 +1,10 @@
 -- the windows of the line that comes: what came is within what was told, so that acknowledgements
 -- and the next edge have their sizes
-use Rattle.std.proofs.Common.{◌≡◌, ℕ, ◌+◌, ◌<◌, ◌≤◌, ◌^◌, cond, List, ◌∷◌, length, Bool, true, false, None, Ok, Err, arith, refl, ◌∙◌, nat_le}
-use Rattle.std.specs.Prelude.{IfSome, is_ok}
-use Rattle.std.specs.declared.option.Option.{Option}
-use Rattle.std.specs.declared.result.Result.{Result}
-use Rattle.std.proofs.lemmas.Bool.Decides.{nat_tests}
-use Rattle.rh_window.specs.Sides.{Receiver, IsWindow}
 use Rattle.rh_window.specs.Receiving as windows
-use Rattle.rh_window.specs.declared.fault.WindowExceeded.{WindowExceeded}
-use Rattle.rh_window.specs.declared.recv_window.Ack.{Ack}
-use Rattle.law_order.proofs.ByNumber.{by_test}
-use Rattle.rh_line.specs.Lines.{Incoming, Line, admitted, channel_verdict, released, after_admit, after_end, after_open_next, after_tell, after_told, moved_on}
-use Rattle.rh_line.specs.declared.which.Which.{Which}
-use Rattle.rh_line.specs.declared.which.Which.TheVariants.{Current, Next}
-use Rattle.rh_server.specs.declared.state.Edge.{Edge}
+use Rattle.law_order.proofs.Vocabulary.{◌≡◌, ℕ, ◌+◌, ◌<◌, ◌≤◌, ◌^◌, cond, List, ◌∷◌, length, Bool, true, false, None, Ok, Err, arith, refl, ◌∙◌, nat_le, IfSome, is_ok, Option, Result, nat_tests}
 use Rattle.rh_server.specs.declared.state.Edge.TheVariants as edge
-use Rattle.rh_server.specs.States.{is_shut}
-use Rattle.rh_server.specs.InReplacement.{ended_if}
+use Rattle.law_moves.proofs.Vocabulary.{Receiver, IsWindow, WindowExceeded, Ack, by_test, Incoming, Line, admitted, channel_verdict, released, after_admit, after_end, after_open_next, after_tell, after_told, moved_on, Which, Current, Next}
+use Rattle.law_role_server.proofs.Vocabulary.{Edge, is_shut, ended_if}
 
 -- of the current channel's window and of the next one's, where the edge is told or still to be told
 pub record IsTelling (edge : Edge) (size : ℕ) (now next : Receiver) : Type 0 where

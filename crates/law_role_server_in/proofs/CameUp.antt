@@ -1,52 +1,19 @@
 -- each is leg that a server keeps came up
-use Rattle.std.proofs.Common.{◌≡◌, ℕ, zero, suc, ◌==◌, ◌&&◌, ◌||◌, nat_eq, Bool, true, false, not, if◌then◌else◌, List, [], ◌∷◌, ◌++◌, Some, None, Ok, Err, refl, rules, sym, ap, ◌∙◌, subst}
-use Rattle.std.proofs.lemmas.Bool.{false≢true}
-use Rattle.std.specs.Prelude.{IfSome, IsTrue, remove, slice_get, slice_set}
-use Rattle.std.specs.List.{AllByRecursion}
-use Rattle.std.specs.declared.option.Option.{Option}
-use Rattle.std.specs.declared.result.Result.{Result}
-use Rattle.rh_window.specs.declared.recv_window.Ack.{Ack}
-use Rattle.law_order.proofs.ByNumber.{by_test, test_same}
-use Rattle.rh_rts.specs.declared.command.Cookie.{Cookie}
-use Rattle.rh_sig.specs.declared.named.Named.{Named}
+use Rattle.law_order.proofs.Vocabulary.{◌≡◌, ℕ, zero, suc, ◌==◌, ◌&&◌, ◌||◌, nat_eq, Bool, true, false, not, if◌then◌else◌, List, [], ◌∷◌, ◌++◌, Some, None, Ok, Err, refl, rules, sym, ap, ◌∙◌, subst, false≢true, IfSome, IsTrue, remove, slice_get, slice_set, AllByRecursion, Option, Result}
 use Rattle.rh_sig.specs.declared.named.Named.TheVariants as named
-use Rattle.rh_line.specs.Lines.{after_finish, after_take, after_tell}
-use Rattle.rh_line.specs.declared.leg.Leg.{Leg}
-use Rattle.rh_line.specs.declared.leg.LegKind.{LegKind}
-use Rattle.rh_line.specs.declared.leg.LegKind.TheVariants.{ClientOut, OutServer, ClientIn, InServer}
-use Rattle.rh_line.specs.declared.which.Which.{Which}
-use Rattle.rh_line.specs.declared.which.Which.TheVariants.{Current}
-use Rattle.rh_shell.specs.declared.answers.Count.{Count}
 use Rattle.rh_shell.specs.declared.answers.Refused.TheVariants as refused
-use Rattle.rh_shell.specs.declared.end_role.GiveRefused.{GiveRefused}
-use Rattle.rh_shell.specs.Rules.{Message, Pdu, Packet, Row}
-use Rattle.rh_shell.specs.Shells.{is_of}
-use Rattle.rh_server.specs.declared.state.Edge.TheVariants.{Shut, Told}
+use Rattle.rh_server.specs.Servers.{pdu_by}
 use Rattle.rh_server.specs.declared.state.Greeting.TheVariants as greetings
-use Rattle.rh_server.specs.declared.state.InLeg.{InLeg}
-use Rattle.rh_server.specs.declared.state.InStage.{InStage}
 use Rattle.rh_server.specs.declared.state.InStage.TheVariants as in_stage
-use Rattle.rh_server.specs.declared.state.Leaving.{Leaving}
 use Rattle.rh_server.specs.declared.state.Leaving.TheVariants as leaving
-use Rattle.rh_server.specs.declared.state.OutLeg.{OutLeg}
-use Rattle.rh_server.specs.declared.state.Stage.{Stage}
 use Rattle.rh_server.specs.declared.state.Stage.TheVariants as stage
-use Rattle.rh_server.specs.declared.state.Tells.{Tells}
 use Rattle.rh_server.specs.declared.state.Tells.TheVariants as tells
 use Rattle.rh_server.specs.declared.out_line.Kind.TheVariants as kinds
-use Rattle.rh_server.specs.OutLines.{waits}
-use Rattle.rh_server.specs.States.{Server, is_due, is_some, is_fresh, is_open, is_shut, is_waiting, same_cookie, stays, in_at, in_leg, in_place, out_place, removed_at, set_at, with_in, without_in, without_out}
-use Rattle.rh_server.specs.Opening.{Done, took, refuse, unexpected, is_first, first_in, in_leg_up, may_up_by, opens, up, up_by, with_first_in, conn_b2_at, on_conn_a2, on_conn_b2}
-use Rattle.rh_server.specs.Acknowledging.{channel_at}
-use Rattle.rh_server.specs.InReplacement.{announced, becomes_current, first_waiting, hands_over, has_fresh_below, in_r1_a2_at, in_r1_a2_by, leaves, leaves_by, moved_if, next_opened, on_in_r1_a2, on_in_r1_a6, on_in_r2_a2, opens_leg, opens_next, take, waiting_place}
-use Rattle.rh_server.specs.OutReplacement.{recycle}
-use Rattle.rh_server.specs.Ending.{drawn_by, end_a2_at, end_a2_on_leg, end_a2_waiting, give, in_is_drawn, is_over_on, lost_in, mark_by, on_end_a2, settled, with_ack_dropped}
-use Rattle.rh_server.specs.Putting.{Pick, or_else, put_in_greeting, was_current, put_tells_by, put_tells, put_b1_by, put_b1, ack_due, put_ack_by, put_ack, put_in_by, out_greeting_at, put_out_greeting, next_out, settled_pick, put_open, put_out_at, put_by as put_by_kind}
-use Rattle.rh_server.specs.Servers.{acts, first, on_is, on_os, packet_by, pdu_by}
-use Rattle.rh_server.specs.Servers.{rules as server_rules}
-use Rattle.law_moves.specs.Moves.{Up, HeadCame, PduCame, PacketCame, Puts, IsDrawn, Marks, Pings, Passage, EndMove, Moves, Gives, Takes, Closes, Recycles, EndPassage, taken_by, put_by, end_moved, end_now_at, end_started, given_by, with_first, all_end_moved}
-use Rattle.law_role_server.specs.Order.{came_up, is_up}
-use Rattle.law_role_server_in.proofs.Places.{number_found}
+use Rattle.law_moves.proofs.Vocabulary.{Ack, by_test, test_same, Cookie, Named, after_finish, after_take, after_tell, Leg, LegKind, ClientOut, OutServer, ClientIn, InServer, Which, Current, Count, GiveRefused, Message, Pdu, Packet, Row, is_of, Up, HeadCame, PduCame, PacketCame, Puts, IsDrawn, Marks, Pings, Passage, EndMove, Moves, Gives, Takes, Closes, Recycles, EndPassage, taken_by, put_by, end_moved, end_now_at, end_started, given_by, with_first, all_end_moved}
+use Rattle.law_role_server.proofs.Vocabulary.{Shut, Told, InLeg, InStage, Leaving, OutLeg, Stage, Tells, waits, Server, is_due, is_some, is_fresh, is_open, is_shut, is_waiting, same_cookie, stays, in_at, in_leg, in_place, out_place, removed_at, set_at, with_in, without_in, without_out, Done, took, refuse, unexpected, is_first, first_in, in_leg_up, may_up_by, opens, up, up_by, with_first_in, conn_b2_at, on_conn_a2, on_conn_b2, channel_at, announced, becomes_current}
+use Rattle.law_role_server.proofs.Vocabulary.{first_waiting, hands_over, has_fresh_below, in_r1_a2_at, in_r1_a2_by, leaves, leaves_by, moved_if, next_opened, on_in_r1_a2, on_in_r1_a6, on_in_r2_a2, opens_leg, opens_next, take, waiting_place, recycle, drawn_by, end_a2_at, end_a2_on_leg, end_a2_waiting, give, in_is_drawn, is_over_on, lost_in, mark_by, on_end_a2, settled, with_ack_dropped, Pick, or_else, put_in_greeting, was_current, put_tells_by, put_tells, put_b1_by, put_b1}
+use Rattle.law_role_server.proofs.Vocabulary.{ack_due, put_ack_by, put_ack, put_in_by, out_greeting_at, put_out_greeting, next_out, settled_pick, put_open, put_out_at, put_by as put_by_kind, acts, first, on_is, on_os, packet_by, rules as server_rules, came_up, is_up}
+use Rattle.law_role_server_rows.proofs.Putting.Each.{number_found}
 use Rattle.law_role_server_in.proofs.Kept.{Look, look}
 use Rattle.law_role_server_in.proofs.Puts.{Alone, out_alone, settled_same}
 use Rattle.law_role_server_in.proofs.Takes.{ack_to_same, pdu_same}

@@ -1,18 +1,15 @@
 -- how many IN_R1/A3 are due at most, by the IN_R1/A6 that came; and which channels are open
-use Rattle.std.proofs.Common.{◌≡◌, ◌⊎◌, inl, inr, ℕ, ◌+◌, ◌≤◌, ◌<◌, Bool, true, false, true≢false, if◌then◌else◌, List, [], arith, refl, sym, ap, ◌∙◌}
-use Rattle.rh_server.specs.Servers.{acts, first, rules}
-use Rattle.rh_server.specs.States.{Server}
-use Rattle.law_moves.specs.Chains.Sums.{sum_below}
-use Rattle.law_moves.specs.Moves.{AreAllowedAtEnd, EndMove, Passage, end_started}
-use Rattle.law_role_server.specs.Counted.Answering.{AreAnswered}
-use Rattle.law_role_server.specs.Counted.Counting.{is_in_r1_a6, in_came}
-use Rattle.law_role_server_in.specs.Refusing.{first_at}
-use Rattle.law_role_server_in.specs.Handovers.{IsStillOpen, TwoAreOpen, answers, passed}
+use Rattle.law_order.proofs.Vocabulary.{◌≡◌, ◌⊎◌, inl, inr, ℕ, ◌+◌, ◌≤◌, ◌<◌, Bool, true, false, true≢false, if◌then◌else◌, List, [], arith, refl, sym, ap, ◌∙◌}
+use Rattle.law_moves.proofs.Lemmas.{zeros as sum_none}
+use Rattle.law_moves.proofs.Vocabulary.{sum_below, AreAllowedAtEnd, EndMove, Passage, end_started}
+use Rattle.law_role_server.proofs.Vocabulary.{acts, first, rules, Server, AreAnswered, is_in_r1_a6, in_came}
 use Rattle.law_role_server_in.proofs.Opened.{Place, Since, since_opened}
 use Rattle.law_role_server_in.proofs.Standing.{Closed, Stand, firsts, lefts, stand}
 use Rattle.law_role_server_in.proofs.Stays.{HoldsAt, moves_stay}
 use Rattle.law_role_server_in.proofs.Steps.{known}
-use Rattle.law_role_server_in.proofs.Totals.{above, none_above, sum_all, sum_more, sum_none, sum_same}
+use Rattle.law_role_server_in.proofs.Totals.{above, none_above, sum_all, sum_more, sum_same}
+use Rattle.law_role_server_in.specs.Refusing.{first_at}
+use Rattle.law_role_server_in.specs.Handovers.{IsStillOpen, TwoAreOpen, answers, passed}
 
 abbrev one_if : Bool → ℕ
 one_if b = if b then 1 else 0

@@ -1,27 +1,21 @@
 -- why a server refuses IN_R1/A6
-use Rattle.std.proofs.Common.{◌≡◌, ◌⊎◌, inl, inr, ℕ, ◌+◌, ◌≤◌, ◌==◌, ◌&&◌, Bool, true, false, not, if◌then◌else◌, List, Some, arith, refl, ap, ◌∙◌}
-use Rattle.std.proofs.lemmas.Bool.{and_parts}
-use Rattle.law_order.proofs.ByNumber.{by_test, other_number, same_number}
-use Rattle.rh_rts.specs.declared.command.Cookie.{Cookie}
+use Rattle.law_order.proofs.Vocabulary.{◌≡◌, ◌⊎◌, inl, inr, ℕ, ◌+◌, ◌≤◌, ◌==◌, ◌&&◌, Bool, true, false, not, if◌then◌else◌, List, Some, arith, refl, ap, ◌∙◌, and_parts}
 use Rattle.rh_shell.specs.declared.answers.Refused.TheVariants as refused
 use Rattle.rh_server.specs.declared.out_line.Kind.TheVariants as kind
-use Rattle.rh_server.specs.InReplacement.{hands_over, on_in_r1_a6}
-use Rattle.rh_server.specs.Opening.{Done, took, refuse, unexpected}
-use Rattle.rh_server.specs.OutLines.{waits}
-use Rattle.rh_server.specs.Servers.{acts, first, rules}
-use Rattle.rh_server.specs.States.{Server, same_cookie}
-use Rattle.law_moves.specs.Moves.{AreAllowedAtEnd, EndMove, Passage, end_started}
-use Rattle.law_role_server.specs.Counted.Answering.{AreAnswered}
-use Rattle.law_role_server.specs.Counted.Counting.{is_in_r1_a3, is_in_r1_a6, out_put}
+use Rattle.law_moves.proofs.Vocabulary.{by_test, other_number, same_number, Cookie, AreAllowedAtEnd, EndMove, Passage, end_started}
+use Rattle.law_role_server.proofs.Vocabulary.{hands_over, on_in_r1_a6, Done, took, refuse, unexpected, waits, acts, first, rules, Server, same_cookie, AreAnswered, is_in_r1_a3, is_in_r1_a6, out_put}
+use Rattle.law_role_server.proofs.Takes.{not_false}
+use Rattle.law_role_server.proofs.Gives.{negated as is_not}
+use Rattle.law_role_server_rows.proofs.Refusing.Tests.{one_fails}
 use Rattle.law_role_server_rows.specs.Refusing.Refusing.{IsOther}
-use Rattle.law_role_server_in.specs.Refusing.{came_at, first_at}
-use Rattle.law_role_server_in.specs.Handovers.{HadOpened, IsLastAnswered, NextNames, RefusesInR1A6, UnexpectedInR1A6, answers, passed}
 use Rattle.law_role_server_in.proofs.Steps.{known}
-use Rattle.law_role_server_in.proofs.Tests.{in_r1_a3_waits, not_false, one_fails}
+use Rattle.law_role_server_in.proofs.Tests.{in_r1_a3_waits}
 use Rattle.law_role_server_in.proofs.Standing.{firsts, lefts, stand}
 use Rattle.law_role_server_in.proofs.Opened.{Place, Since, none_or_some, since_opened}
 use Rattle.law_role_server_in.proofs.Why.{IsUnexpected}
-use Rattle.law_role_server_in.proofs.Replaced.{Refuses, is_not, other}
+use Rattle.law_role_server_in.proofs.Replaced.{Refuses, other}
+use Rattle.law_role_server_in.specs.Refusing.{came_at, first_at}
+use Rattle.law_role_server_in.specs.Handovers.{HadOpened, IsLastAnswered, NextNames, RefusesInR1A6, UnexpectedInR1A6, answers, passed}
 
 -- unleft: where the current channel isn't finished, no IN_R1/A6 came on its leg
 module _ (window : ℕ) (moves : List EndMove)

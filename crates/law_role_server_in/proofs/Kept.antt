@@ -1,35 +1,15 @@
 -- what is known of an is leg: what came there and was put, by what the server keeps of it
-use Rattle.std.proofs.Common.{◌≡◌, ◌⊎◌, inl, inr, ℕ, ◌==◌, ◌<◌, ◌≤◌, ◌+◌, Bool, true, false, true≢false, List, [], ◌∷◌, ◌++◌, Some, None, arith, refl, sym, ap, ◌∙◌, subst}
-use Rattle.std.proofs.lemmas.Bool.{false≢true}
-use Rattle.std.specs.Prelude.{IfSome, slice_get, remove}
-use Rattle.std.specs.declared.option.Option.{Option}
-use Rattle.law_order.proofs.ByNumber.{same_number, test_same, test_other}
-use Rattle.rh_rts.specs.declared.command.Cookie.{Cookie}
-use Rattle.rh_server.specs.declared.state.InLeg.{InLeg}
-use Rattle.rh_server.specs.declared.state.InStage.{InStage}
+use Rattle.law_order.proofs.Vocabulary.{◌≡◌, ◌⊎◌, inl, inr, ℕ, ◌==◌, ◌<◌, ◌≤◌, ◌+◌, Bool, true, false, true≢false, List, [], ◌∷◌, ◌++◌, Some, None, arith, refl, sym, ap, ◌∙◌, subst, false≢true, IfSome, slice_get, remove, Option}
 use Rattle.rh_server.specs.declared.state.InStage.TheVariants as in_stage
-use Rattle.rh_server.specs.declared.state.Stage.{Stage}
 use Rattle.rh_server.specs.declared.state.Stage.TheVariants as stage
 use Rattle.rh_server.specs.declared.state.Tells.TheVariants as tells
-use Rattle.rh_server.specs.States.{Server, is_fresh, is_waiting, stays, in_at, in_place, removed_at, set_at}
-use Rattle.rh_server.specs.Opening.{in_leg_up}
-use Rattle.rh_server.specs.Ending.{waits_ended}
+use Rattle.law_moves.proofs.Vocabulary.{same_number, test_same, test_other, Cookie}
+use Rattle.law_role_server.proofs.Vocabulary.{InLeg, InStage, Server, is_fresh, is_waiting, stays, in_at, in_place, removed_at, set_at, in_leg_up, waits_ended}
 use Rattle.law_role_server.proofs.Numbered.{Absent, Once, absent_at, absent_back, absent_front, absent_missing, absent_push, absent_removed, absent_set, absent_unset, once_at, once_first, once_map, once_push, once_removed, once_set}
-use Rattle.law_role_server_in.proofs.Places.{Found, Placed, placed}
+use Rattle.law_role_server.proofs.TakesKept.{has_begun as is_begun}
+use Rattle.law_role_server_rows.proofs.InTurn.InKept.{number_of, is_opened}
+use Rattle.law_role_server_rows.proofs.InTurn.InPlaces.{Found, Placed, placed}
 use Rattle.law_role_server_in.proofs.Tallies.{Tally, Grows}
-
--- CONN/B2 came
-abbrev pub is_begun : Stage → Bool
-is_begun stage.Waits = false
-is_begun (stage.OutCame connection) = false
-is_begun (stage.InCame connection window timeout) = true
-is_begun (stage.Open connection) = true
-is_begun stage.Ended = true
-
-abbrev pub is_opened : InStage → Bool
-is_opened in_stage.Fresh = false
-is_opened (in_stage.Waits window timeout ended) = false
-is_opened in_stage.Opened = true
 
 -- ---- what the facts are about, beside the legs
 
@@ -68,9 +48,6 @@ top_of s = record {
 
 abbrev pub look : Server → Look
 look s = record { top = top_of s; newest = s.newest_in; ins = s.ins }
-
-abbrev pub number_of : InLeg → ℕ
-number_of leg = leg.number
 
 module _ (n : ℕ) where
   -- the channel of the leg is current, or next, or left

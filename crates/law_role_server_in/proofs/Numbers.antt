@@ -1,50 +1,17 @@
 -- the newest IN number that a server gave, by its is legs that came up and what came
-use Rattle.std.proofs.Common.{◌≡◌, ℕ, ◌+◌, ◌≤◌, ◌==◌, ◌&&◌, Bool, true, not, if◌then◌else◌, List, [], ◌∷◌, ◌++◌, Some, None, Ok, Err, arith, refl, rules, ap, ◌∙◌}
-use Rattle.std.proofs.lemmas.Bool.{and_parts}
-use Rattle.std.specs.Prelude.{IfSome, slice_get}
-use Rattle.std.specs.declared.option.Option.{Option}
-use Rattle.std.specs.declared.result.Result.{Result}
-use Rattle.rh_window.specs.declared.recv_window.Ack.{Ack}
-use Rattle.law_order.proofs.ByNumber.{by_test, same_number}
-use Rattle.rh_rts.specs.declared.command.Cookie.{Cookie}
-use Rattle.rh_sig.specs.declared.named.Named.{Named}
+use Rattle.law_order.proofs.Vocabulary.{◌≡◌, ℕ, ◌+◌, ◌≤◌, ◌==◌, ◌&&◌, Bool, true, not, if◌then◌else◌, List, [], ◌∷◌, ◌++◌, Some, None, Ok, Err, arith, refl, rules, ap, ◌∙◌, and_parts, IfSome, slice_get, Option, Result}
 use Rattle.rh_sig.specs.declared.named.Named.TheVariants as named
-use Rattle.rh_line.specs.Lines.{after_tell}
-use Rattle.rh_line.specs.declared.leg.Leg.{Leg}
-use Rattle.rh_line.specs.declared.leg.LegKind.{LegKind}
-use Rattle.rh_line.specs.declared.leg.LegKind.TheVariants.{ClientOut, OutServer, ClientIn, InServer}
-use Rattle.rh_line.specs.declared.which.Which.{Which}
-use Rattle.rh_line.specs.declared.which.Which.TheVariants.{Current, Next}
-use Rattle.rh_shell.specs.declared.answers.Count.{Count}
-use Rattle.rh_shell.specs.declared.end_role.GiveRefused.{GiveRefused}
-use Rattle.rh_shell.specs.Rules.{Message, Pdu, Packet, Row}
-use Rattle.rh_shell.specs.Shells.{is_of}
-use Rattle.rh_server.specs.declared.state.Edge.TheVariants.{Told}
-use Rattle.rh_server.specs.declared.state.InLeg.{InLeg}
-use Rattle.rh_server.specs.declared.state.Leaving.{Leaving}
+use Rattle.rh_server.specs.Servers.{pdu_by}
 use Rattle.rh_server.specs.declared.state.Leaving.TheVariants as leaving
-use Rattle.rh_server.specs.declared.state.OutLeg.{OutLeg}
-use Rattle.rh_server.specs.declared.state.Stage.{Stage}
-use Rattle.rh_server.specs.declared.state.Tells.{Tells}
 use Rattle.rh_server.specs.declared.state.Tells.TheVariants as tells
-use Rattle.rh_server.specs.States.{Server, is_due, is_open, is_shut, is_waiting, stays, in_leg, out_place, with_in, without_in, without_out}
-use Rattle.rh_server.specs.Opening.{Done, unexpected, is_first, has_room, may_up_by, up, up_by, on_conn_a2, on_conn_b2}
-use Rattle.rh_server.specs.Acknowledging.{channel_at}
-use Rattle.rh_server.specs.InReplacement.{has_fresh_below, in_r1_a2_at, in_r2_a2_on, on_in_r1_a2, on_in_r1_a6, on_in_r2_a2, take}
-use Rattle.rh_server.specs.OutReplacement.{recycle}
-use Rattle.rh_server.specs.Ending.{drawn_by, give, in_is_drawn, lost_in, mark_by, on_end_a2, settled, with_ack_dropped}
-use Rattle.rh_server.specs.Putting.{Pick, or_else, put_in_greeting, told_by, was_current, put_tells_by, put_tells, put_b1_by, put_b1, ack_due, put_ack_by, put_ack, put_in_by, out_greeting_at, put_out_greeting, next_out, settled_pick, put_open, put_out_at, put_by as put_by_kind}
-use Rattle.rh_server.specs.Servers.{acts, first, on_is, on_os, packet_by, pdu_by}
-use Rattle.rh_server.specs.Servers.{rules as server_rules}
-use Rattle.law_moves.specs.Passages.Passing.{count_of, of_kind}
-use Rattle.law_moves.proofs.Passages.Logs.{RowKeeps}
-use Rattle.law_moves.proofs.Passages.Messages.{count_append, kind_more}
-use Rattle.law_moves.specs.Moves.{OnLeg, Up, HeadCame, PduCame, PacketCame, Puts, IsDrawn, Marks, Pings, Passage, EndMove, Moves, Gives, Takes, Closes, Recycles, EndPassage, taken_by, put_by, end_moved, end_now_at, end_started, given_by, with_first, all_end_moved}
-use Rattle.law_role_server.specs.Counted.Counting.{is_in_r2_a2, leg_at, often}
-use Rattle.law_role_server_in.specs.Refusing.{in_ups}
+use Rattle.law_moves.proofs.Vocabulary.{Ack, by_test, same_number, Cookie, Named, after_tell, Leg, LegKind, ClientOut, OutServer, ClientIn, InServer, Which, Current, Next, Count, GiveRefused, Message, Pdu, Packet, Row, is_of, count_of, of_kind, OnLeg, Up, HeadCame, PduCame, PacketCame, Puts, IsDrawn, Marks, Pings, Passage, EndMove, Moves, Gives, Takes, Closes, Recycles, EndPassage, taken_by, put_by, end_moved, end_now_at, end_started, given_by, with_first, all_end_moved}
+use Rattle.law_moves.proofs.Lemmas.{RowKeeps, count_append, kind_more}
+use Rattle.law_role_server.proofs.Vocabulary.{Told, InLeg, Leaving, OutLeg, Stage, Tells, Server, is_due, is_open, is_shut, is_waiting, stays, in_leg, out_place, with_in, without_in, without_out, Done, unexpected, is_first, has_room, may_up_by, up, up_by, on_conn_a2, on_conn_b2, channel_at, has_fresh_below, in_r1_a2_at, in_r2_a2_on, on_in_r1_a2, on_in_r1_a6, on_in_r2_a2, take, recycle, drawn_by, give, in_is_drawn, lost_in, mark_by, on_end_a2, settled, with_ack_dropped, Pick}
+use Rattle.law_role_server.proofs.Vocabulary.{or_else, put_in_greeting, told_by, was_current, put_tells_by, put_tells, put_b1_by, put_b1, ack_due, put_ack_by, put_ack, put_in_by, out_greeting_at, put_out_greeting, next_out, settled_pick, put_open, put_out_at, put_by as put_by_kind, acts, first, on_is, on_os, packet_by, rules as server_rules, is_in_r2_a2, leg_at, often}
 use Rattle.law_role_server_in.proofs.Kept.{Look, look}
 use Rattle.law_role_server_in.proofs.Puts.{Alone, out_alone, settled_same}
 use Rattle.law_role_server_in.proofs.Takes.{ack_to_same, pdu_same}
+use Rattle.law_role_server_in.specs.Refusing.{in_ups}
 
 abbrev Same : Server → Server → Type 0
 Same s t = t.newest_in ≡ s.newest_in

@@ -1,26 +1,21 @@
 -- a channel that had opened stays the current one or the next one until IN_R1/A6 comes there
-use Rattle.std.proofs.Common.{◌≡◌, ◌⊎◌, inl, inr, ℕ, zero, suc, ◌+◌, ◌≤◌, ◌==◌, Bool, true, false, true≢false, if◌then◌else◌, List, [], ◌∷◌, ◌++◌, Some, None, arith, refl, sym, ap, ◌∙◌, subst}
-use Rattle.std.specs.Prelude.{IfSome, slice_get}
-use Rattle.std.specs.declared.option.Option.{Option}
-use Rattle.law_order.proofs.ByNumber.{other_number, same_number}
-use Rattle.rh_server.specs.declared.state.InLeg.{InLeg}
-use Rattle.rh_server.specs.declared.state.InStage.{InStage}
+use Rattle.law_order.proofs.Vocabulary.{◌≡◌, ◌⊎◌, inl, inr, ℕ, zero, suc, ◌+◌, ◌≤◌, ◌==◌, Bool, true, false, true≢false, if◌then◌else◌, List, [], ◌∷◌, ◌++◌, Some, None, arith, refl, sym, ap, ◌∙◌, subst, IfSome, slice_get, Option}
 use Rattle.rh_server.specs.declared.state.InStage.TheVariants as in_stage
-use Rattle.rh_server.specs.Servers.{acts, first}
-use Rattle.rh_server.specs.Servers.{rules as server_rules}
-use Rattle.rh_server.specs.States.{Server, is_fresh, is_waiting, in_at, in_leg, in_place}
-use Rattle.law_moves.specs.Moves.{AreAllowedAtEnd, EndMove, EndPassage, Passage, all_end_moved, end_moved, end_started}
-use Rattle.law_role_server.specs.Counted.Answering.{AreAnswered}
+use Rattle.law_moves.proofs.Vocabulary.{other_number, same_number, AreAllowedAtEnd, EndMove, EndPassage, Passage, all_end_moved, end_moved, end_started}
+use Rattle.law_role_server.proofs.Vocabulary.{InLeg, InStage, acts, first, rules as server_rules, Server, is_fresh, is_waiting, in_at, in_leg, in_place, AreAnswered}
 use Rattle.law_role_server.proofs.Numbered.{Absent, absent_if}
-use Rattle.law_role_server_in.specs.Refusing.{first_at}
-use Rattle.law_role_server_in.specs.Handovers.{HadOpened, answers, passed}
-use Rattle.law_role_server_in.proofs.Kept.{IsOpen, is_begun, is_opened, leg_at_place, number_of, top_of}
-use Rattle.law_role_server_in.proofs.Places.{Found, Placed, found_at, number_found, placed}
+use Rattle.law_role_server.proofs.TakesKept.{has_begun as is_begun}
+use Rattle.law_role_server_rows.proofs.InTurn.InKept.{is_opened, number_of}
+use Rattle.law_role_server_rows.proofs.InTurn.InPlaces.{Found, Placed, found_at, placed}
+use Rattle.law_role_server_rows.proofs.Putting.Each.{number_found}
+use Rattle.law_role_server_in.proofs.Kept.{IsOpen, leg_at_place, top_of}
 use Rattle.law_role_server_in.proofs.Tallies.{Tally, tally}
 use Rattle.law_role_server_in.proofs.Tests.{some_waits}
 use Rattle.law_role_server_in.proofs.Steps.{AllHold, known}
 use Rattle.law_role_server_in.proofs.Standing.{Closed, Says, Stand, firsts, lefts, stand}
 use Rattle.law_role_server_in.proofs.Stays.{HoldsAt, moves_stay}
+use Rattle.law_role_server_in.specs.Refusing.{first_at}
+use Rattle.law_role_server_in.specs.Handovers.{HadOpened, answers, passed}
 
 pub none_or_some : (a : ℕ) → (a ≡ 0) ⊎ (1 ≤ a)
 none_or_some zero = inl refl
@@ -28,14 +23,14 @@ none_or_some (suc a) = inr (omega arith)
 
 -- ---- fronts
 
-moved_append : (p : EndPassage Server) (front rest : List EndMove)
+pub moved_append : (p : EndPassage Server) (front rest : List EndMove)
     → all_end_moved server_rules acts p (front ++ rest)
     ≡ all_end_moved server_rules acts (all_end_moved server_rules acts p front) rest
 moved_append p [] rest = refl
 moved_append p (move ∷ front) rest =
     moved_append (end_moved server_rules acts p move) front rest
 
-allowed_parts : (p : EndPassage Server) (front rest : List EndMove)
+pub allowed_parts : (p : EndPassage Server) (front rest : List EndMove)
     → AreAllowedAtEnd server_rules acts p (front ++ rest)
     → AreAllowedAtEnd server_rules acts p front
     × AreAllowedAtEnd server_rules acts (all_end_moved server_rules acts p front) rest

@@ -1,33 +1,9 @@
 -- where IN_R1/A6 didn't come, by the law of what is taken in order
-use Rattle.std.proofs.Common.{◌≡◌, ℕ, ◌==◌, ◌&&◌, nat_eq, Bool, true, false, if◌then◌else◌, List, [], ◌∷◌, ◌++◌, arith, refl, sym, ◌∙◌, subst}
-use Rattle.std.proofs.lemmas.Bool.{true≢false}
-use Rattle.std.proofs.lemmas.Bool.Decides.{nat_tests}
-use Rattle.law_order.specs.Items.{Item, has_handover}
-use Rattle.law_order.specs.Taking.{TakerLaw}
+use Rattle.law_order.proofs.Vocabulary.{◌≡◌, ℕ, ◌&&◌, nat_eq, Bool, true, false, if◌then◌else◌, List, [], ◌∷◌, ◌++◌, refl, sym, ◌∙◌, subst, true≢false, Item, has_handover, TakerLaw}
 use Rattle.rh_sig.specs.declared.named.Named.TheVariants as named
-use Rattle.rh_line.specs.declared.leg.LegKind.{LegKind}
-use Rattle.rh_line.specs.declared.leg.LegKind.TheVariants.{ClientOut, OutServer, ClientIn, InServer}
-use Rattle.rh_shell.specs.Rules.{Message, Text, Pdu, Packet}
-use Rattle.rh_shell.specs.Shells.{is_of, same_leg}
-use Rattle.rh_server.specs.States.{Server}
-use Rattle.law_moves.specs.Passages.Passing.{count_of}
-use Rattle.law_moves.specs.Moves.{EndPassage, OnLeg}
-use Rattle.law_moves.specs.Wires.{of_leg}
-use Rattle.law_role_server.specs.Order.{got, in_items, items_if, items_on, taker_of}
-use Rattle.law_role_server.specs.Counted.Counting.{is_in_r1_a6, leg_at, often_at}
-
-same_bool : (kind : LegKind) (k n : ℕ)
-    → same_leg (leg_at kind k) (leg_at InServer n) ≡ is_of InServer (leg_at kind k) && nat_eq n k
-same_bool ClientOut k n = refl
-same_bool OutServer k n = refl
-same_bool ClientIn k n = refl
-same_bool InServer k n = flipped (k == n) (nat_eq n k) refl refl
-  where
-    flipped : (a b : Bool) → (k == n) ≡ a → nat_eq n k ≡ b → a ≡ b
-    flipped true true e f = refl
-    flipped false false e f = refl
-    flipped true false e f = absurd (grind (arith, nat_tests, e, f))
-    flipped false true e f = absurd (grind (arith, nat_tests, e, f))
+use Rattle.law_moves.proofs.Vocabulary.{InServer, Message, Text, Pdu, Packet, is_of, count_of, EndPassage, OnLeg, of_leg}
+use Rattle.law_role_server.proofs.Vocabulary.{Server, got, in_items, items_if, items_on, taker_of, is_in_r1_a6, leg_at, often_at}
+use Rattle.law_role_server.proofs.Counted.EndMarks.{same_bool}
 
 -- where no handover mark came, no IN_R1/A6 did
 none_left : (n : ℕ) (log : List OnLeg) → has_handover (items_on in_items InServer log n) ≡ false

@@ -1,49 +1,16 @@
 -- a server keeps at most four os legs
-use Rattle.std.proofs.Common.{◌≡◌, ℕ, zero, suc, ◌+◌, ◌≤◌, ◌==◌, ◌&&◌, nat_lt, true, not, List, [], ◌∷◌, length, Some, None, Ok, Err, arith, refl, rules, ap, ◌∙◌}
-use Rattle.std.proofs.lemmas.Bool.{and_parts}
-use Rattle.std.proofs.lemmas.Bool.Decides.{nat_tests}
-use Rattle.std.proofs.lemmas.List.{length-append, length-set}
-use Rattle.std.specs.Prelude.{IfSome, remove, slice_get}
-use Rattle.std.specs.declared.option.Option.{Option}
-use Rattle.std.specs.declared.result.Result.{Result}
-use Rattle.rh_window.specs.declared.recv_window.Ack.{Ack}
-use Rattle.law_order.proofs.ByNumber.{by_test}
-use Rattle.rh_rts.specs.declared.command.Cookie.{Cookie}
-use Rattle.rh_sig.specs.declared.named.Named.{Named}
+use Rattle.law_order.proofs.Vocabulary.{◌≡◌, ℕ, zero, suc, ◌+◌, ◌≤◌, ◌==◌, ◌&&◌, nat_lt, true, not, List, [], ◌∷◌, length, Some, None, Ok, Err, arith, refl, rules, ap, ◌∙◌, and_parts, nat_tests, length-append, length-set, IfSome, remove, slice_get, Option, Result}
 use Rattle.rh_sig.specs.declared.named.Named.TheVariants as named
-use Rattle.rh_line.specs.declared.leg.Leg.{Leg}
-use Rattle.rh_line.specs.declared.leg.LegKind.{LegKind}
-use Rattle.rh_line.specs.declared.leg.LegKind.TheVariants.{ClientOut, OutServer, ClientIn, InServer}
-use Rattle.rh_line.specs.Lines.{after_tell}
-use Rattle.rh_line.specs.declared.which.Which.TheVariants.{Current}
-use Rattle.rh_line.specs.Queue.{front_length}
-use Rattle.rh_shell.specs.declared.answers.Count.{Count}
-use Rattle.rh_shell.specs.declared.end_role.GiveRefused.{GiveRefused}
-use Rattle.rh_shell.specs.Rules.{Message, Pdu, Packet}
-use Rattle.rh_shell.specs.declared.due.Due.{Due}
-use Rattle.rh_shell.specs.Waiting.{Waiting, taken}
-use Rattle.rh_server.specs.declared.state.OutLeg.{OutLeg}
-use Rattle.rh_server.specs.declared.state.Edge.TheVariants.{Told}
+use Rattle.rh_server.specs.Servers.{pdu_by}
 use Rattle.rh_server.specs.declared.state.EndMark.TheVariants as end_mark
-use Rattle.rh_server.specs.declared.state.InLeg.{InLeg}
-use Rattle.rh_server.specs.declared.state.Leaving.{Leaving}
 use Rattle.rh_server.specs.declared.state.Leaving.TheVariants as leaving
-use Rattle.rh_server.specs.declared.state.Stage.{Stage}
 use Rattle.rh_server.specs.declared.state.Stage.TheVariants as stage
-use Rattle.rh_server.specs.declared.state.Tells.{Tells}
 use Rattle.rh_server.specs.declared.state.Tells.TheVariants as tells
 use Rattle.rh_server.specs.declared.out_line.Kind.TheVariants as kinds
-use Rattle.rh_server.specs.OutLines.{Gate, length_of, lets, waits}
-use Rattle.rh_server.specs.States.{Server, in_leg, is_due, is_open, is_shut, is_waiting, out_at, out_cookie, out_place, removed_at, same_cookie, stays, with_in, without_in, without_out}
-use Rattle.rh_server.specs.Opening.{Done, conn_a2_at, first_out_at, is_first, may_up_by, on_conn_a2, opens, out_leg_up, took, unexpected, up, up_by, with_first_out}
-use Rattle.rh_server.specs.Acknowledging.{acked_at, acked_cookie, acked_in, on_ack}
-use Rattle.rh_server.specs.OutReplacement.{answered_by, answered_on, may_answer, on_out_r1_a4, out_r1_a4_at, out_r1_a4_by, recycle}
-use Rattle.rh_server.specs.Putting.{Pick, ack_due, counts, counts_at, gate_at, is_end_due, may_end_at, may_go_at, next_out, or_else, out_greeting_at, put_ack, put_ack_by, put_b1, put_b1_by, put_end, put_in_by, put_in_greeting, put_open, put_out_at, put_out_greeting, put_out_place, put_pdu, put_pdu_or_end, put_tells, put_tells_by, put_waiting, settled_pick, waiting_at, waiting_by, was_current, was_put, went_at, pdu_by as pdu_by_length, put_by as put_by_kind}
-use Rattle.rh_server.specs.Ending.{drawn_by, give, in_is_drawn, lost_in, mark_by, on_end_a2, settled, with_ack_dropped}
-use Rattle.rh_server.specs.InReplacement.{take, on_in_r1_a2, on_in_r1_a6}
-use Rattle.rh_server.specs.Servers.{acts, on_is, on_os, packet_by, pdu_by}
-use Rattle.rh_server.specs.Servers.{rules as server_rules}
-use Rattle.law_moves.specs.Moves.{Move, Up, HeadCame, PduCame, PacketCame, Puts, IsDrawn, Marks, Pings, Passage, EndMove, Moves, Gives, Takes, Closes, Recycles, EndPassage, moved, taken_by, put_by, end_moved, end_now_at, given_by, with_first, all_end_moved}
+use Rattle.law_moves.proofs.Vocabulary.{Ack, by_test, Cookie, Named, Leg, LegKind, ClientOut, OutServer, ClientIn, InServer, after_tell, Current, front_length, Count, GiveRefused, Message, Pdu, Packet, Due, Waiting, taken, Move, Up, HeadCame, PduCame, PacketCame, Puts, IsDrawn, Marks, Pings, Passage, EndMove, Moves, Gives, Takes, Closes, Recycles, EndPassage, moved, taken_by, put_by, end_moved, end_now_at, given_by, with_first, all_end_moved}
+use Rattle.law_role_server.proofs.Vocabulary.{OutLeg, Told, InLeg, Leaving, Stage, Tells, Gate, length_of, lets, waits, Server, in_leg, is_due, is_open, is_shut, is_waiting, out_at, out_cookie, out_place, removed_at, same_cookie, stays, with_in, without_in, without_out, Done, conn_a2_at, first_out_at, is_first, may_up_by, on_conn_a2, opens, out_leg_up, took, unexpected, up, up_by, with_first_out, acked_at, acked_cookie, acked_in, on_ack, answered_by, answered_on, may_answer}
+use Rattle.law_role_server.proofs.Vocabulary.{on_out_r1_a4, out_r1_a4_at, out_r1_a4_by, recycle, Pick, ack_due, counts, counts_at, gate_at, is_end_due, may_end_at, may_go_at, next_out, or_else, out_greeting_at, put_ack, put_ack_by, put_b1, put_b1_by, put_end, put_in_by, put_in_greeting, put_open, put_out_at, put_out_greeting, put_out_place, put_pdu, put_pdu_or_end, put_tells, put_tells_by, put_waiting, settled_pick, waiting_at, waiting_by, was_current, was_put, went_at}
+use Rattle.law_role_server.proofs.Vocabulary.{pdu_by as pdu_by_length, put_by as put_by_kind, drawn_by, give, in_is_drawn, lost_in, mark_by, on_end_a2, settled, with_ack_dropped, take, on_in_r1_a2, on_in_r1_a6, acts, on_is, on_os, packet_by, rules as server_rules}
 
 -- ---- what leaves the legs alone
 

@@ -1,47 +1,23 @@
 -- what a server puts keeps what it knows of its is legs
-use Rattle.std.proofs.Common.{◌≡◌, ℕ, ◌==◌, ◌&&◌, Bool, true, true≢false, List, [], ◌∷◌, ◌++◌, Some, None, refl, rules, sym, ap, ◌∙◌}
-use Rattle.std.proofs.lemmas.Bool.{and_parts, false≢true}
-use Rattle.std.specs.Prelude.{IfSome, slice_get}
-use Rattle.std.specs.declared.option.Option.{Option}
-use Rattle.rh_window.specs.declared.recv_window.Ack.{Ack}
-use Rattle.law_order.proofs.ByNumber.{by_test}
-use Rattle.rh_sig.specs.declared.named.Named.{Named}
+use Rattle.law_order.proofs.Vocabulary.{◌≡◌, ℕ, ◌==◌, ◌&&◌, Bool, true≢false, List, [], ◌∷◌, ◌++◌, Some, None, refl, rules, sym, ap, ◌∙◌, and_parts, IfSome, slice_get, Option}
 use Rattle.rh_sig.specs.declared.named.Named.TheVariants as named
-use Rattle.rh_line.specs.Lines.{after_tell}
-use Rattle.rh_line.specs.Queue.{front_length}
-use Rattle.rh_line.specs.declared.leg.LegKind.{LegKind}
-use Rattle.rh_line.specs.declared.leg.LegKind.TheVariants.{ClientOut, OutServer, ClientIn, InServer}
-use Rattle.rh_line.specs.declared.which.Which.TheVariants.{Current}
-use Rattle.rh_shell.specs.Hearing.{greeting as greeting_text}
-use Rattle.rh_shell.specs.declared.due.Due.{Due}
-use Rattle.rh_shell.specs.Rules.{Message, Text, Packet}
-use Rattle.rh_shell.specs.Waiting.{Waiting, taken}
 use Rattle.rh_server.specs.declared.state.EndMark.TheVariants as end_mark
-use Rattle.rh_server.specs.declared.state.Edge.TheVariants.{Told}
 use Rattle.rh_server.specs.declared.state.Greeting.TheVariants as greetings
-use Rattle.rh_server.specs.declared.state.InLeg.{InLeg}
-use Rattle.rh_server.specs.declared.state.Leaving.{Leaving}
 use Rattle.rh_server.specs.declared.state.Leaving.TheVariants as leaving
-use Rattle.rh_server.specs.declared.state.OutLeg.{OutLeg}
-use Rattle.rh_server.specs.declared.state.Stage.{Stage}
 use Rattle.rh_server.specs.declared.state.Stage.TheVariants as stage
-use Rattle.rh_server.specs.declared.state.Tells.{Tells}
 use Rattle.rh_server.specs.declared.state.Tells.TheVariants as tells
-use Rattle.rh_server.specs.OutLines.{Gate, lets, length_of}
-use Rattle.rh_server.specs.States.{Server, is_due, is_open, is_shut, stays, in_leg, in_place, out_place, with_in}
-use Rattle.rh_server.specs.OutReplacement.{wished}
-use Rattle.rh_server.specs.Ending.{completed, is_complete, settled}
-use Rattle.rh_server.specs.Putting.{Pick, or_else, told_by, was_current, put_tells_by, put_tells, put_b1_by, put_b1, ack_due, put_ack_by, put_ack, put_in_by, with_out, out_greeting_at, put_out_greeting, gate_at, counts, was_put, waiting_by, waiting_at, put_waiting, may_go_at, pdu_by, put_pdu, is_end_due, may_end_at, put_end, put_pdu_or_end, next_out, settled_pick, put_open, put_out_at, put_by as put_by_kind}
-use Rattle.law_moves.specs.Passages.Passing.{count_of}
-use Rattle.law_moves.proofs.Passages.Logs.{PutKeeps}
-use Rattle.law_moves.specs.Moves.{OnLeg}
-use Rattle.law_role_server.specs.Counted.Counting.{is_conn_b3, leg_at}
-use Rattle.law_role_server_in.specs.Refusing.{is_in_r1_b2}
-use Rattle.law_role_server_in.proofs.Places.{Found, found_at, number_found}
+use Rattle.law_moves.proofs.Vocabulary.{Ack, by_test, Named, after_tell, front_length, LegKind, ClientOut, OutServer, ClientIn, InServer, Current, greeting as greeting_text, Due, Message, Text, Packet, Waiting, taken, count_of, OnLeg}
+use Rattle.law_moves.proofs.Lemmas.{PutKeeps}
+use Rattle.law_role_server.proofs.Vocabulary.{Told, InLeg, Leaving, OutLeg, Tells, Gate, lets, length_of, Server, is_due, is_open, is_shut, stays, in_leg, in_place, out_place, with_in, wished, completed, is_complete, settled, Pick, or_else, told_by, was_current, put_tells_by, put_tells, put_b1_by, put_b1, ack_due, put_ack_by, put_ack, put_in_by, with_out, out_greeting_at, put_out_greeting, gate_at, counts, was_put, waiting_by, waiting_at, put_waiting, may_go_at, pdu_by}
+use Rattle.law_role_server.proofs.Vocabulary.{put_pdu, is_end_due, may_end_at, put_end, put_pdu_or_end, next_out, settled_pick, put_open, put_out_at, put_by as put_by_kind, is_conn_b3, leg_at}
+use Rattle.law_role_server_rows.proofs.InTurn.InPuts.{open_begun}
+use Rattle.law_role_server_rows.proofs.InTurn.InPlaces.{Found, found_at}
+use Rattle.law_role_server_rows.proofs.Putting.Each.{number_found}
 use Rattle.law_role_server_in.proofs.Tallies.{Grows, Tally, other_put, put_grows, quiet_put, tally}
-use Rattle.law_role_server_in.proofs.Kept.{is_begun, kept_more, look, open_more, set_kept, so_more, top_of}
+use Rattle.law_role_server_in.proofs.Kept.{kept_more, look, open_more, set_kept, so_more, top_of}
 use Rattle.law_role_server_in.proofs.Rows.{Fine, leg_same, same_fine}
 use Rattle.law_role_server_in.proofs.Takes.{Holds}
+use Rattle.law_role_server_in.specs.Refusing.{is_in_r1_b2}
 
 -- ---- on os legs
 
@@ -89,13 +65,6 @@ out_alone s place =
 
 wished_same : (s : Server) → look (wished s) ≡ look s
 wished_same s = search rules
-
-pub open_begun : (x : Stage) → is_open x ≡ true → true ≡ is_begun x
-open_begun stage.Waits e = absurd (false≢true e)
-open_begun (stage.OutCame connection) e = absurd (false≢true e)
-open_begun (stage.InCame connection window timeout) e = absurd (false≢true e)
-open_begun (stage.Open connection) e = refl
-open_begun stage.Ended e = absurd (false≢true e)
 
 pub settled_same : (s : Server) → look (settled s) ≡ look s
 settled_same s = wished_same (completed s) ∙

@@ -1,48 +1,18 @@
 -- why a server refuses what replaces an IN channel
-use Rattle.std.proofs.Common.{◌≡◌, ◌⊎◌, inl, inr, ℕ, ◌&&◌, Bool, true, false, not, Some, None, Err, refl, sym, ap, ◌∙◌}
-use Rattle.std.proofs.lemmas.Bool.{false≢true}
-use Rattle.std.proofs.lemmas.Bool.Decides.{not_from_Decides}
-use Rattle.std.proofs.lemmas.Slice.Eq.{bytes_eq-Decides}
-use Rattle.std.specs.Prelude.{bytes_eq}
-use Rattle.std.specs.declared.option.Option.{Option}
-use Rattle.law_order.proofs.ByNumber.{by_test}
-use Rattle.rh_rts.specs.declared.command.Cookie.{Cookie}
-use Rattle.rh_shell.specs.declared.answers.Count.{Count}
+use Rattle.law_order.proofs.Vocabulary.{◌≡◌, ◌⊎◌, inl, inr, ℕ, ◌&&◌, true, false, not, Some, None, Err, refl, sym, ap, ◌∙◌, Option}
 use Rattle.rh_shell.specs.declared.answers.Refused.TheVariants as refused
-use Rattle.rh_shell.specs.Rules.{Row}
-use Rattle.rh_server.specs.declared.state.InLeg.{InLeg}
-use Rattle.rh_server.specs.declared.state.Stage.{Stage}
 use Rattle.rh_server.specs.declared.state.Stage.TheVariants as stage
-use Rattle.rh_server.specs.States.{Server, is_fresh, same_cookie, in_leg, no_cookie}
-use Rattle.rh_server.specs.Opening.{Done, took, refuse, unexpected, is_first}
-use Rattle.rh_server.specs.InReplacement.{announced, has_fresh_below, in_r1_a2_by, in_r1_a2_at, on_in_r1_a2}
-use Rattle.law_moves.specs.Moves.{Passage}
-use Rattle.law_role_server.specs.Counted.Answering.{AreAnswered}
-use Rattle.law_role_server.specs.Counted.Opening.{OpensOnce}
+use Rattle.law_moves.proofs.Vocabulary.{by_test, Cookie, Count, Row, Passage}
+use Rattle.law_role_server.proofs.Vocabulary.{InLeg, Stage, Server, is_fresh, same_cookie, in_leg, Done, took, refuse, unexpected, is_first, announced, has_fresh_below, in_r1_a2_by, in_r1_a2_at, on_in_r1_a2, AreAnswered, OpensOnce}
+use Rattle.law_role_server.proofs.Gives.{negated as is_not}
+use Rattle.law_role_server.proofs.TakesKept.{has_begun as is_begun}
+use Rattle.law_role_server_rows.proofs.Refusing.Mismatches.{differ, expected_of, got_of}
 use Rattle.law_role_server_rows.specs.Refusing.Refusing.{IsOther}
-use Rattle.law_role_server_in.specs.Refusing.{NewestNames, RefusesInFor}
-use Rattle.law_role_server_in.proofs.Kept.{is_begun}
 use Rattle.law_role_server_in.proofs.Takes.{Holds}
 use Rattle.law_role_server_in.proofs.Why.{in_r1_a2_refused, in_r2_a2_refused, end_refused, pdu_refused}
+use Rattle.law_role_server_in.specs.Refusing.{NewestNames, RefusesInFor}
 
 -- ---- what a row tells
-
-abbrev expected_of : Row → Cookie
-expected_of (Err (refused.Cookie expected got)) = expected
-expected_of row = no_cookie
-
-abbrev got_of : Row → Cookie
-got_of (Err (refused.Cookie expected got)) = got
-got_of row = no_cookie
-
-differ : (a b : Cookie) → same_cookie a b ≡ false → a ≡ b → ⊥
-differ a b e same =
-    not_from_Decides (bytes_eq a.0 b.0) (bytes_eq-Decides a.0 b.0) e
-    (ap (λ (c : Cookie). c.0) same)
-
-pub is_not : (t : Bool) → not t ≡ true → t ≡ false
-is_not true e = absurd (false≢true e)
-is_not false e = refl
 
 module _ (expected got : Cookie) where
   abbrev pub Refuses : Done → Type 0

@@ -1,34 +1,18 @@
 -- a server's steps keep what it knows of its is legs
-use Rattle.std.proofs.Common.{◌≡◌, inl, inr, ℕ, ◌≤◌, ◌<◌, ◌==◌, nat_lt, ◌&&◌, ◌||◌, Bool, true, false, true≢false, not, List, [], ◌∷◌, Some, None, arith, refl, sym, ap, ◌∙◌, subst}
-use Rattle.std.proofs.lemmas.Bool.{false≢true, and_parts, or_parts}
-use Rattle.std.proofs.lemmas.Bool.Decides.{nat_tests}
-use Rattle.std.specs.Prelude.{IfSome}
-use Rattle.std.specs.declared.option.Option.{Option}
-use Rattle.law_order.proofs.ByNumber.{by_test, other_number, same_number}
-use Rattle.rh_rts.specs.declared.command.Cookie.{Cookie}
-use Rattle.rh_line.specs.Lines.{Line, is_empty, released, moved_on}
-use Rattle.rh_line.specs.Lines.{settled as line_settled, taken as line_taken}
-use Rattle.rh_server.specs.declared.state.Edge.TheVariants.{Shut}
-use Rattle.rh_server.specs.declared.state.InLeg.{InLeg}
-use Rattle.rh_server.specs.declared.state.InStage.{InStage}
+use Rattle.law_order.proofs.Vocabulary.{◌≡◌, inl, inr, ℕ, ◌≤◌, ◌<◌, ◌==◌, nat_lt, ◌&&◌, ◌||◌, Bool, true, false, true≢false, not, List, [], ◌∷◌, Some, None, arith, refl, sym, ap, ◌∙◌, subst, false≢true, and_parts, or_parts, nat_tests, IfSome, Option}
+use Rattle.rh_line.specs.Lines.{taken as line_taken}
 use Rattle.rh_server.specs.declared.state.InStage.TheVariants as in_stage
-use Rattle.rh_server.specs.declared.state.Stage.{Stage}
 use Rattle.rh_server.specs.declared.state.Tells.TheVariants as tells
 use Rattle.rh_server.specs.declared.out_line.Kind.TheVariants as kinds
-use Rattle.rh_server.specs.OutLines.{waits}
-use Rattle.rh_server.specs.States.{Server, is_fresh, is_waiting, stays, in_place, set_at, with_in}
-use Rattle.rh_server.specs.Opening.{first_in}
-use Rattle.rh_server.specs.Ending.{waits_ended}
-use Rattle.rh_server.specs.InReplacement.{opens_next, opens_leg, first_waiting, waiting_place, next_opened, becomes_current, moved_if, take, announced, is_fresh_below, has_fresh_below}
+use Rattle.law_moves.proofs.Vocabulary.{by_test, other_number, same_number, Cookie, Line, is_empty, released, moved_on, settled as line_settled}
+use Rattle.law_role_server.proofs.Vocabulary.{Shut, InLeg, InStage, Stage, waits, Server, is_fresh, is_waiting, stays, in_place, set_at, with_in, first_in, waits_ended, opens_next, opens_leg, first_waiting, waiting_place, next_opened, becomes_current, moved_if, take, announced, is_fresh_below, has_fresh_below}
 use Rattle.law_role_server.proofs.Numbered.{none_any, once_all, once_map}
-use Rattle.law_role_server_in.proofs.Places.{Found, found_at}
+use Rattle.law_role_server.proofs.TakesKept.{has_begun as is_begun}
+use Rattle.law_role_server_rows.proofs.InTurn.InRows.{fresh_unopened}
+use Rattle.law_role_server_rows.proofs.InTurn.InPlaces.{Found, found_at}
+use Rattle.law_role_server_rows.proofs.InTurn.InKept.{is_opened, number_of}
 use Rattle.law_role_server_in.proofs.Tallies.{Begins, Grows, Tally}
-use Rattle.law_role_server_in.proofs.Kept.{IsOpen, Kept, Look, So, Tail, Top, is_begun, is_opened, kept_more, leg_at_place, look, number_of, open_more, set_kept, so_more, so_top, tail_more, top_kept, top_of}
-
-fresh_unopened : (x : InStage) → is_fresh x ≡ true → is_opened x ≡ false
-fresh_unopened in_stage.Fresh e = refl
-fresh_unopened (in_stage.Waits window timeout ended) e = refl
-fresh_unopened in_stage.Opened e = absurd (false≢true e)
+use Rattle.law_role_server_in.proofs.Kept.{IsOpen, Kept, Look, So, Tail, Top, kept_more, leg_at_place, look, open_more, set_kept, so_more, so_top, tail_more, top_kept, top_of}
 
 module _ (n : ℕ) where
   abbrev pub Fine : Server → Tally → Type 0

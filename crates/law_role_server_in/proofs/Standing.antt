@@ -1,25 +1,11 @@
 -- what a server's steps do to its current channel, the next one and the answers to IN_R1/A2
-use Rattle.std.proofs.Common.{◌≡◌, ℕ, suc, ◌+◌, ◌≤◌, ◌&&◌, ◌||◌, Bool, true, false, not, if◌then◌else◌, List, [], ◌∷◌, ◌++◌, Some, None, arith, refl, sym, subst}
-use Rattle.std.proofs.lemmas.Bool.{false≢true, and_parts, or_parts}
-use Rattle.std.specs.declared.option.Option.{Option}
-use Rattle.law_order.proofs.ByNumber.{by_test}
-use Rattle.rh_sig.specs.declared.named.Named.{Named}
+use Rattle.law_order.proofs.Vocabulary.{◌≡◌, ℕ, suc, ◌+◌, ◌≤◌, ◌&&◌, ◌||◌, Bool, true, false, not, if◌then◌else◌, List, [], ◌∷◌, ◌++◌, Some, None, arith, refl, sym, subst, false≢true, and_parts, or_parts, Option}
 use Rattle.rh_sig.specs.declared.named.Named.TheVariants as named
-use Rattle.rh_line.specs.Lines.{Line, is_empty, released, moved_on}
-use Rattle.rh_line.specs.Lines.{settled as line_settled, taken as line_taken}
-use Rattle.rh_line.specs.declared.leg.LegKind.TheVariants.{InServer, OutServer}
-use Rattle.rh_shell.specs.declared.due.Due.{Due}
-use Rattle.rh_shell.specs.Waiting.{own}
-use Rattle.rh_server.specs.declared.state.Edge.TheVariants.{Shut}
-use Rattle.rh_server.specs.declared.state.InLeg.{InLeg}
-use Rattle.rh_server.specs.declared.state.InStage.{InStage}
+use Rattle.rh_line.specs.Lines.{taken as line_taken}
 use Rattle.rh_server.specs.declared.state.InStage.TheVariants as in_stage
 use Rattle.rh_server.specs.declared.out_line.Kind.TheVariants as kinds
-use Rattle.rh_server.specs.OutLines.{waits}
-use Rattle.rh_server.specs.States.{Server}
-use Rattle.rh_server.specs.InReplacement.{opens_next, opens_leg, first_waiting, next_opened, becomes_current, moved_if, take}
-use Rattle.law_moves.specs.Moves.{OnLeg}
-use Rattle.law_role_server.specs.Counted.Counting.{is_conn_b2, is_in_r1_a2, is_in_r1_a3, is_in_r1_a6, often, often_at, waiting_of, waits_for}
+use Rattle.law_moves.proofs.Vocabulary.{by_test, Named, Line, is_empty, released, moved_on, settled as line_settled, InServer, OutServer, Due, own, OnLeg}
+use Rattle.law_role_server.proofs.Vocabulary.{Shut, InLeg, InStage, waits, Server, opens_next, opens_leg, first_waiting, next_opened, becomes_current, moved_if, take, is_conn_b2, is_in_r1_a2, is_in_r1_a3, is_in_r1_a6, often, often_at, waiting_of, waits_for}
 use Rattle.law_role_server_in.proofs.Kept.{Look, look}
 
 pub record Stand : Type 0 where

@@ -1,59 +1,24 @@
 -- a server's moves keep what its steps keep of its current channel, the next one and the answers
-use Rattle.std.proofs.Common.{◌≡◌, ℕ, ◌+◌, ◌≤◌, ◌==◌, ◌&&◌, Bool, true, false, true≢false, not, if◌then◌else◌, List, [], ◌∷◌, ◌++◌, Some, None, Ok, Err, arith, refl, rules, sym, ap, ◌∙◌, subst}
-use Rattle.std.proofs.lemmas.Bool.{and_parts, not-true}
-use Rattle.std.specs.Prelude.{IfSome, slice_get}
-use Rattle.std.specs.declared.option.Option.{Option}
-use Rattle.std.specs.declared.result.Result.{Result}
-use Rattle.rh_window.specs.declared.recv_window.Ack.{Ack}
-use Rattle.law_order.proofs.ByNumber.{by_test, same_number}
-use Rattle.rh_rts.specs.declared.command.Cookie.{Cookie}
-use Rattle.rh_sig.specs.declared.named.Named.{Named}
+use Rattle.law_order.proofs.Vocabulary.{◌≡◌, ℕ, ◌+◌, ◌≤◌, ◌==◌, ◌&&◌, Bool, true, false, true≢false, not, if◌then◌else◌, List, [], ◌∷◌, ◌++◌, Some, None, Ok, Err, arith, refl, rules, sym, ap, ◌∙◌, subst, and_parts, not-true, IfSome, slice_get, Option, Result}
 use Rattle.rh_sig.specs.declared.named.Named.TheVariants as named
-use Rattle.rh_line.specs.Lines.{Line, after_finish, after_tell}
-use Rattle.rh_line.specs.declared.leg.Leg.{Leg}
-use Rattle.rh_line.specs.declared.leg.LegKind.{LegKind}
-use Rattle.rh_line.specs.declared.leg.LegKind.TheVariants.{ClientOut, OutServer, ClientIn, InServer}
-use Rattle.rh_line.specs.declared.which.Which.{Which}
-use Rattle.rh_line.specs.declared.which.Which.TheVariants.{Current, Next}
-use Rattle.rh_shell.specs.declared.answers.Count.{Count}
 use Rattle.rh_shell.specs.declared.answers.Refused.TheVariants as refused
-use Rattle.rh_shell.specs.declared.end_role.GiveRefused.{GiveRefused}
-use Rattle.rh_shell.specs.declared.end_role.RecycleRefused.{RecycleRefused}
-use Rattle.rh_shell.specs.Rules.{Message, Pdu, Packet, Row}
-use Rattle.rh_shell.specs.Waiting.{Waiting, own}
-use Rattle.rh_server.specs.declared.state.Edge.TheVariants.{Told}
-use Rattle.rh_server.specs.declared.state.InLeg.{InLeg}
-use Rattle.rh_server.specs.declared.state.InStage.{InStage}
 use Rattle.rh_server.specs.declared.state.InStage.TheVariants as in_stage
-use Rattle.rh_server.specs.declared.state.Leaving.{Leaving}
 use Rattle.rh_server.specs.declared.state.Leaving.TheVariants as leaving
-use Rattle.rh_server.specs.declared.state.OutLeg.{OutLeg}
-use Rattle.rh_server.specs.declared.state.Stage.{Stage}
 use Rattle.rh_server.specs.declared.state.Stage.TheVariants as stage
-use Rattle.rh_server.specs.declared.state.Tells.{Tells}
 use Rattle.rh_server.specs.declared.state.Tells.TheVariants as tells
 use Rattle.rh_server.specs.declared.out_line.Kind.TheVariants as kinds
-use Rattle.rh_server.specs.OutLines.{waits}
-use Rattle.rh_server.specs.States.{Server, is_due, is_fresh, is_open, is_shut, is_waiting, same_cookie, stays, in_leg, out_place, with_in, without_in, without_out}
-use Rattle.rh_server.specs.Opening.{Done, took, refuse, unexpected, is_first, first_in, opens, with_first_in, with_first_out, may_up_by, up, up_by, conn_a2_at, on_conn_a2, conn_b2_at, on_conn_b2}
-use Rattle.rh_server.specs.Acknowledging.{channel_at}
-use Rattle.rh_server.specs.InReplacement.{announced, has_fresh_below, hands_over, in_r1_a2_at, in_r1_a2_by, in_r2_a2_on, leaves_by, moved_if, on_in_r1_a2, on_in_r1_a6, on_in_r2_a2, take}
-use Rattle.rh_server.specs.OutReplacement.{asks, is_under_way, last_number, recycle, wishes}
-use Rattle.rh_server.specs.Ending.{completed, drawn_by, end_a2_at, end_a2_on_leg, end_a2_waiting, give, in_is_drawn, is_complete, is_over_on, lost_in, mark_by, on_end_a2, settled, with_ack_dropped}
-use Rattle.rh_server.specs.Putting.{Pick, ack_due, next_out, or_else, out_greeting_at, put_ack, put_ack_by, put_b1, put_b1_by, put_in_by, put_in_greeting, put_open, put_out_at, put_out_greeting, put_tells, put_tells_by, settled_pick, was_current, put_by as put_by_kind}
-use Rattle.rh_server.specs.Servers.{acts, on_is, on_os, packet_by}
-use Rattle.rh_server.specs.Servers.{rules as server_rules}
-use Rattle.law_moves.specs.Passages.Passing.{count_of, of_kind}
-use Rattle.law_moves.proofs.Passages.Messages.{count_append, kind_more}
-use Rattle.law_moves.proofs.Passages.Logs.{RowKeeps}
-use Rattle.law_moves.specs.Moves.{Move, Up, HeadCame, PduCame, PacketCame, Puts, IsDrawn, Marks, Pings, Passage, EndMove, Moves, Gives, Takes, Closes, Recycles, EndPassage, AreAllowedAtEnd, OnLeg, moved, taken_by, put_by, end_moved, end_now_at, given_by, with_first, all_end_moved}
-use Rattle.law_role_server.specs.Counted.Answering.{AreAnswered, how_many, waits_on}
-use Rattle.law_role_server.specs.Counted.Counting.{is_conn_b2, is_in_r1_a2, is_in_r1_a3, is_in_r1_a6, in_came, leg_at, often, waiting_of}
-use Rattle.law_role_server_in.proofs.Kept.{Look, is_begun, look}
-use Rattle.law_role_server_in.proofs.Takes.{Holds as Knows}
-use Rattle.law_role_server_in.proofs.Takes.{ack_to_same, look_at, out_look, pdu_same}
+use Rattle.law_moves.proofs.Vocabulary.{Ack, by_test, same_number, Cookie, Named, Line, after_finish, after_tell, Leg, LegKind, ClientOut, OutServer, ClientIn, InServer, Which, Current, Next, Count, GiveRefused, RecycleRefused, Message, Pdu, Packet, Row, Waiting, own, count_of, of_kind, Move, Up, HeadCame, PduCame, PacketCame, Puts, IsDrawn, Marks, Pings, Passage, EndMove, Moves, Gives, Takes, Closes, Recycles, EndPassage, AreAllowedAtEnd, OnLeg, moved, taken_by, put_by}
+use Rattle.law_moves.proofs.Vocabulary.{end_moved, end_now_at, given_by, with_first, all_end_moved}
+use Rattle.law_moves.proofs.Lemmas.{count_append, kind_more, RowKeeps}
+use Rattle.law_role_server.proofs.Vocabulary.{Told, InLeg, InStage, Leaving, OutLeg, Stage, Tells, waits, Server, is_due, is_fresh, is_open, is_shut, is_waiting, same_cookie, stays, in_leg, out_place, with_in, without_in, without_out, Done, took, refuse, unexpected, is_first, first_in, opens, with_first_in, with_first_out, may_up_by, up, up_by, conn_a2_at, on_conn_a2, conn_b2_at, on_conn_b2, channel_at, announced, has_fresh_below, hands_over, in_r1_a2_at, in_r1_a2_by}
+use Rattle.law_role_server.proofs.Vocabulary.{in_r2_a2_on, leaves_by, moved_if, on_in_r1_a2, on_in_r1_a6, on_in_r2_a2, take, asks, is_under_way, last_number, recycle, wishes, completed, drawn_by, end_a2_at, end_a2_on_leg, end_a2_waiting, give, in_is_drawn, is_complete, is_over_on, lost_in, mark_by, on_end_a2, settled, with_ack_dropped, Pick, ack_due, next_out, or_else, out_greeting_at, put_ack, put_ack_by, put_b1, put_b1_by, put_in_by, put_in_greeting, put_open, put_out_at}
+use Rattle.law_role_server.proofs.Vocabulary.{put_out_greeting, put_tells, put_tells_by, settled_pick, was_current, put_by as put_by_kind, acts, on_is, on_os, packet_by, rules as server_rules, AreAnswered, how_many, waits_on, is_conn_b2, is_in_r1_a2, is_in_r1_a3, is_in_r1_a6, in_came, leg_at, often, waiting_of}
+use Rattle.law_role_server.proofs.TakesKept.{has_begun as is_begun}
+use Rattle.law_role_server_rows.proofs.InTurn.InPuts.{open_begun}
+use Rattle.law_role_server_in.proofs.Kept.{Look, look}
+use Rattle.law_role_server_in.proofs.Takes.{Holds as Knows, ack_to_same, look_at, out_look, pdu_same}
 use Rattle.law_role_server_in.proofs.Tallies.{none_here, often_more, once_more, other_here}
-use Rattle.law_role_server_in.proofs.Puts.{Alone, open_begun, or_alone, out_alone, settled_same}
+use Rattle.law_role_server_in.proofs.Puts.{Alone, or_alone, out_alone, settled_same}
 use Rattle.law_role_server_in.proofs.Steps.{AllHold, end_move_keeps}
 use Rattle.law_role_server_in.proofs.Standing.{Closed, Says, Stand, answered, firsts, lefts, next_fine, settles, stand, take_fine, waits_more, with_answers}
 

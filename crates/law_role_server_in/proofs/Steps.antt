@@ -1,35 +1,14 @@
 -- a server's allowed moves keep what it knows of its is legs
-use Rattle.std.proofs.Common.{◌≡◌, ℕ, ◌+◌, ◌==◌, ◌&&◌, Bool, true, false, not, List, [], ◌∷◌, Some, None, Ok, Err, refl, rules, sym, ap, ◌∙◌, subst}
-use Rattle.std.proofs.lemmas.Bool.{and_parts, false≢true, true≢false}
-use Rattle.std.specs.Prelude.{IfSome, IsTrue}
-use Rattle.std.specs.declared.option.Option.{Option}
-use Rattle.std.specs.declared.result.Result.{Result}
-use Rattle.law_order.proofs.ByNumber.{by_test, same_number}
-use Rattle.rh_rts.specs.declared.command.Cookie.{Cookie}
-use Rattle.rh_line.specs.declared.leg.Leg.{Leg}
-use Rattle.rh_line.specs.declared.leg.LegKind.{LegKind}
-use Rattle.rh_line.specs.declared.leg.LegKind.TheVariants.{ClientOut, OutServer, ClientIn, InServer}
-use Rattle.rh_shell.specs.declared.end_role.GiveRefused.{GiveRefused}
-use Rattle.rh_shell.specs.Rules.{Message, Pdu, Packet, Row}
-use Rattle.rh_server.specs.declared.state.InLeg.{InLeg}
-use Rattle.rh_server.specs.declared.state.InStage.{InStage}
+use Rattle.law_order.proofs.Vocabulary.{◌≡◌, ℕ, ◌+◌, ◌==◌, ◌&&◌, Bool, true, false, not, List, [], ◌∷◌, Some, None, Ok, Err, refl, rules, sym, ap, ◌∙◌, subst, and_parts, false≢true, true≢false, IfSome, IsTrue, Option, Result}
 use Rattle.rh_server.specs.declared.state.InStage.TheVariants as in_stage
-use Rattle.rh_server.specs.declared.state.Leaving.{Leaving}
 use Rattle.rh_server.specs.declared.state.Leaving.TheVariants as leaving
-use Rattle.rh_server.specs.States.{Server, has_left, is_waiting, stays, in_leg, in_place, with_in, without_in, without_out}
-use Rattle.rh_server.specs.Opening.{has_room, may_up_by, up, up_by}
-use Rattle.rh_server.specs.InReplacement.{take}
-use Rattle.rh_server.specs.OutReplacement.{recycle}
-use Rattle.rh_server.specs.Ending.{give, in_is_done, settled, in_is_drawn, drawn_by, lost_in, mark_by, with_ack_dropped}
-use Rattle.rh_server.specs.Putting.{Pick}
-use Rattle.rh_server.specs.Servers.{acts, first}
-use Rattle.rh_server.specs.Servers.{rules as server_rules}
-use Rattle.law_moves.proofs.Passages.Logs.{RowKeeps, PutKeeps}
-use Rattle.law_moves.specs.Moves.{Move, Up, HeadCame, PduCame, PacketCame, Puts, IsDrawn, Marks, Pings, MayMove, Passage, EndMove, Moves, Gives, Takes, Closes, Recycles, EndPassage, MayEndMove, AreAllowedAtEnd, is_at_work, is_in_use, moved, taken_by, put_by, end_moved, end_now_at, end_started, given_by, with_first, all_end_moved}
-use Rattle.law_role_server.specs.Counted.Counting.{leg_at}
-use Rattle.law_role_server_in.proofs.Places.{Found, found_at}
+use Rattle.law_moves.proofs.Vocabulary.{by_test, same_number, Cookie, Leg, LegKind, ClientOut, OutServer, ClientIn, InServer, GiveRefused, Message, Pdu, Packet, Row, Move, Up, HeadCame, PduCame, PacketCame, Puts, IsDrawn, Marks, Pings, MayMove, Passage, EndMove, Moves, Gives, Takes, Closes, Recycles, EndPassage, MayEndMove, AreAllowedAtEnd, is_at_work, is_in_use, moved, taken_by, put_by, end_moved, end_now_at, end_started, given_by, with_first, all_end_moved}
+use Rattle.law_moves.proofs.Lemmas.{RowKeeps, PutKeeps}
+use Rattle.law_role_server.proofs.Vocabulary.{InLeg, InStage, Leaving, Server, has_left, is_waiting, stays, in_leg, in_place, with_in, without_in, without_out, has_room, may_up_by, up, up_by, take, recycle, give, in_is_done, settled, in_is_drawn, drawn_by, lost_in, mark_by, with_ack_dropped, Pick, acts, first, rules as server_rules, leg_at}
+use Rattle.law_role_server_rows.proofs.InTurn.InPlaces.{Found, found_at}
+use Rattle.law_role_server_rows.proofs.InTurn.InKept.{is_opened}
 use Rattle.law_role_server_in.proofs.Tallies.{Tally, tally}
-use Rattle.law_role_server_in.proofs.Kept.{So, gone_kept, is_opened, kept_start, look, top_of, up_kept}
+use Rattle.law_role_server_in.proofs.Kept.{So, gone_kept, kept_start, look, top_of, up_kept}
 use Rattle.law_role_server_in.proofs.Rows.{Fine, leg_same, same_fine, take_fine}
 use Rattle.law_role_server_in.proofs.Takes.{Holds, IsKept, packet_row, pdu_row}
 use Rattle.law_role_server_in.proofs.Puts.{puts, settled_fine}

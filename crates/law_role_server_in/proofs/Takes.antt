@@ -1,51 +1,28 @@
 -- what a server takes keeps what it knows of its is legs
-use Rattle.std.proofs.Common.{◌≡◌, ℕ, ◌+◌, ◌≤◌, ◌<◌, ◌==◌, nat_lt, ◌&&◌, cond, Bool, true, false, true≢false, not, if◌then◌else◌, List, [], ◌∷◌, ◌++◌, is_ok, Some, None, Ok, Err, arith, refl, rules, sym, ap, ◌∙◌, subst}
-use Rattle.std.proofs.lemmas.Bool.{false≢true, and_parts, not-false}
-use Rattle.std.proofs.lemmas.Bool.Decides.{nat_tests}
-use Rattle.std.specs.Prelude.{IfSome}
-use Rattle.std.specs.declared.option.Option.{Option}
-use Rattle.std.specs.declared.result.Result.{Result}
-use Rattle.law_order.proofs.ByNumber.{by_test, other_number, same_number, test_same}
-use Rattle.rh_rts.specs.declared.command.Cookie.{Cookie}
-use Rattle.rh_sig.specs.declared.named.Named.{Named}
+use Rattle.law_order.proofs.Vocabulary.{◌≡◌, ℕ, ◌+◌, ◌≤◌, ◌<◌, ◌==◌, nat_lt, ◌&&◌, cond, Bool, true, false, true≢false, not, if◌then◌else◌, List, [], ◌∷◌, ◌++◌, is_ok, Some, None, Ok, Err, arith, refl, rules, sym, ap, ◌∙◌, subst, false≢true, and_parts, not-false, nat_tests, IfSome, Option, Result}
 use Rattle.rh_sig.specs.declared.named.Named.TheVariants as named
-use Rattle.rh_line.specs.Lines.{Incoming, admit_verdict, admitted, after_end, after_finish, channel_verdict}
-use Rattle.rh_line.specs.declared.leg.Leg.{Leg}
-use Rattle.rh_line.specs.declared.leg.LegKind.{LegKind}
-use Rattle.rh_line.specs.declared.leg.LegKind.TheVariants.{ClientOut, OutServer, ClientIn, InServer}
-use Rattle.rh_line.specs.declared.line_fault.LineFault.{LineFault}
 use Rattle.rh_line.specs.declared.line_fault.LineFault.TheVariants as line_fault
-use Rattle.rh_line.specs.declared.which.Which.{Which}
-use Rattle.rh_line.specs.declared.which.Which.TheVariants.{Current, Next}
-use Rattle.rh_shell.specs.declared.answers.Count.{Count}
 use Rattle.rh_shell.specs.declared.answers.Refused.TheVariants as refused
-use Rattle.rh_shell.specs.Rules.{Message, Pdu, Packet}
-use Rattle.rh_shell.specs.Waiting.{Waiting, forwarded, takes}
-use Rattle.rh_server.specs.declared.state.InLeg.{InLeg}
-use Rattle.rh_server.specs.declared.state.InStage.{InStage}
-use Rattle.rh_server.specs.declared.state.InStage.TheVariants as in_stage
 use Rattle.rh_server.specs.declared.state.Newest.{Newest}
+use Rattle.rh_server.specs.Servers.{pdu_by}
+use Rattle.rh_server.specs.declared.state.InStage.TheVariants as in_stage
 use Rattle.rh_server.specs.declared.state.Leaving.TheVariants as leaving
-use Rattle.rh_server.specs.declared.state.Stage.{Stage}
 use Rattle.rh_server.specs.declared.state.Stage.TheVariants as stage
 use Rattle.rh_server.specs.declared.out_line.Kind.TheVariants as kinds
-use Rattle.rh_server.specs.OutLines.{has, waits}
-use Rattle.rh_server.specs.States.{Server, is_fresh, is_open, is_waiting, same_cookie, in_leg, in_place}
-use Rattle.rh_server.specs.Opening.{Done, took, refuse, unexpected, is_first, opens, with_first_in, first_in, with_first_out, conn_a2_at, on_conn_a2, conn_b2_at, on_conn_b2}
-use Rattle.rh_server.specs.Acknowledging.{admitted_by, admitted_on, channel_at, channel_leg, forward_by, forwards, forwards_to, forwards_writing, is_full, on_ack_to, out_server}
-use Rattle.rh_server.specs.InReplacement.{announced, has_fresh_below, newest_by, in_r1_a2_by, in_r1_a2_at, on_in_r1_a2, leaves_by, leaves, hands_over, moved_if, on_in_r1_a6, in_r2_a2_on, on_in_r2_a2}
-use Rattle.rh_server.specs.Ending.{end_a2_on_leg, end_a2_waiting, is_over_on, end_a2_at, on_end_a2}
-use Rattle.rh_server.specs.Servers.{on_is, on_os, packet_by, pdu_by}
-use Rattle.law_moves.specs.Passages.Passing.{count_of}
-use Rattle.law_moves.proofs.Passages.Logs.{RowKeeps}
-use Rattle.law_moves.specs.Moves.{OnLeg}
-use Rattle.law_role_server.specs.Counted.Counting.{is_conn_b2, is_end_a2, is_in_r1_a2, is_in_r1_a6, leg_at, often_at}
+use Rattle.law_moves.proofs.Vocabulary.{by_test, other_number, same_number, test_same, Cookie, Named, Incoming, admit_verdict, admitted, after_end, after_finish, channel_verdict, Leg, LegKind, ClientOut, OutServer, ClientIn, InServer, LineFault, Which, Current, Next, Count, Message, Pdu, Packet, Waiting, forwarded, takes, count_of, OnLeg}
+use Rattle.law_moves.proofs.Lemmas.{RowKeeps}
+use Rattle.law_role_server.proofs.Vocabulary.{InLeg, InStage, Stage, has, waits, Server, is_fresh, is_open, is_waiting, same_cookie, in_leg, in_place, Done, took, refuse, unexpected, is_first, opens, with_first_in, first_in, with_first_out, conn_a2_at, on_conn_a2, conn_b2_at, on_conn_b2, admitted_by, admitted_on, channel_at, channel_leg, forward_by, forwards, forwards_to, forwards_writing, is_full, on_ack_to, out_server, announced, has_fresh_below, newest_by, in_r1_a2_by}
+use Rattle.law_role_server.proofs.Vocabulary.{in_r1_a2_at, on_in_r1_a2, leaves_by, leaves, hands_over, moved_if, on_in_r1_a6, in_r2_a2_on, on_in_r2_a2, end_a2_on_leg, end_a2_waiting, is_over_on, end_a2_at, on_end_a2, on_is, on_os, packet_by, is_conn_b2, is_end_a2, is_in_r1_a2, is_in_r1_a6, leg_at, often_at}
 use Rattle.law_role_server.proofs.Numbered.{absent_at}
-use Rattle.law_role_server_in.specs.Refusing.{named_by, successor_by}
-use Rattle.law_role_server_in.proofs.Places.{Found, found_at, number_found}
+use Rattle.law_role_server.proofs.TakesRows.{on_next}
+use Rattle.law_role_server.proofs.TakesKept.{has_begun as is_begun}
+use Rattle.law_role_server_rows.proofs.InTurn.InPlaces.{Found, found_at}
+use Rattle.law_role_server_rows.proofs.Putting.Each.{number_found}
+use Rattle.law_role_server_rows.proofs.InTurn.InKept.{is_opened, number_of}
 use Rattle.law_role_server_in.proofs.Tallies.{Grows, Still, Tally, began, carried_came, carried_names, carried_other, named_at, named_own, now_often, other_came, quiet_came, tally}
-use Rattle.law_role_server_in.proofs.Kept.{Kept, Look, Top, is_begun, is_opened, kept_more, leg_at_place, look, newer_kept, number_of, renamed_kept, set_kept, so_top, top_kept, top_of}
+use Rattle.law_role_server_in.proofs.Kept.{Kept, Look, Top, kept_more, leg_at_place, look, newer_kept, renamed_kept, set_kept, so_top, top_kept, top_of}
 use Rattle.law_role_server_in.proofs.Rows.{Fine, announces, first_fine, leg_same, same_fine, settles}
+use Rattle.law_role_server_in.specs.Refusing.{named_by, successor_by}
 
 -- ---- which channel it is
 
@@ -60,27 +37,10 @@ at_current false f true true e = absurd (cc)
 at_current false f true false e = absurd (cc)
 at_current false f false b e = absurd (cc)
 
-at_next : (a f h b : Bool)
-    → (cond (a && not f) (Some Current) (cond (h && b) (Some Next) None)) ≡ Some Next
-    → (h ≡ true) × (b ≡ true)
-at_next true false h b e = absurd (cc)
-at_next true true true true e = (refl, refl)
-at_next true true true false e = absurd (cc)
-at_next true true false b e = absurd (cc)
-at_next false f true true e = (refl, refl)
-at_next false f true false e = absurd (cc)
-at_next false f false b e = absurd (cc)
-
 pub on_current : (s : Server) (m : ℕ) → channel_at s m ≡ Some Current → m ≡ s.current.leg
 on_current s m e =
     same_number m s.current.leg
     (at_current (m == s.current.leg) s.line.finished s.line.has_next (m == s.next.leg) e)
-
-pub on_next : (s : Server) (m : ℕ) → channel_at s m ≡ Some Next
-    → (s.line.has_next ≡ true) × (m ≡ s.next.leg)
-on_next s m e =
-    let t = at_next (m == s.current.leg) s.line.finished s.line.has_next (m == s.next.leg) e in
-    (t.0, same_number m s.next.leg t.1)
 
 -- ---- rows that leave it alone
 

@@ -1,19 +1,8 @@
 -- what came on an is leg and was put there, by counts
-use Rattle.std.proofs.Common.{◌≡◌, ℕ, suc, ◌+◌, ◌≤◌, Bool, true, false, if◌then◌else◌, List, [], ◌∷◌, ◌++◌, Some, None, arith, refl, sym, ap, ◌∙◌, subst}
-use Rattle.std.specs.declared.option.Option.{Option}
-use Rattle.law_order.proofs.ByNumber.{test_same, test_other}
-use Rattle.rh_rts.specs.declared.command.Cookie.{Cookie}
-use Rattle.rh_sig.specs.declared.named.Named.{Named}
-use Rattle.rh_sig.specs.declared.named.Named.TheVariants.{InR2A2}
-use Rattle.rh_line.specs.declared.leg.Leg.{Leg}
-use Rattle.rh_line.specs.declared.leg.LegKind.TheVariants.{InServer}
-use Rattle.rh_shell.specs.Rules.{Message, Text, Pdu, Packet}
-use Rattle.rh_shell.specs.Shells.{same_leg}
-use Rattle.law_moves.specs.Passages.Passing.{count_of}
-use Rattle.law_moves.proofs.Passages.Messages.{count_append, leg_more}
-use Rattle.law_moves.specs.Moves.{OnLeg}
-use Rattle.law_moves.specs.Wires.{of_leg}
-use Rattle.law_role_server.specs.Counted.Counting.{is_conn_b2, is_conn_b3, is_end_a2, is_in_r1_a2, is_in_r1_a6, leg_at, often_at}
+use Rattle.law_order.proofs.Vocabulary.{◌≡◌, ℕ, suc, ◌+◌, ◌≤◌, Bool, true, false, if◌then◌else◌, List, [], ◌∷◌, ◌++◌, Some, None, arith, refl, sym, ap, ◌∙◌, subst, Option}
+use Rattle.law_moves.proofs.Vocabulary.{test_same, test_other, Cookie, Named, InR2A2, Leg, InServer, Message, Text, Pdu, Packet, same_leg, count_of, OnLeg, of_leg}
+use Rattle.law_moves.proofs.Lemmas.{count_append, leg_more}
+use Rattle.law_role_server.proofs.Vocabulary.{is_conn_b2, is_conn_b3, is_end_a2, is_in_r1_a2, is_in_r1_a6, leg_at, often_at}
 use Rattle.law_role_server_in.specs.Refusing.{is_in_r1_b2, last_of, named_by, successor_by}
 
 -- CONN/B2 and IN_R1/A2 that came there, IN_R1/A2 alone, IN_R1/A6, END/A2; and CONN/B3 and IN_R1/B2

@@ -1,60 +1,17 @@
 -- what the tests of a row tell, and what waits
-use Rattle.std.proofs.Common.{◌≡◌, ◌⊎◌, inl, inr, ℕ, zero, suc, ◌+◌, ◌<◌, ◌≤◌, ◌&&◌, ◌||◌, cond, nat_lt, Bool, true, false, true≢false, not, if◌then◌else◌, List, [], ◌∷◌, Some, None, Ok, Err, arith, refl, ap, ◌∙◌}
-use Rattle.std.proofs.lemmas.Bool.{false≢true, and_parts}
-use Rattle.std.proofs.lemmas.Bool.Decides.{nat_tests}
-use Rattle.std.specs.Prelude.{find, slice_get}
-use Rattle.std.specs.declared.option.Option.{Option}
-use Rattle.std.specs.declared.result.Result.{Result}
-use Rattle.rh_window.specs.declared.fault.WindowExceeded.{WindowExceeded}
-use Rattle.rh_sig.specs.declared.named.Named.{Named}
+use Rattle.law_order.proofs.Vocabulary.{◌≡◌, ℕ, zero, suc, ◌+◌, ◌<◌, ◌≤◌, ◌&&◌, ◌||◌, cond, nat_lt, Bool, true, false, true≢false, not, if◌then◌else◌, List, [], ◌∷◌, Some, None, Ok, Err, arith, refl, ap, ◌∙◌, false≢true, and_parts, nat_tests, find, slice_get, Option, Result}
 use Rattle.rh_sig.specs.declared.named.Named.TheVariants as named
-use Rattle.rh_line.specs.Lines.{by_window}
 use Rattle.rh_line.specs.declared.line_fault.LineFault.TheVariants as line_fault
-use Rattle.rh_line.specs.declared.which.Which.{Which}
-use Rattle.rh_line.specs.declared.which.Which.TheVariants.{Current, Next}
-use Rattle.rh_shell.specs.declared.answers.Count.{Count}
-use Rattle.rh_shell.specs.declared.answers.Count.TheVariants as counts
-use Rattle.rh_shell.specs.declared.answers.Phase.TheVariants as phase
-use Rattle.rh_shell.specs.declared.due.Due.{Due}
-use Rattle.rh_shell.specs.declared.due.Origin.TheVariants.{Own}
-use Rattle.rh_shell.specs.NearEnds.{is_ended}
 use Rattle.rh_shell.specs.Waiting.{is_of}
-use Rattle.rh_shell.specs.Rules.{Message, Text, Pdu, Packet}
-use Rattle.rh_server.specs.declared.out_line.Kind.{Kind}
+use Rattle.rh_shell.specs.declared.answers.Phase.TheVariants as phase
 use Rattle.rh_server.specs.declared.out_line.Kind.TheVariants as kind
-use Rattle.rh_server.specs.declared.state.InLeg.{InLeg}
-use Rattle.rh_server.specs.declared.state.Stage.{Stage}
 use Rattle.rh_server.specs.declared.state.Stage.TheVariants as stage
-use Rattle.rh_server.specs.OutLines.{is_kind, is_own}
-use Rattle.rh_server.specs.States.{is_fresh, is_open, is_some, is_waiting, phase_of}
-use Rattle.rh_server.specs.Opening.{is_first}
-use Rattle.rh_server.specs.InReplacement.{is_fresh_below, has_fresh_below}
-use Rattle.law_moves.specs.Passages.Counted.{packets, Tells}
-use Rattle.law_moves.specs.Passages.Passing.{count_of}
-use Rattle.law_role_server.specs.Counted.Answering.{how_many, waits_on}
-use Rattle.law_role_server.specs.Counted.Counting.{is_conn_b2, is_in_r1_a2, is_in_r1_a3, is_in_r2_a3, waiting_of}
-use Rattle.law_role_server_in.proofs.Places.{Found}
-
-pub one_fails : (a b : Bool) → a && b ≡ false → (a ≡ false) ⊎ (b ≡ false)
-one_fails false b e = inl refl
-one_fails true b e = inr e
-
-pub not_false : (a : Bool) → not a ≡ false → a ≡ true
-not_false true e = refl
-not_false false e = absurd (true≢false e)
+use Rattle.law_moves.proofs.Vocabulary.{WindowExceeded, Named, by_window, Which, Current, Next, Due, Own, is_ended, Message, Text, Pdu, Packet, packets, count_of}
+use Rattle.law_role_server.proofs.Vocabulary.{Kind, InLeg, Stage, is_kind, is_own, is_fresh, is_open, is_some, is_waiting, phase_of, is_fresh_below, has_fresh_below, how_many, waits_on, is_conn_b2, is_in_r1_a2, is_in_r1_a3, is_in_r2_a3, waiting_of}
+use Rattle.law_role_server_rows.proofs.InTurn.InPlaces.{Found}
 
 pub at_least : (a b : ℕ) → nat_lt a b ≡ false → b ≤ a
 at_least a b e = grind (arith, nat_tests, e)
-
-pub first_count : (count : Count) (n : ℕ) → Tells count n → is_first count ≡ true → n ≡ 0
-first_count counts.Zero n tells e = tells
-first_count counts.One n tells e = absurd (false≢true e)
-first_count counts.More n tells e = absurd (false≢true e)
-
-pub later_count : (count : Count) (n : ℕ) → Tells count n → is_first count ≡ false → 1 ≤ n
-later_count counts.Zero n tells e = absurd (cc)
-later_count counts.One n tells e = omega (arith, tells)
-later_count counts.More n tells e = omega (arith, tells)
 
 -- the work is not done, and the server isn't open
 pub still_opening : (x : Stage) → not (is_ended (phase_of x)) ≡ true → is_open x ≡ false

@@ -1,17 +1,8 @@
 -- what comes on each is leg, and what comes on all of them
-use Rattle.std.proofs.Common.{◌≡◌, ℕ, zero, suc, ◌+◌, ◌≤◌, ◌<◌, ◌==◌, nat_lt, Bool, true, false, if◌then◌else◌, List, [], ◌∷◌, arith, refl, sym, ap, ◌∙◌, subst}
-use Rattle.std.proofs.lemmas.Bool.Decides.{nat_tests}
-use Rattle.law_order.proofs.ByNumber.{other_number, same_number, test_other, test_same}
-use Rattle.rh_sig.specs.declared.named.Named.{Named}
-use Rattle.rh_line.specs.declared.leg.LegKind.{LegKind}
-use Rattle.rh_line.specs.declared.leg.LegKind.TheVariants.{ClientOut, OutServer, ClientIn, InServer}
-use Rattle.rh_shell.specs.Rules.{Message}
-use Rattle.law_moves.specs.Chains.Sums.{sum_below}
-use Rattle.law_moves.specs.Passages.Passing.{count_of, of_kind}
-use Rattle.law_moves.proofs.Passages.Messages.{count_append}
-use Rattle.law_moves.specs.Moves.{OnLeg}
-use Rattle.law_moves.specs.Wires.{of_leg}
-use Rattle.law_role_server.specs.Counted.Counting.{leg_at, often, often_at}
+use Rattle.law_order.proofs.Vocabulary.{◌≡◌, ℕ, zero, suc, ◌+◌, ◌≤◌, ◌<◌, ◌==◌, nat_lt, Bool, true, false, if◌then◌else◌, List, [], ◌∷◌, arith, refl, sym, ap, ◌∙◌, subst, nat_tests}
+use Rattle.law_moves.proofs.Vocabulary.{other_number, same_number, test_other, test_same, Named, LegKind, ClientOut, OutServer, ClientIn, InServer, Message, sum_below, count_of, of_kind, OnLeg, of_leg}
+use Rattle.law_moves.proofs.Lemmas.{count_append, zeros as sum_none}
+use Rattle.law_role_server.proofs.Vocabulary.{leg_at, often, often_at}
 
 -- ---- sums
 
@@ -41,10 +32,6 @@ sum_more f g j more here other (suc n) less =
         let apart = other_number j n e in
         let before = rest (omega (arith, apart, less)) in
         let now = other n (λ same. apart (sym same)) in omega (arith, now, before)
-
-pub sum_none : (n : ℕ) → sum_below (λ k. 0) n ≡ 0
-sum_none zero = refl
-sum_none (suc n) = let rest = sum_none n in omega (arith, rest)
 
 -- ---- logs
 

@@ -1,44 +1,24 @@
 -- why a server refuses what comes on an is leg
-use Rattle.std.proofs.Common.{◌≡◌, ◌⊎◌, inl, inr, ℕ, ◌≤◌, ◌==◌, ◌&&◌, nat_lt, Bool, true, false, not, List, Some, None, Ok, Err, arith, refl, sym, ap, ◌∙◌, subst}
-use Rattle.std.proofs.lemmas.Bool.{false≢true}
-use Rattle.std.specs.Prelude.{IfSome, IsTrue}
-use Rattle.std.specs.declared.option.Option.{Option}
-use Rattle.std.specs.declared.result.Result.{Result}
-use Rattle.law_order.proofs.ByNumber.{by_test, test_same}
-use Rattle.rh_rts.specs.declared.command.Cookie.{Cookie}
-use Rattle.rh_line.specs.Lines.{admit_verdict}
-use Rattle.rh_line.specs.declared.line_fault.LineFault.{LineFault}
+use Rattle.law_order.proofs.Vocabulary.{◌≡◌, ◌⊎◌, inl, inr, ℕ, ◌≤◌, ◌==◌, ◌&&◌, nat_lt, Bool, true, false, not, List, Some, None, Ok, Err, arith, refl, sym, ap, ◌∙◌, subst, false≢true, IfSome, IsTrue, Option, Result}
 use Rattle.rh_line.specs.declared.line_fault.LineFault.TheVariants as line_fault
-use Rattle.rh_line.specs.declared.which.Which.{Which}
-use Rattle.rh_line.specs.declared.which.Which.TheVariants.{Current, Next}
-use Rattle.rh_line.specs.declared.leg.LegKind.TheVariants.{InServer}
-use Rattle.rh_shell.specs.declared.answers.Count.{Count}
 use Rattle.rh_shell.specs.declared.answers.Refused.TheVariants as refused
-use Rattle.rh_server.specs.declared.state.InLeg.{InLeg}
-use Rattle.rh_server.specs.declared.state.InStage.{InStage}
 use Rattle.rh_server.specs.declared.state.InStage.TheVariants as in_stage
 use Rattle.rh_server.specs.declared.out_line.Kind.TheVariants as kind
-use Rattle.rh_server.specs.declared.state.Stage.{Stage}
 use Rattle.rh_server.specs.declared.state.Stage.TheVariants as stage
-use Rattle.rh_server.specs.OutLines.{waits}
-use Rattle.rh_server.specs.States.{Server, is_fresh, is_open, is_some, is_waiting, same_cookie, in_at, in_leg, in_place}
-use Rattle.rh_server.specs.Opening.{Done, unexpected, is_first}
-use Rattle.rh_server.specs.Acknowledging.{admitted_by, admitted_on, channel_at, on_pdu}
-use Rattle.rh_server.specs.InReplacement.{has_fresh_below, in_r1_a2_by, in_r1_a2_at, on_in_r1_a2, in_r2_a2_on, on_in_r2_a2}
-use Rattle.rh_server.specs.Ending.{end_a2_at, end_a2_on_leg, end_a2_waiting, is_over_on, on_end_a2, waits_ended}
-use Rattle.law_moves.specs.Moves.{Passage}
-use Rattle.law_moves.specs.Wires.{of_leg}
-use Rattle.law_moves.specs.Passages.Counted.{Tells}
-use Rattle.law_role_server.specs.Counted.Answering.{AreAnswered}
-use Rattle.law_role_server.specs.Counted.Opening.{OpensOnce}
-use Rattle.law_role_server.specs.Counted.Counting.{is_end_a2, is_in_r1_a6, leg_at}
-use Rattle.law_role_server_in.specs.Refusing.{IsFreshBelow, IsShut, IsUnopened, IsUsed, IsOpening, UnexpectedEndA2, UnexpectedInR1A2, UnexpectedInR2A2, UnexpectedPdu, came_at, came_on}
-use Rattle.law_role_server_in.proofs.Places.{Found, Placed, found_at, number_found, placed}
+use Rattle.law_moves.proofs.Vocabulary.{by_test, test_same, Cookie, admit_verdict, LineFault, Which, Current, Next, InServer, Count, Passage, of_leg, Tells}
+use Rattle.law_role_server.proofs.Vocabulary.{InLeg, InStage, Stage, waits, Server, is_fresh, is_open, is_some, is_waiting, same_cookie, in_at, in_leg, in_place, Done, unexpected, is_first, admitted_by, admitted_on, channel_at, on_pdu, has_fresh_below, in_r1_a2_by, in_r1_a2_at, on_in_r1_a2, in_r2_a2_on, on_in_r2_a2, end_a2_at, end_a2_on_leg, end_a2_waiting, is_over_on, on_end_a2, waits_ended, AreAnswered, OpensOnce, is_end_a2, is_in_r1_a6, leg_at}
+use Rattle.law_role_server.proofs.TakesRows.{on_next}
+use Rattle.law_role_server.proofs.Takes.{not_false}
+use Rattle.law_role_server_rows.proofs.InTurn.InPlaces.{Found, Placed, found_at, placed}
+use Rattle.law_role_server_rows.proofs.Putting.Each.{number_found}
+use Rattle.law_role_server_rows.proofs.InTurn.InKept.{is_opened}
+use Rattle.law_role_server_rows.proofs.Refusing.Tests.{first_count, later_count, one_fails}
 use Rattle.law_role_server_in.proofs.Tallies.{Tally, tally}
-use Rattle.law_role_server_in.proofs.Kept.{IsOpen, So, is_opened, leg_at_place, top_of}
-use Rattle.law_role_server_in.proofs.Takes.{Holds, IsKept, on_current, on_next}
+use Rattle.law_role_server_in.proofs.Kept.{IsOpen, So, leg_at_place, top_of}
+use Rattle.law_role_server_in.proofs.Takes.{Holds, IsKept, on_current}
 use Rattle.law_role_server_in.proofs.Steps.{in_use}
-use Rattle.law_role_server_in.proofs.Tests.{FreshLeg, at_least, first_among, first_count, fresh_leg, later_count, in_r2_a3_waits, is_over, none_current, none_next, not_false, one_fails, some_waits, still_opening}
+use Rattle.law_role_server_in.proofs.Tests.{FreshLeg, at_least, first_among, fresh_leg, in_r2_a3_waits, is_over, none_current, none_next, some_waits, still_opening}
+use Rattle.law_role_server_in.specs.Refusing.{IsFreshBelow, IsShut, IsUnopened, IsUsed, IsOpening, UnexpectedEndA2, UnexpectedInR1A2, UnexpectedInR2A2, UnexpectedPdu, came_at, came_on}
 
 abbrev pub IsUnexpected : Done → Type 0
 IsUnexpected d = d.1 ≡ Err refused.Unexpected

@@ -1,17 +1,14 @@
 pub mod Splits
 pub mod OnTurn
-mod Found
 pub mod Reaching
 pub mod Owned
 pub mod Room
-pub mod FirstLegs
-pub mod Opening
 mod InView
-mod Quiet
+pub mod Quiet
 mod InLogs
-mod InPlaces
-mod InKept
-mod InRows
+pub mod InPlaces
+pub mod InKept
+pub mod InRows
 mod InTakes
-mod InPuts
+pub mod InPuts
 pub mod InMoves

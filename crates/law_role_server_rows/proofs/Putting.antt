@@ -7,4 +7,3 @@ pub mod CopiedPuts
 mod Greets
 mod GreetsOut
 pub mod GreetsIn
-pub mod OnFirst

@@ -1,4 +1,3 @@
 pub mod Puts
 pub mod Copying
 pub mod Greeting
-pub mod First

@@ -5,10 +5,8 @@ pub mod acks;
 pub mod channels;
 pub mod in_legs;
 pub mod numbers;
-pub mod opened;
 
 pub use acks::a_server_passes_acks_on_their_leg;
 pub use channels::a_server_writes_on_channels_that_began;
 pub use in_legs::a_server_answers_in_proxies_in_order;
 pub use numbers::a_server_has_numbers_for_out_channels;
-pub use opened::a_server_opens_before_it_writes;

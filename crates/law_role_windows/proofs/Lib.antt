@@ -1,2 +1,2 @@
 pub mod Acknowledging
-mod Held
+pub mod Held

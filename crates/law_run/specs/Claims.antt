@@ -1,5 +1,5 @@
 -- what holds of every recording, beside its report
-use Rattle.std.specs.Prelude.{◌≡◌, ◌≤◌, ◌++◌, ℕ, List, [], ◌∷◌, true}
+use Rattle.std.specs.Prelude.{◌≡◌, ◌≤◌, ◌++◌, ℕ, List, [], ◌∷◌, false, true}
 use Rattle.std.specs.List.{list_all}
 use Rattle.rh_http.specs.declared.lengths.TheConstants.{SERVICE_UNAVAILABLE}
 use Rattle.rh_line.specs.declared.cause.Cause.{Cause}
@@ -17,16 +17,26 @@ use Rattle.rh_world.specs.declared.any_world.AnyWorld.{AnyWorld}
 use Rattle.rh_world.specs.declared.any_world.AnyWorld.TheVariants.{Before}
 use Rattle.rh_world.specs.Any.{after, prepared, run, step}
 use Rattle.law_world_reports.specs.Bounded.{WindowsHold}
+use Rattle.law_world_reports.specs.CloseLines.{NamesReported, ReportsCloses}
 use Rattle.law_world_reports.specs.Closed.Recordings.{IsLicensedIn, IsRefusedIn}
 use Rattle.law_world_reports.specs.Closed.Reports.{ShowsIn}
 use Rattle.law_world_reports.specs.Closed.Silences.{IsSilentIn}
 use Rattle.law_world_reports.specs.Naming.{NamesIt}
 use Rattle.law_world_reports.specs.Ordering.Counted.{CountsCapped}
+use Rattle.law_world_reports.specs.Ordering.Final.{EndsForGood}
+use Rattle.law_world_reports.specs.Ordering.LastLines.{EndsWithLast}
 use Rattle.law_world_reports.specs.Ordering.Recordings.{OffersBehindFirst}
+use Rattle.law_world_reports.specs.Ordering.Sides.{NamesSides}
+use Rattle.law_world_reports.specs.Throughout.{WindowsHoldOnwards}
+use Rattle.law_world_ways.specs.DirectWays.{KeepsDirectly}
 use Rattle.law_world_ways.specs.EndsInTime.Losses.{AllLoseInTime, loses_no_leg}
 use Rattle.law_world_ways.specs.ExactPaths.Exact.{KeepsAll}
 use Rattle.law_world_ways.specs.OnPaths.Recordings.{KeepsWays}
+use Rattle.law_world_ways.specs.ToldExactly.{TellsAllOf}
+use Rattle.law_world_ways.specs.ToldWays.{TellsWays}
 use Rattle.law_world_honest.specs.Refusals.Reported.{ReportsBreak}
+use Rattle.law_world_windows.specs.KeptHops.{KeepsHops}
+use Rattle.law_world_expected.specs.PdusInRecordings.{PassesInTurn}
 
 -- a line reports a node as closed only for what it told that node, and its answers show that
 pub record ClosesForReason (world : AnyWorld) (line : Line) : Type 0 where
@@ -78,27 +88,53 @@ pub record LosesNothing (before : List Line) : Type 0 where
   pub in_time : AllLoseInTime Before before → KeepsAll (after Before before)
   pub unbroken : list_all loses_no_leg before ≡ true → KeepsAll (after Before before)
 
--- at every line of the report what an end took is a front of what the other end gave, each PDU
--- once and in order, and all of it at a clean end; and a report of roles counts what it tells.
--- Behind each front of the lines no more is held for a channel than its window, nothing stands
--- behind a handover mark, and what was given is what was taken and what is on its way, unless a leg
--- is lost; and none is lost where nothing broke. Each line closes nodes for a reason, and none for
--- what another node did; in all of the report each node is closed once at most, and each later
--- answer of an end that closed names the same cause.
+-- so it is of what the report of a recording of roles tells as given and as taken
+pub record TellsNothingLost (before : List Line) : Type 0 where
+  pub in_time : AllLoseInTime Before (First true ∷ before) → TellsAllOf (First true ∷ before)
+  pub unbroken : list_all loses_no_leg before ≡ true → TellsAllOf (First true ∷ before)
+
+-- at every line of the report what an end took is a front of what the other end gave, each PDU once
+-- and in order, and all of it at a clean end, which is final; and a report of roles counts what it
+-- tells, by its last lines, behind which nothing stands. Each answer to a give names the end of its
+-- line. Behind each front of the lines, and in each state that changes lead to from there, no more
+-- is held for a channel than its window; a hop on one leg is kept, nothing stands behind a handover
+-- mark, no in proxy put an RPC PDU of a successor early, and what was given is what was taken and
+-- what is on its way, unless a leg is lost; and none is lost where nothing broke, so in no direct
+-- recording. Each line closes nodes for a reason, and none for what another node did; in all of the
+-- report each node is closed once at most, and each later answer of an end that closed names the
+-- same cause. Each node that stands closed was reported so, and an answer names no cause that was
+-- not reported before.
 pub record Claims (lines : List Line) : Type 0 where
   pub ordered : OffersBehindFirst lines → IsOrdered lines (run lines)
+  pub sides : OffersBehindFirst lines → NamesSides lines (run lines)
+  pub ends : OffersBehindFirst lines → EndsForGood lines (run lines)
   pub counted : (behind : List Line) → lines ≡ First true ∷ behind
       → CountsCapped lines (run lines)
+  pub last : (behind : List Line) → lines ≡ First true ∷ behind → EndsWithLast Before lines
   pub held : (before behind : List Line) → lines ≡ before ++ behind
       → WindowsHold (after Before before)
+  pub onwards : (before behind : List Line) → lines ≡ before ++ behind
+      → WindowsHoldOnwards (after Before before)
+  pub hops : (before behind : List Line) → lines ≡ before ++ behind
+      → KeepsHops (after Before before)
   pub reasons : (before behind : List Line) (line : Line) → lines ≡ before ++ line ∷ behind
       → ClosesForReason (after Before before) line
+  pub directly : (before behind : List Line) → lines ≡ First false ∷ (before ++ behind)
+      → KeepsDirectly (First false ∷ before)
   pub ways : (before behind : List Line) → lines ≡ before ++ behind
       → KeepsWays (after Before before)
+  pub told : (before behind : List Line) → lines ≡ First true ∷ (before ++ behind)
+      → TellsWays (First true ∷ before)
+  pub turns : (before behind : List Line) → lines ≡ before ++ behind
+      → PassesInTurn (after Before before)
   pub exact : (before behind : List Line) → lines ≡ before ++ behind → LosesNothing before
+  pub told_exactly : (before behind : List Line) → lines ≡ First true ∷ (before ++ behind)
+      → TellsNothingLost before
   pub refusals : (before behind : List Line) (line : Line) → lines ≡ before ++ line ∷ behind
       → RefusesForBreak before line
   pub honest : (before behind : List Line) (line : Line) → lines ≡ before ++ line ∷ behind
       → RolesAreHonest (after Before before) line
   pub once : (node : Who) → closings_of node (run lines) ≤ 1
   pub named : NamesIt (run lines)
+  pub closes : (before behind : List Line) → lines ≡ before ++ behind → ReportsCloses before
+  pub reported : NamesReported (run lines)

@@ -1,39 +1,17 @@
 -- what a node counts behind a head is what it heard behind it, byte by byte
-use Rattle.std.proofs.Common.{◌≡◌, inl, inr, ℕ, suc, ◌+◌, ◌<◌, ◌≤◌, List, [], ◌∷◌, ◌++◌, append_assoc, length, length-append, take, cond, Bool, true, false, nat_lt, Some, None, Ok, Err, arith, refl, sym, ap, ◌∙◌, subst}
-use Rattle.std.specs.Prelude.{slice_index, ◌==◌, ◌&&◌}
-use Rattle.std.specs.declared.option.Option.{Option}
-use Rattle.std.specs.declared.result.Result.{Result}
-use Rattle.std.proofs.lemmas.Bool.{eqb-true, cases_lt}
-use Rattle.std.proofs.lemmas.List.{append-nil, take_all, take-append-le}
-use Rattle.rh_pdu.specs.declared.fault.HeadFault.{HeadFault}
-use Rattle.rh_pdu.specs.Header.{rts, header_length, frag_of, head_fault}
+use Rattle.std.proofs.Common.{length-append}
+use Rattle.law_order.proofs.Vocabulary.{◌≡◌, inl, inr, ℕ, suc, ◌+◌, ◌<◌, ◌≤◌, List, [], ◌∷◌, ◌++◌, append_assoc, length, take, cond, Bool, true, false, nat_lt, Some, None, Ok, Err, arith, refl, sym, ap, ◌∙◌, subst, slice_index, ◌==◌, ◌&&◌, Option, Result, eqb-true, cases_lt, append-nil, take_all, take-append-le}
 use Rattle.rh_sig.specs.declared.fault.SigFault.TheVariants as sig
-use Rattle.rh_sig.specs.declared.name.Pipe.{Pipe}
-use Rattle.rh_sig.specs.declared.named.Named.{Named}
-use Rattle.rh_line.specs.declared.leg.Leg.{Leg}
-use Rattle.rh_line.specs.declared.cause.Cause.{Cause}
 use Rattle.rh_line.specs.declared.cause.Cause.TheVariants as cause
-use Rattle.rh_shell.specs.declared.answers.Behind.TheVariants as passed
-use Rattle.rh_shell.specs.declared.answers.Behind.{Behind}
-use Rattle.rh_shell.specs.declared.answers.Count.{Count}
-use Rattle.rh_shell.specs.declared.answers.HeadRefused.{HeadRefused}
-use Rattle.rh_shell.specs.declared.answers.HeadRefused.TheVariants as head
-use Rattle.rh_shell.specs.declared.answers.HeadTaken.{HeadTaken}
-use Rattle.rh_shell.specs.declared.answers.Refused.TheVariants as refused
-use Rattle.rh_shell.specs.declared.heading.Heading.{Heading}
-use Rattle.rh_shell.specs.declared.reading.PacketFault.{PacketFault}
-use Rattle.rh_shell.specs.declared.reading.PacketFault.TheVariants as unread
 use Rattle.rh_shell.specs.declared.stage.Body.{Body}
-use Rattle.rh_shell.specs.declared.stage.Stage.{Stage}
+use Rattle.rh_shell.specs.Intakes.{Over, behind}
+use Rattle.rh_shell.specs.declared.answers.Behind.TheVariants as passed
+use Rattle.rh_shell.specs.declared.answers.HeadRefused.TheVariants as head
+use Rattle.rh_shell.specs.declared.answers.Refused.TheVariants as refused
+use Rattle.rh_shell.specs.declared.reading.PacketFault.TheVariants as unread
 use Rattle.rh_shell.specs.declared.stage.Stage.TheVariants as stage
-use Rattle.rh_shell.specs.declared.stop.Stop.{Stop}
-use Rattle.rh_shell.specs.Hearing.{Turn, goes, stops, stop, stop_head, head_row, stage_of, begun_body, behind_head, behind_frame, row_by, close_row, one_more, is_zero, is_upward, is_ping, take_ping, take_packet, take_frame, is_greeting, heading, touched, with_intake, take as taken, hear_byte, hear, heard}
-use Rattle.rh_shell.specs.Intakes.{Intake, Came, Nothing, Head, Greeting, Frame, Over, on_byte, byte_by, text_by, frame_by, frame_byte, holds, behind, is_whole_head, is_whole_greeting, is_full, length_told, counted}
-use Rattle.rh_shell.specs.NearEnds.{NearEnd, first_stage}
-use Rattle.rh_shell.specs.Readings.{packet_of}
-use Rattle.rh_shell.specs.Rules.{Rules, Row}
-use Rattle.law_moves.specs.Carrying.{is_deaf}
-use Rattle.law_moves.specs.ReadBack.Reading.{IsWholeText}
+use Rattle.law_moves.proofs.Vocabulary.{HeadFault, rts, header_length, frag_of, head_fault, Pipe, Named, Leg, Cause, Behind, Count, HeadRefused, HeadTaken, Heading, PacketFault, Stage, Stop, Turn, goes, stops, stop, stop_head, head_row, stage_of, begun_body, behind_head, behind_frame, row_by, close_row, one_more, is_zero, is_upward, is_ping, take_ping, take_packet, take_frame, is_greeting, heading, touched, with_intake, take as taken, hear_byte, hear, heard, Intake, Came}
+use Rattle.law_moves.proofs.Vocabulary.{Nothing, Head, Greeting, Frame, on_byte, byte_by, text_by, frame_by, frame_byte, holds, is_whole_head, is_whole_greeting, is_full, length_told, counted, NearEnd, first_stage, packet_of, Rules, Row, is_deaf, IsWholeText}
 use Rattle.law_world_bodies.specs.Behind.{BodyIs, HasBody}
 
 -- ---- a cause of a frame is none of a body

@@ -1,40 +1,18 @@
 -- what a client put keeps to the lengths that its requests tell, whatever moves came
-use Rattle.std.proofs.Common.{◌≡◌, ℕ, Bool, true, false, List, [], ◌∷◌, ◌++◌, Some, None, Ok, Err, inl, inr, arith, refl, sym, ap, ◌∙◌, subst}
-use mathlib.Core.Path.{fun_ext}
-use Rattle.std.specs.List.{AllByRecursion}
-use Rattle.std.specs.Prelude.{if◌then◌else◌, nat_eq}
-use Rattle.std.specs.declared.option.Option.{Option}
-use Rattle.std.proofs.lemmas.Bool.Decides.{nat_tests}
-use Rattle.std.proofs.lemmas.List.{append-nil}
-use Rattle.rh_http.specs.declared.config.ClientConfig.{ClientConfig}
-use Rattle.rh_sig.specs.declared.name.Pipe.{Pipe}
-use Rattle.rh_sig.specs.declared.name.Pipe.TheVariants.{CiU, CoU}
-use Rattle.rh_line.specs.declared.leg.Leg.{Leg}
-use Rattle.rh_line.specs.declared.leg.LegKind.{LegKind}
-use Rattle.rh_line.specs.declared.leg.LegKind.TheVariants.{ClientOut, OutServer, ClientIn, InServer}
-use Rattle.law_order.specs.Logs.{more}
-use Rattle.rh_shell.specs.Rules.{Row, Message, Text, Pdu, Packet}
-use Rattle.law_moves.specs.Moves as moves
-use Rattle.law_moves.specs.Moves.{OnLeg, Passage, EndPassage, EndMove, Up, HeadCame, PduCame, PacketCame, Puts, IsDrawn, Marks, Pings, Moves, Gives, Takes, Closes, Recycles, taken_by, given_by, with_first, end_moved, all_end_moved}
-use Rattle.rh_shell.specs.Shells.{same_leg}
-use Rattle.law_moves.specs.Wires.{of_leg}
-use Rattle.law_moves.specs.Legible.Legible.{AllMayGo, MayGoOn}
-use Rattle.law_role_client.specs.Legible.{pipe_put}
-use Rattle.rh_client.specs.declared.lengths.TheConstants.{OUT_R1_A3_C1_LEN}
-use Rattle.rh_client.specs.declared.state.ClientRole.{ClientRole}
-use Rattle.rh_client.specs.State.{ci, co}
-use Rattle.rh_client.specs.Ending.{Given, give, take}
+use Rattle.law_order.proofs.Vocabulary.{◌≡◌, ℕ, Bool, true, false, List, [], ◌∷◌, ◌++◌, Some, None, Ok, Err, inl, inr, arith, refl, sym, ap, ◌∙◌, subst, AllByRecursion, if◌then◌else◌, nat_eq, Option, nat_tests, append-nil, fun_ext, more}
 use Rattle.rh_client.specs.Putting as putting
-use Rattle.rh_client.specs.Putting.{Pick}
-use Rattle.rh_client.specs.Client.{rules as client_rules, acts, packet, pdu}
-use Rattle.law_role_client.specs.Order.{client_started, client_moved, AreAllowedMoves}
-use Rattle.law_node_streams.proofs.Streams.LegLogs.{of_other, on_leg, one_more}
+use Rattle.law_moves.proofs.Vocabulary.{Pipe, CiU, CoU, ClientConfig, Leg, LegKind, ClientOut, OutServer, ClientIn, InServer, Row, Message, Text, Pdu, Packet, same_leg, OnLeg, Passage, EndPassage, EndMove, Up, HeadCame, PduCame, PacketCame, Puts, IsDrawn, Marks, Pings, Moves, Gives, Takes, Closes, Recycles, taken_by, given_by, with_first, end_moved, all_end_moved, of_leg, AllMayGo, MayGoOn}
+use Rattle.law_moves.proofs.Lemmas.{other_more as of_other, leg_more as one_more}
+use Rattle.law_moves.specs.Moves as moves
+use Rattle.law_role_client.proofs.Vocabulary.{OUT_R1_A3_C1_LEN, ClientRole, ci, co, Given, give, take, Pick, rules as client_rules, acts, packet, pdu, pipe_put, client_started, client_moved, AreAllowedMoves}
+use Rattle.law_node_streams.proofs.Streams.LegLogs.{on_leg}
+use Rattle.law_node_begins.proofs.EndsBegin.Stands.{NumberLogs}
 use Rattle.law_node_begins.specs.EndsBegin.{BeginsLegs}
-use Rattle.law_world_bodies.specs.Bodies.{KeepsLength, RequestTells}
 use Rattle.law_world_bodies.proofs.Sizes.{spelled_total}
-use Rattle.law_world_bodies.proofs.Rooms.{Fits, NumberLogs, each_fits}
+use Rattle.law_world_bodies.proofs.Rooms.{Fits, each_fits}
 use Rattle.law_world_bodies.proofs.ClientRooms.{Keeps, Legs, TellsIn, TellsOut, drawn_keeps, fronts, give_keeps, packet_keeps, pdu_keeps, ping_keeps, recycle_keeps, take_keeps, up_keeps}
 use Rattle.law_world_bodies.proofs.ClientPuts.{IsPicked, grown, puts_by}
+use Rattle.law_world_bodies.specs.Bodies.{KeepsLength, RequestTells}
 
 -- ---- what stands on the legs
 

@@ -1,47 +1,18 @@
 -- what a client puts leaves the room that its state says: each put fits in the lifetime of its
 -- channel, or is one of the packets that open it
-use Rattle.std.proofs.Common.{◌≡◌, ◌⊎◌, ℕ, ◌+◌, ◌≤◌, ◌==◌, Bool, true, false, ◌&&◌, if◌then◌else◌, List, [], ◌∷◌, length, Some, None, inl, inr, arith, refl, sym, subst, ap}
-use Rattle.std.proofs.lemmas.Bool.{and_parts}
-use Rattle.std.proofs.lemmas.Bool.Decides.{nat_tests}
-use Rattle.std.specs.Prelude.{IfSome}
-use Rattle.std.specs.declared.option.Option.{Option}
-use Rattle.rh_window.specs.Sending.{may_send}
-use Rattle.rh_window.specs.declared.recv_window.Ack.{Ack}
-use Rattle.rh_keep.specs.Meters.{Meter, may_put, fits, after_put}
-use Rattle.law_order.specs.Logs.{more}
-use Rattle.law_order.proofs.ByNumber.{by_test, same_number}
+use Rattle.law_order.proofs.Vocabulary.{◌≡◌, ◌⊎◌, ℕ, ◌+◌, ◌≤◌, ◌==◌, Bool, true, false, ◌&&◌, if◌then◌else◌, List, [], ◌∷◌, length, Some, None, inl, inr, arith, refl, sym, subst, ap, and_parts, nat_tests, IfSome, Option, more}
 use Rattle.rh_sig.specs.declared.named.Named.TheVariants as named
-use Rattle.rh_sig.specs.declared.lengths.TheConstants.{CONN_B1_LEN, IN_R1_A1_LEN, IN_R1_A5_LEN, OUT_R1_A7_LEN, END_A1_LEN, ACK_TO_LEN, PING_LEN}
-use Rattle.rh_http.specs.declared.config.ClientConfig.{ClientConfig}
-use Rattle.rh_http.specs.Texts.{in_request, out_request}
-use Rattle.rh_line.specs.Lines.{after_told}
-use Rattle.rh_line.specs.Queue.{behind, front_length}
-use Rattle.rh_line.specs.declared.leg.LegKind.{LegKind}
-use Rattle.rh_line.specs.declared.leg.LegKind.TheVariants.{ClientOut, OutServer, ClientIn, InServer}
-use Rattle.rh_line.specs.declared.which.Which.{Which}
-use Rattle.rh_line.specs.declared.which.Which.TheVariants.{Current, Next}
-use Rattle.rh_shell.specs.NearEnds.{first_of}
-use Rattle.rh_shell.specs.Rules.{Message, Text, Pdu, Packet}
-use Rattle.rh_client.specs.declared.channels.Opening.{Opening}
-use Rattle.rh_client.specs.declared.channels.Opening.TheVariants.{NotUp, Request, First, Second, Put}
-use Rattle.rh_client.specs.declared.lengths.TheConstants.{CONN_A1_LEN, OUT_R1_A3_C1_LEN}
-use Rattle.rh_client.specs.declared.replacement.Replacement.{Replacement}
-use Rattle.rh_client.specs.declared.replacement.Replacement.TheVariants.{NoneUnderWay, In, Out}
 use Rattle.rh_client.specs.declared.replacement.InStage.TheVariants as in_stage
 use Rattle.rh_client.specs.declared.replacement.OutStage.TheVariants as out_stage
-use Rattle.rh_client.specs.declared.replacement.Waits.{Waits}
-use Rattle.rh_client.specs.declared.state.ClientRole.{ClientRole}
 use Rattle.rh_client.specs.Channels as channels
-use Rattle.rh_client.specs.Channels.{unopened_in, metered}
-use Rattle.rh_client.specs.Replacements.{is_in, is_out}
-use Rattle.rh_client.specs.State.{is_open, is_writing, is_in_successor, is_current, is_out_successor}
-use Rattle.rh_client.specs.Acknowledging.{ack_due, cookie_of}
-use Rattle.rh_client.specs.InReplacement.{handed_over}
 use Rattle.rh_client.specs.Putting as putting
-use Rattle.rh_client.specs.Putting.{Pick, or_else, conn_b1, in_r1_a1, begun_in, with_end_put, without_ping, put_in_r1_a5, put_out_r1_a7, put_by, put_conn_b1, put_in_r1_a1, put_current, put_out_successor, put_out, due_by, put_due, ack_by, put_ack_of, put_ack, lets_pdu, put_pdu, is_end_due, put_end, put_ping, put_successor_ping, put_next, put_writing, put_in_successor, put_in, settled_pick}
+use Rattle.law_moves.proofs.Vocabulary.{may_send, Ack, Meter, may_put, fits, after_put, by_test, same_number, CONN_B1_LEN, IN_R1_A1_LEN, IN_R1_A5_LEN, OUT_R1_A7_LEN, END_A1_LEN, ACK_TO_LEN, PING_LEN, ClientConfig, in_request, out_request, after_told, behind, front_length, LegKind, ClientOut, OutServer, ClientIn, InServer, Which, Current, Next, first_of, Message, Text, Pdu, Packet}
+use Rattle.law_role_client.proofs.Vocabulary.{Opening, NotUp, Request, First, Second, Put, CONN_A1_LEN, OUT_R1_A3_C1_LEN, Replacement, NoneUnderWay, In, Out, Waits, ClientRole, unopened_in, metered, is_in, is_out, is_open, is_writing, is_in_successor, is_current, is_out_successor, ack_due, cookie_of, handed_over, Pick, or_else, conn_b1, in_r1_a1, begun_in, with_end_put, without_ping, put_in_r1_a5, put_out_r1_a7, put_by, put_conn_b1, put_in_r1_a1, put_current}
+use Rattle.law_role_client.proofs.Vocabulary.{put_out_successor, put_out, due_by, put_due, ack_by, put_ack_of, put_ack, lets_pdu, put_pdu, is_end_due, put_end, put_ping, put_successor_ping, put_next, put_writing, put_in_successor, put_in, settled_pick}
+use Rattle.law_node_begins.proofs.EndsBegin.ClientFronts.{has_begun}
 use Rattle.law_world_bodies.proofs.Sizes.{size}
 use Rattle.law_world_bodies.proofs.Rooms.{channel, GoesBehind, head_put, more_put, hands_over, now_put, next_put}
-use Rattle.law_world_bodies.proofs.ClientRooms.{Kept, Keeps, Legs, TellsIn, TellsOut, after_in_keeps, by_replacement, flags, fronts, has_begun, restated, room_in, room_next, room_now, settled_keeps}
+use Rattle.law_world_bodies.proofs.ClientRooms.{Kept, Keeps, Legs, TellsIn, TellsOut, after_in_keeps, by_replacement, flags, fronts, restated, room_in, room_next, room_now, settled_keeps}
 
 -- ---- what the tests say
 

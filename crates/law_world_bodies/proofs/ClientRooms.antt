@@ -1,54 +1,20 @@
 -- what a client's state says of the room on its legs: each step that puts nothing keeps it
-use Rattle.std.proofs.Common.{◌≡◌, ℕ, ◌+◌, ◌-◌, ◌≤◌, ◌==◌, Bool, true, false, not, ◌&&◌, ◌||◌, nat_lt, IsTrue, List, Some, Ok, Err, rules, arith, refl, sym, subst, ap, ◌∙◌}
-use Rattle.std.specs.declared.result.Result.{Result}
-use Rattle.rh_keep.specs.Meters.{Meter}
-use Rattle.law_order.proofs.ByNumber.{by_test, same_number}
-use Rattle.rh_rts.specs.declared.command.Cookie.{Cookie}
-use Rattle.rh_sig.specs.declared.named.Named.{Named}
+use Rattle.law_order.proofs.Vocabulary.{◌≡◌, ℕ, ◌+◌, ◌-◌, ◌≤◌, ◌==◌, Bool, true, false, not, ◌&&◌, ◌||◌, nat_lt, IsTrue, List, Some, Ok, Err, rules, arith, refl, sym, subst, ap, ◌∙◌, Result}
 use Rattle.rh_sig.specs.declared.named.Named.TheVariants as named
-use Rattle.rh_http.specs.declared.config.ClientConfig.{ClientConfig}
-use Rattle.rh_line.specs.Lines.{after_finish, after_take}
-use Rattle.rh_line.specs.declared.leg.LegKind.{LegKind}
-use Rattle.rh_line.specs.declared.leg.LegKind.TheVariants.{ClientOut, OutServer, ClientIn, InServer}
-use Rattle.rh_shell.specs.declared.answers.Count.{Count}
 use Rattle.rh_shell.specs.declared.answers.Phase.TheVariants as phase
-use Rattle.rh_shell.specs.declared.end_role.RecycleRefused.{RecycleRefused}
-use Rattle.rh_shell.specs.declared.end_role.RecycleRefused.TheVariants.{Last}
-use Rattle.rh_client.specs.declared.channels.Opening.{Opening}
-use Rattle.rh_client.specs.declared.channels.Opening.TheVariants.{NotUp, Request, First, Second, Put}
-use Rattle.rh_client.specs.declared.channels.TheConstants.{LAST_NUMBER}
-use Rattle.rh_client.specs.declared.lengths.TheConstants.{OUT_R1_A3_C1_LEN}
-use Rattle.rh_client.specs.declared.replacement.Replacement.{Replacement}
-use Rattle.rh_client.specs.declared.replacement.Replacement.TheVariants.{NoneUnderWay, In, Out}
 use Rattle.rh_client.specs.declared.replacement.InStage.TheVariants as in_stage
 use Rattle.rh_client.specs.declared.replacement.OutStage.TheVariants as out_stage
-use Rattle.rh_client.specs.declared.replacement.Waits.{Waits}
 use Rattle.rh_client.specs.declared.replacement.Waits.TheVariants as waits
-use Rattle.rh_client.specs.declared.state.ClientRole.{ClientRole}
-use Rattle.rh_client.specs.Channels.{is_up, is_put, is_asked, is_named, unopened_in, unopened_out, in_up, out_up, told_in}
-use Rattle.rh_client.specs.Replacements.{is_in, is_out, has_out, with_in, with_out}
-use Rattle.rh_client.specs.State.{Done, taken, unexpected, is_open, is_writing, is_in_successor, is_current, is_out_successor, is_over, begin_in, begin_out, after_in, after_out}
-use Rattle.rh_client.specs.Opening.{wants_by, up_by, with_next, on_conn_a3, on_conn_c2}
-use Rattle.rh_client.specs.Acknowledging.{on_pdu, on_ack_to, ack_named}
-use Rattle.rh_client.specs.InReplacement.{on_in_r1_a4, answered, answer_by, recycle_by, wish_by, wished, wants_successor}
-use Rattle.rh_client.specs.OutReplacement.{succeeded, ended_or, pass_by, passed, a2_by, a6_by, a10_by, on_out_r1_a2, on_out_r1_a6}
-use Rattle.rh_client.specs.Ending.{give, take, drawn_by, on_end_b2}
-use Rattle.rh_client.specs.Time.{ping_by}
-use Rattle.rh_client.specs.Putting.{settled_or_wished}
 use Rattle.rh_client.specs.Client as client
-use Rattle.rh_client.specs.Client.{on_packet, packet_by}
+use Rattle.law_moves.proofs.Vocabulary.{Meter, by_test, same_number, Cookie, Named, ClientConfig, after_finish, after_take, LegKind, ClientOut, OutServer, ClientIn, InServer, Count, RecycleRefused, Last}
+use Rattle.law_role_client.proofs.Vocabulary.{Opening, NotUp, Request, First, Second, Put, LAST_NUMBER, OUT_R1_A3_C1_LEN, Replacement, NoneUnderWay, In, Out, Waits, ClientRole, is_up, is_put, is_asked, is_named, unopened_in, unopened_out, in_up, out_up, told_in, is_in, is_out, has_out, with_in, with_out, Done, taken, unexpected, is_open, is_writing, is_in_successor, is_current, is_out_successor, is_over, begin_in, begin_out, after_in, after_out, wants_by, up_by, with_next}
+use Rattle.law_role_client.proofs.Vocabulary.{on_conn_a3, on_conn_c2, on_pdu, on_ack_to, ack_named, on_in_r1_a4, answered, answer_by, recycle_by, wish_by, wished, wants_successor, succeeded, ended_or, pass_by, passed, a2_by, a6_by, a10_by, on_out_r1_a2, on_out_r1_a6, give, take, drawn_by, on_end_b2, ping_by, settled_or_wished, on_packet, packet_by}
+use Rattle.law_node_begins.proofs.EndsBegin.ClientFronts.{has_begun}
+use Rattle.law_node_begins.proofs.EndsBegin.Stands.{NumberLogs}
+use Rattle.law_world_bodies.proofs.Rooms.{Channel, channel, Front, IsFront, IsFollowed, IsLast, next_begins, hands_over}
 use Rattle.law_world_bodies.specs.Bodies.{RequestTells}
-use Rattle.law_world_bodies.proofs.Rooms.{Channel, channel, Front, NumberLogs, IsFront, IsFollowed, IsLast, next_begins, hands_over}
 
 -- ---- what the state says
-
--- the request was put
-abbrev pub has_begun : Opening → Bool
-has_begun NotUp = false
-has_begun Request = false
-has_begun First = true
-has_begun Second = true
-has_begun Put = true
 
 -- of the channel's lifetime
 abbrev pub room_in : Meter → ℕ

@@ -1,17 +1,7 @@
 -- what was heard of what keeps to the lengths of its heads is no body that is too long
-use Rattle.std.proofs.Common.{◌≡◌, ℕ, suc, ◌+◌, List, [], ◌∷◌, ◌++◌, append_assoc, length, length-append, arith, sym, ap, ◌∙◌, subst}
-use Rattle.std.specs.declared.option.Option.{Option}
-use mathlib.Core.List.{IsPrefix}
-use Rattle.rh_http.specs.declared.config.ClientConfig.{ClientConfig}
-use Rattle.rh_http.specs.Texts.{in_request, out_request}
-use Rattle.rh_sig.specs.declared.name.Pipe.{Pipe}
-use Rattle.rh_line.specs.declared.leg.Leg.{Leg}
-use Rattle.rh_line.specs.declared.leg.LegKind.{LegKind}
-use Rattle.rh_line.specs.declared.leg.LegKind.TheVariants.{ClientOut, OutServer, ClientIn, InServer}
-use Rattle.law_moves.specs.Carrying.{spelled}
-use Rattle.rh_shell.specs.Intakes.{is_whole_head}
-use Rattle.rh_shell.specs.Rules.{Message, Text, Pdu, Packet, Rules}
-use Rattle.law_moves.specs.ReadBack.Reading.{IsWholeText}
+use Rattle.std.proofs.Common.{length-append}
+use Rattle.law_order.proofs.Vocabulary.{◌≡◌, ℕ, suc, ◌+◌, List, [], ◌∷◌, ◌++◌, append_assoc, length, arith, sym, ap, ◌∙◌, subst, Option, IsPrefix}
+use Rattle.law_moves.proofs.Vocabulary.{Pipe, ClientConfig, in_request, out_request, Leg, LegKind, ClientOut, OutServer, ClientIn, InServer, is_whole_head, Message, Text, Pdu, Packet, Rules, spelled, IsWholeText}
 use Rattle.law_world_order.proofs.FirstTexts.Requests.{same_head}
 use Rattle.law_world_bodies.specs.Behind.{HasBody, TakesHead}
 use Rattle.law_world_bodies.specs.Bodies.{KeepsLength, RequestTells}

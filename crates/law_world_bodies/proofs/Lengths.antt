@@ -1,32 +1,19 @@
 -- which lengths roles take of heads
-use Rattle.std.proofs.Common.{◌≡◌, ◌⊎◌, inl, inr, ℕ, List, false, nat_le, Ok, Err, refl, sym, ap, ◌∙◌, subst}
-use Rattle.std.specs.Prelude.{IsTrue}
-use Rattle.std.specs.declared.result.Result.{Result}
-use Rattle.law_order.proofs.ByNumber.{by_test}
-use Rattle.rh_http.specs.declared.config.ClientConfig.{ClientConfig}
-use Rattle.rh_http.specs.declared.fault.HttpFault.{HttpFault}
-use Rattle.rh_http.specs.declared.response.Response.{Response}
-use Rattle.rh_http.specs.Lengths.{greatest_echo, may_ask}
-use Rattle.rh_http.specs.Heads.Verdicts.{Asked, request_verdict, response_verdict}
-use Rattle.rh_line.specs.declared.leg.Leg.{Leg}
-use Rattle.rh_line.specs.declared.leg.LegKind.{LegKind}
-use Rattle.rh_line.specs.declared.leg.LegKind.TheVariants.{ClientOut, OutServer, ClientIn, InServer}
-use Rattle.rh_shell.specs.declared.answers.HeadRefused.{HeadRefused}
-use Rattle.rh_shell.specs.declared.answers.HeadTaken.{HeadTaken}
-use Rattle.rh_inproxy.specs.declared.opening.TheConstants.{ECHO_LENGTH}
+use Rattle.law_order.proofs.Vocabulary.{◌≡◌, ◌⊎◌, inl, inr, ℕ, List, false, nat_le, Ok, Err, refl, sym, ap, ◌∙◌, subst, IsTrue, Result}
 use Rattle.rh_inproxy.specs.Machine as in_proxy
 use Rattle.rh_inproxy.specs.Opening as in_opening
-use Rattle.rh_inproxy.specs.State.{InProxy}
 use Rattle.rh_outproxy.specs.Machine as out_proxy
 use Rattle.rh_outproxy.specs.Opening as out_opening
-use Rattle.rh_outproxy.specs.OutProxy.{OutProxy}
 use Rattle.rh_client.specs.Client as client
 use Rattle.rh_client.specs.Opening as client_opening
 use Rattle.rh_server.specs.Servers as server
-use Rattle.law_role_client.specs.Legible.{IsConfig}
-use Rattle.law_world_order.specs.FirstTexts.{IsPort}
+use Rattle.law_moves.proofs.Vocabulary.{by_test, ClientConfig, HttpFault, Response, greatest_echo, may_ask, Asked, request_verdict, response_verdict, Leg, LegKind, ClientOut, OutServer, ClientIn, InServer, HeadRefused, HeadTaken}
+use Rattle.law_role_inproxy.proofs.Vocabulary.{ECHO_LENGTH, InProxy}
+use Rattle.law_role_client.proofs.Vocabulary.{IsConfig}
+use Rattle.law_role_outproxy.proofs.Vocabulary.{OutProxy}
 use Rattle.law_world_order.proofs.FirstTexts.Requests.{request_asks}
 use Rattle.law_world_order.proofs.FirstTexts.Taken.{asked_for, in_asks}
+use Rattle.law_world_order.proofs.Vocabulary.{IsPort}
 use Rattle.law_world_bodies.specs.Behind.{TakesHead}
 use Rattle.law_world_bodies.specs.Bodies.{RequestTells}
 

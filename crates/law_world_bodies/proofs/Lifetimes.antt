@@ -1,61 +1,37 @@
 -- what an out proxy of a world of roles drew on its client's leg is no response that is too long
-use Rattle.std.proofs.Common.{◌≡◌, ℕ, suc, ◌+◌, ◌*◌, ◌-◌, ◌≤◌, List, Bool, if◌then◌else◌, Some, arith, sym, ap, subst}
-use Rattle.std.specs.List.{AllByRecursion}
-use Rattle.std.specs.declared.option.Option.{Option}
-use mathlib.Core.List.{IsPrefix}
-use Rattle.rh_text.specs.declared.ends.Dir.{Dir}
-use Rattle.rh_text.specs.declared.ends.Dir.TheVariants.{U, D}
-use Rattle.rh_sig.specs.declared.name.Pipe.{Pipe}
-use Rattle.rh_sig.specs.declared.name.Pipe.TheVariants.{CoU, OsU, OsD}
-use Rattle.rh_line.specs.declared.leg.Leg.{Leg}
-use Rattle.rh_line.specs.declared.leg.LegKind.TheVariants.{ClientOut, OutServer}
-use Rattle.law_order.proofs.Prefixes.{prefix_trans}
+use Rattle.law_order.proofs.Vocabulary.{◌≡◌, ℕ, suc, ◌+◌, ◌*◌, ◌-◌, ◌≤◌, List, Bool, if◌then◌else◌, Some, arith, sym, ap, subst, AllByRecursion, Option, IsPrefix}
 use Rattle.rh_record.specs.declared.answer.Who.TheVariants as who
-use Rattle.law_moves.specs.Carrying.{spelled}
-use Rattle.law_moves.specs.Moves.{EndPassage, Passage, all_moved, started}
-use Rattle.law_moves.specs.Moving.{Event, after_events}
-use Rattle.rh_shell.specs.Rules.{Message}
-use Rattle.rh_shell.specs.Shells.{begun}
-use Rattle.law_moves.specs.Wires.{of_leg}
-use Rattle.rh_nodes.specs.Opening.{Makers}
-use Rattle.rh_nodes.specs.Settling.{leg_at}
-use Rattle.rh_nodes.specs.Wires.{receiver, sender}
-use Rattle.rh_nodes.specs.World.{World}
-use Rattle.rh_client.specs.declared.state.ClientRole.{ClientRole}
-use Rattle.rh_client.specs.Client as client
-use Rattle.law_role_client.specs.Legible as client_legible
-use Rattle.rh_inproxy.specs.State.{InProxy}
-use Rattle.rh_outproxy.specs.declared.out_proxy.TheConstants.{ROOMS}
-use Rattle.rh_outproxy.specs.declared.state.OutProxyConfig.{OutProxyConfig}
-use Rattle.law_role_outproxy.specs.Legible as out_legible
 use Rattle.rh_outproxy.specs.Machine as out_proxy
-use Rattle.rh_outproxy.specs.OutProxy.{OutProxy, new_proxy}
-use Rattle.rh_outproxy.specs.Putting.{ping_room}
-use Rattle.law_role_server.specs.Legible as server_legible
+use Rattle.rh_client.specs.Client as client
 use Rattle.rh_server.specs.Servers as server
-use Rattle.rh_server.specs.States.{Server}
+use Rattle.law_moves.proofs.Vocabulary.{Dir, U, D, prefix_trans, Pipe, CoU, OsU, OsD, Leg, ClientOut, OutServer, Message, begun, spelled, EndPassage, Passage, all_moved, started, Event, after_events, of_leg, MayGoOn, ReadsBack, Begins, all_read_of, messages_read}
+use Rattle.law_role_inproxy.proofs.Vocabulary.{InProxy}
+use Rattle.law_role_client.proofs.Vocabulary.{ClientRole}
+use Rattle.law_role_client.specs.Legible as client_legible
+use Rattle.law_role_server.proofs.Vocabulary.{Server}
+use Rattle.law_role_server.specs.Legible as server_legible
+use Rattle.law_node_history.proofs.Vocabulary.{receiver, sender, Makers, leg_at, World, drawn_by, drawn_on, end_drawn_on, end_node, events_of, happened, heard_on, History}
+use Rattle.law_node_history.proofs.Lemmas.{same_itself}
 use Rattle.law_node_causes.specs.Refusals.{MayRefuseOn}
-use Rattle.law_node_history.specs.Carried.{drawn_by, drawn_on, end_drawn_on, end_node, events_of, happened, heard_on}
-use Rattle.law_node_history.specs.Histories.{History}
-use Rattle.law_node_history.proofs.Wired.{same_itself}
-use Rattle.law_moves.specs.Legible.Legible.{MayGoOn, ReadsBack}
-use Rattle.law_moves.specs.ReadBack.Reading.{Begins, all_read_of, messages_read}
+use Rattle.law_role_outproxy.proofs.Vocabulary.{ROOMS, OutProxyConfig, OutProxy, new_proxy, ping_room}
+use Rattle.law_role_outproxy.proofs.Counted.OutProxyOwes.{co_at as co, os_at as os}
+use Rattle.law_role_outproxy.specs.Legible as out_legible
 use Rattle.law_node_streams.proofs.Streams.LegLogs.{on_leg}
+use Rattle.law_node_traces.proofs.Vocabulary.{AreOurs, deeds, rules}
 use Rattle.law_peers_routes.specs.Downwards as down
-use Rattle.law_node_traces.specs.Traced.Ours.{AreOurs, deeds, rules}
-use Rattle.law_world_order.specs.Flows.{IsFlowing, numbers_of}
 use Rattle.law_world_order.proofs.Heard.{from_client, from_out, from_server}
-use Rattle.law_world_honest.proofs.Honesty.Drawn.{free_by}
 use Rattle.law_world_order.proofs.FirstTexts.OutTexts.{puts_200}
-use Rattle.law_world_bodies.specs.Behind.{HasBody}
-use Rattle.law_world_bodies.specs.Bodies.{KeepsLength, RequestTells}
+use Rattle.law_world_order.proofs.Vocabulary.{IsFlowing, numbers_of}
+use Rattle.law_world_honest.proofs.Honesty.Drawn.{free_by}
 use Rattle.law_world_bodies.proofs.Once.{once}
 use Rattle.law_world_bodies.proofs.OutFirsts.{replacing, told_once}
-use Rattle.law_world_bodies.proofs.OutMoves.{asking, books_hold, co, os, passes, sum}
+use Rattle.law_world_bodies.proofs.OutMoves.{asking, books_hold, passes, sum}
 use Rattle.law_world_bodies.proofs.OutPuts.{behind}
 use Rattle.law_world_bodies.proofs.Passing.{came_less}
 use Rattle.law_world_bodies.proofs.Responses.{drawn_none}
 use Rattle.law_world_bodies.proofs.ServerMoves.{allowing, within_lifetimes}
+use Rattle.law_world_bodies.specs.Behind.{HasBody}
+use Rattle.law_world_bodies.specs.Bodies.{KeepsLength, RequestTells}
 
 -- the laws that this stands on
 pub record EachDrew : Type 0 where

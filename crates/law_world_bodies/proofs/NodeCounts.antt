@@ -1,39 +1,18 @@
 -- what a node counts behind a head is what it heard behind it, over all that happens there
-use Rattle.std.proofs.Common.{◌≡◌, ℕ, zero, suc, List, [], ◌∷◌, ◌++◌, append_assoc, length, cond, Bool, true, false, ◌&&◌, not, nat_lt, nat_le, Some, None, refl, sym, ap, ◌∙◌, subst}
-use mathlib.Core.Path.{fun_ext}
-use Rattle.std.specs.List.{AllByRecursion}
-use Rattle.std.specs.Prelude.{slice_get, slice_set}
-use Rattle.std.specs.declared.option.Option.{Option}
-use Rattle.std.proofs.lemmas.List.{append-nil}
-use Rattle.rh_rts.specs.declared.command.Cookie.{Cookie}
-use Rattle.rh_http.specs.declared.refusal.Refusal.{Refusal}
-use Rattle.rh_sig.specs.declared.name.Pipe.{Pipe}
-use Rattle.rh_line.specs.declared.cause.Cause.{Cause}
+use Rattle.law_order.proofs.Vocabulary.{◌≡◌, ℕ, zero, suc, List, [], ◌∷◌, ◌++◌, append_assoc, length, cond, Bool, true, false, ◌&&◌, not, nat_lt, nat_le, Some, None, refl, sym, ap, ◌∙◌, subst, AllByRecursion, slice_get, slice_set, Option, append-nil, fun_ext}
 use Rattle.rh_line.specs.declared.cause.Cause.TheVariants as cause
-use Rattle.rh_line.specs.declared.leg.Leg.{Leg}
-use Rattle.rh_line.specs.declared.state.State.{State}
 use Rattle.rh_line.specs.declared.state.State.TheVariants as state
-use Rattle.rh_line.proofs.Queues.{each_push}
-use Rattle.law_order.proofs.ByNumber.{by_test}
-use Rattle.rh_shell.specs.declared.course.Course.{Course}
-use Rattle.rh_shell.specs.declared.course.Course.TheVariants.{Going, Closed, Refusing}
+use Rattle.rh_shell.specs.NearEnds.{is_empty}
 use Rattle.rh_shell.specs.declared.stage.Stage.TheVariants as stage
-use Rattle.rh_shell.specs.declared.stop.Stop.{Stop}
-use Rattle.rh_shell.specs.Drawing.{Drawn, draw, filled, left_by, next_byte, put_on}
-use Rattle.rh_shell.specs.Ends.{cause_of, close_where, give_where, recycle_where, take_where}
-use Rattle.rh_shell.specs.Hearing.{goes, hear}
-use Rattle.rh_shell.specs.Intakes.{Intake}
-use Rattle.law_moves.specs.Laws.{ClosedWith}
+use Rattle.law_moves.proofs.Vocabulary.{by_test, Cookie, Pipe, Refusal, each_push, Cause, Leg, State, Course, Going, Closed, Refusing, Stop, Drawn, draw, filled, left_by, next_byte, put_on, cause_of, close_where, give_where, recycle_where, take_where, goes, hear, Intake, NearEnd, is_finished, is_ended, is_marked, is_over, marked, new_end, Rules, Acts, put_into, Shell, bytes_at, bytes_by, close, drawn_at, drawn_by, end_at, ended_at, ended_by, broken_at, broken_by, first_silent}
+use Rattle.law_moves.proofs.Vocabulary.{free_place, is_heard, is_working, lose, lost, may_up, passed_by, place, same_leg, state_of, stop_by, stopped, ticked, unreached_by, up, wants, with_end, with_leg, ClosedWith, Event, EndEvent, Happens, IsGiven, IsTaken, IsClosed, IsRecycled, after_event, after_events, after_end_event, after_end_events}
+use Rattle.law_moves.proofs.Lemmas.{leg_is}
 use Rattle.law_moves.specs.Moving as moving
-use Rattle.law_moves.specs.Moving.{Event, EndEvent, Happens, IsGiven, IsTaken, IsClosed, IsRecycled, after_event, after_events, after_end_event, after_end_events}
-use Rattle.rh_shell.specs.NearEnds.{NearEnd, is_empty, is_finished, is_ended, is_marked, is_over, marked, new_end}
-use Rattle.rh_shell.specs.Rules.{Rules, Acts, put_into}
-use Rattle.rh_shell.specs.Shells.{Shell, bytes_at, bytes_by, close, drawn_at, drawn_by, end_at, ended_at, ended_by, broken_at, broken_by, first_silent, free_place, is_heard, is_working, lose, lost, may_up, passed_by, place, same_leg, state_of, stop_by, stopped, ticked, unreached_by, up, wants, with_end, with_leg}
-use Rattle.law_node_history.specs.Carried.{happened, heard_in, heard_on}
-use Rattle.law_node_history.proofs.Wired.{same_itself}
-use Rattle.law_node_streams.proofs.Streams.Ends.{end_is, end_leg, end_of, leg_is}
-use Rattle.law_world_bodies.specs.Behind.{BodyIs, HasBody}
+use Rattle.law_node_history.proofs.Lemmas.{same_itself}
+use Rattle.law_node_history.proofs.Vocabulary.{happened, heard_in, heard_on}
+use Rattle.law_node_streams.proofs.Streams.Ends.{end_is, end_leg, end_of}
 use Rattle.law_world_bodies.proofs.Behind.{IsBehind, OverIs, StopIs, Waited, body_more, bytes_heard}
+use Rattle.law_world_bodies.specs.Behind.{BodyIs, HasBody}
 
 -- ---- lists of ends
 

@@ -1,18 +1,12 @@
 -- a client opens each OUT channel with one packet: CONN/A1 or OUT_R1/A3 came there at most once
-use Rattle.std.proofs.Common.{◌≡◌, ◌⊎◌, inl, inr, ℕ, ◌+◌, ◌*◌, ◌≤◌, List, [], ◌∷◌, Some, arith}
-use Rattle.std.specs.List.{AllByRecursion}
-use Rattle.rh_sig.specs.declared.name.Pipe.TheVariants.{CoU}
-use Rattle.rh_sig.specs.declared.named.Named.{Named}
+use Rattle.law_order.proofs.Vocabulary.{◌≡◌, ◌⊎◌, inl, inr, ℕ, ◌+◌, ◌*◌, ◌≤◌, List, [], ◌∷◌, Some, arith, AllByRecursion}
 use Rattle.rh_sig.specs.declared.named.Named.TheVariants as named
-use Rattle.rh_http.specs.declared.config.ClientConfig.{ClientConfig}
-use Rattle.rh_line.specs.declared.leg.LegKind.TheVariants.{ClientOut}
-use Rattle.rh_shell.specs.Rules.{Message, Text, Pdu, Packet}
-use Rattle.law_moves.specs.Legible.Legible.{MayGoOn}
-use Rattle.law_world_bodies.specs.Bodies.{KeepsLength, RequestTells}
+use Rattle.law_moves.proofs.Vocabulary.{CoU, Named, ClientConfig, ClientOut, Message, Text, Pdu, Packet, MayGoOn}
 use Rattle.law_world_bodies.proofs.OutBooks.{asks}
 use Rattle.law_world_bodies.proofs.OutFirsts.{replaces, replacing}
 use Rattle.law_world_bodies.proofs.OutMoves.{asking, sum}
 use Rattle.law_world_bodies.proofs.Sizes.{size, spelled_total, total}
+use Rattle.law_world_bodies.specs.Bodies.{KeepsLength, RequestTells}
 
 packet_opens : (packet : Named) → 76 * (asks packet + replaces packet) ≤ size (Packet packet)
 packet_opens (named.ConnA1 version connection cookie window) = omega arith

@@ -1,42 +1,18 @@
 -- the books of an out proxy: what it put to its client, and what it holds for it, came from the
 -- server; but for CONN/A3, where CONN/A1 came, and for Pings
-use Rattle.std.proofs.Common.{◌≡◌, ℕ, ◌+◌, ◌*◌, ◌≤◌, ◌==◌, Bool, true, false, ◌&&◌, ◌||◌, nat_lt, is_ok, if◌then◌else◌, List, [], ◌∷◌, ◌++◌, length, Some, None, Ok, Err, arith, refl, sym, ap, ◌∙◌, subst}
-use Rattle.std.specs.List.{list_any}
-use Rattle.std.specs.declared.option.Option.{Option}
-use Rattle.std.specs.declared.result.Result.{Result}
-use Rattle.rh_window.specs.Sending.{ack_verdict, after_acked}
-use Rattle.law_order.proofs.ByNumber.{by_test}
-use Rattle.rh_rts.specs.declared.command.Cookie.{Cookie}
-use Rattle.rh_rts.specs.declared.command.TheConstants.{TO_OUT_PROXY}
-use Rattle.rh_sig.specs.declared.named.Named.{Named}
+use Rattle.law_order.proofs.Vocabulary.{◌≡◌, ℕ, ◌+◌, ◌*◌, ◌≤◌, ◌==◌, Bool, true, false, ◌&&◌, ◌||◌, nat_lt, is_ok, if◌then◌else◌, List, [], ◌∷◌, ◌++◌, length, Some, None, Ok, Err, arith, refl, sym, ap, ◌∙◌, subst, list_any, Option, Result}
 use Rattle.rh_sig.specs.declared.named.Named.TheVariants as named
-use Rattle.rh_line.specs.Lines.{Incoming, Line, after_admit, channel_verdict}
-use Rattle.rh_line.specs.Queue.{total}
-use Rattle.rh_line.specs.declared.line_fault.LineFault.{LineFault}
 use Rattle.rh_line.specs.declared.line_fault.LineFault.TheVariants as line_fault
-use Rattle.rh_line.specs.declared.which.Which.TheVariants.{Current}
-use Rattle.rh_line.proofs.Queues.{total_push}
-use Rattle.rh_shell.specs.declared.answers.Count.{Count}
 use Rattle.rh_shell.specs.declared.answers.Refused.TheVariants as refused
-use Rattle.rh_shell.specs.declared.due.Due.{Due}
-use Rattle.rh_shell.specs.declared.due.Origin.TheVariants.{Forwarded}
-use Rattle.rh_shell.specs.Rules.{Row, Packet}
-use Rattle.rh_shell.specs.Waiting.{Waiting, better, edge_of, merged, takes}
 use Rattle.rh_shell.specs.Waiting as waits
-use Rattle.rh_outproxy.specs.declared.state.Answer.{Answer}
+use Rattle.rh_outproxy.specs.Acknowledging.{ack_by}
 use Rattle.rh_outproxy.specs.declared.state.Answer.TheVariants as answers
-use Rattle.rh_outproxy.specs.declared.state.Channel.{Channel}
 use Rattle.rh_outproxy.specs.declared.state.Channel.TheVariants as channels
-use Rattle.rh_outproxy.specs.declared.state.Mark.{Mark}
 use Rattle.rh_outproxy.specs.declared.state.Mark.TheVariants as marks
-use Rattle.rh_outproxy.specs.declared.state.ServerLeg.{ServerLeg}
-use Rattle.rh_outproxy.specs.OutProxy.{OutProxy, is_client_marked, is_successor, is_known, is_server_down, joined}
-use Rattle.rh_outproxy.specs.Rows.{Done, is_second, refuse, same_cookie, forwarded, forwarded_by, is_carrying, passed_on, taken, takes_pdus, unexpected}
-use Rattle.rh_outproxy.specs.Opening.{conn_c1_by, opened}
-use Rattle.rh_outproxy.specs.Acknowledging.{ack_by, ack_row, acked, admitted, line_row, on_ack, on_ack_to, on_pdu}
-use Rattle.rh_outproxy.specs.Machine.{on_co, on_os}
 use Rattle.rh_outproxy.specs.Putting as putting
-use Rattle.rh_outproxy.specs.Putting.{Pick, or_else, out_response, behind_response}
+use Rattle.law_moves.proofs.Vocabulary.{ack_verdict, after_acked, by_test, Cookie, TO_OUT_PROXY, Named, total_push, Incoming, Line, after_admit, channel_verdict, total, LineFault, Current, Count, Due, Forwarded, Row, Packet, Waiting, better, edge_of, merged, takes}
+use Rattle.law_role_outproxy.proofs.Vocabulary.{Answer, Channel, Mark, ServerLeg, OutProxy, is_client_marked, is_successor, is_known, is_server_down, joined, Done, is_second, refuse, same_cookie, forwarded, forwarded_by, is_carrying, passed_on, taken, takes_pdus, unexpected, conn_c1_by, opened, ack_row, acked, admitted, line_row, on_ack, on_ack_to, on_pdu, on_co, on_os}
+use Rattle.law_role_outproxy.proofs.Counted.OutProxyOwes.{is_response_due}
 use Rattle.law_world_bodies.proofs.Sizes.{size}
 
 -- ---- what is held
@@ -81,10 +57,6 @@ is_early answer server = is_server_down server || is_opening answer
 abbrev pub is_risen : Answer → Bool
 is_risen answers.Put = true
 is_risen answer = is_opening answer
-
-abbrev pub is_response_due : Answer → Bool
-is_response_due answers.ResponseDue = true
-is_response_due answer = false
 
 abbrev pub is_timeout_due : Answer → Bool
 is_timeout_due answers.TimeoutDue = true

@@ -1,46 +1,21 @@
 -- the lifetime that an out proxy tells a server: once, and without the bytes of CONN/A3 where no
 -- OUT_R1/A3 came, whatever moves came
-use Rattle.std.proofs.Common.{◌≡◌, ℕ, ◌+◌, ◌*◌, ◌-◌, ◌≤◌, ◌&&◌, Bool, true, false, IsTrue, nat_le, if◌then◌else◌, List, [], ◌∷◌, length, Some, None, Ok, Err, arith, rules, refl, sym, ap, ◌∙◌, subst}
-use Rattle.std.specs.Prelude.{IfSome}
-use Rattle.std.specs.declared.option.Option.{Option}
-use Rattle.std.specs.declared.result.Result.{Result}
-use Rattle.std.proofs.lemmas.Bool.{and_parts}
-use Rattle.rh_window.specs.Sending.{may_send}
-use Rattle.rh_window.specs.declared.recv_window.Ack.{Ack}
-use Rattle.law_order.proofs.ByNumber.{by_test}
-use Rattle.rh_rts.specs.declared.command.Cookie.{Cookie}
-use Rattle.rh_sig.specs.declared.named.Named.{Named}
+use Rattle.law_order.proofs.Vocabulary.{◌≡◌, ℕ, ◌+◌, ◌*◌, ◌-◌, ◌≤◌, ◌&&◌, Bool, true, false, IsTrue, nat_le, if◌then◌else◌, List, [], ◌∷◌, length, Some, None, Ok, Err, arith, rules, refl, sym, ap, ◌∙◌, subst, IfSome, Option, Result, and_parts}
 use Rattle.rh_sig.specs.declared.named.Named.TheVariants as named
-use Rattle.rh_http.specs.declared.fault.HttpFault.{HttpFault}
-use Rattle.rh_http.specs.Heads.Verdicts.{Asked, request_verdict}
-use Rattle.rh_line.specs.declared.leg.Leg.{Leg}
-use Rattle.rh_line.specs.Lines.{is_empty}
-use Rattle.rh_shell.specs.declared.answers.Count.{Count}
-use Rattle.rh_shell.specs.declared.due.Due.{Due}
-use Rattle.rh_shell.specs.Rules.{Message, Text, Pdu, Packet}
-use Rattle.rh_shell.specs.Shells.{same_leg}
-use Rattle.rh_shell.specs.Waiting.{Waiting}
 use Rattle.rh_shell.specs.Waiting as waits
-use Rattle.rh_outproxy.specs.declared.state.Answer.{Answer}
 use Rattle.rh_outproxy.specs.declared.state.Answer.TheVariants as answers
-use Rattle.rh_outproxy.specs.declared.state.Channel.{Channel}
 use Rattle.rh_outproxy.specs.declared.state.Channel.TheVariants as channels
 use Rattle.rh_outproxy.specs.declared.state.ClientLeg.TheVariants as clients
-use Rattle.rh_outproxy.specs.declared.state.OutProxyConfig.{OutProxyConfig}
-use Rattle.rh_outproxy.specs.declared.state.ServerLeg.{ServerLeg}
 use Rattle.rh_outproxy.specs.declared.state.ServerLeg.TheVariants as servers
-use Rattle.rh_outproxy.specs.OutProxy.{OutProxy, is_client_down, is_client_marked, is_due, is_echo_put, is_known, is_ping_due, is_server_down, is_server_first, is_successor, joined, new_proxy}
-use Rattle.rh_outproxy.specs.Rows.{Done, forwarded, forwarded_by, is_co, is_os, is_second, taken, unexpected}
-use Rattle.rh_outproxy.specs.Opening.{conn_c1_by, first_packet, head_by, opened, wants}
-use Rattle.rh_outproxy.specs.Acknowledging.{ack_due, on_pdu}
 use Rattle.rh_outproxy.specs.Machine as machine
 use Rattle.rh_outproxy.specs.Putting as putting
-use Rattle.rh_outproxy.specs.Putting.{Pick, ack_by, answer_by, first_by, next_co, next_os, or_else, pdu_by, ping_room, put_ack, put_answer, put_end, put_first, put_handover, put_mark, put_pdu, put_ping, put_waiting, waiting_by}
-use Rattle.law_moves.specs.Moves.{Move, Up, HeadCame, PduCame, PacketCame, Puts, IsDrawn, Marks, Pings, MayMove, OnLeg, Passage, AreAllowed, all_moved, moved, put_by, started, taken_by}
-use Rattle.law_moves.specs.Wires.{of_leg}
+use Rattle.law_moves.proofs.Vocabulary.{may_send, Ack, by_test, Cookie, Named, HttpFault, Asked, request_verdict, Leg, is_empty, Count, Due, Message, Text, Pdu, Packet, same_leg, Waiting, Move, Up, HeadCame, PduCame, PacketCame, Puts, IsDrawn, Marks, Pings, MayMove, OnLeg, Passage, AreAllowed, all_moved, moved, put_by, started, taken_by, of_leg}
+use Rattle.law_role_outproxy.proofs.Vocabulary.{Answer, Channel, OutProxyConfig, ServerLeg, OutProxy, is_client_down, is_client_marked, is_due, is_echo_put, is_known, is_ping_due, is_server_down, is_server_first, is_successor, joined, new_proxy, Done, forwarded, forwarded_by, is_co, is_os, is_second, taken, unexpected, conn_c1_by, first_packet, head_by, opened, wants, ack_due, on_pdu, Pick, ack_by, answer_by, first_by, next_co, next_os, or_else, pdu_by, ping_room, put_ack}
+use Rattle.law_role_outproxy.proofs.Vocabulary.{put_answer, put_end, put_first, put_handover, put_mark, put_pdu, put_ping, put_waiting, waiting_by}
 use Rattle.law_role_outproxy.proofs.OrderKept.{starts, step}
 use Rattle.law_role_outproxy.proofs.ProxyLaw.{Law}
-use Rattle.law_world_bodies.proofs.OutMoves.{at_client, at_server, co, os, sum, sum_here, sum_other, wanted}
+use Rattle.law_role_outproxy.proofs.Counted.OutProxyOwes.{co_at as co, os_at as os}
+use Rattle.law_world_bodies.proofs.OutMoves.{at_client, at_server, sum, sum_here, sum_other, wanted}
 use Rattle.law_world_bodies.proofs.ServerMoves.{allowing}
 
 -- ---- what is told

@@ -1,8 +1,7 @@
 -- the OUT legs that a server keeps: what was put on each, and the room that its meter leaves, is
 -- within what it was allowed
-use Rattle.std.proofs.Common.{◌≡◌, ◌≢◌, ℕ, zero, suc, ◌+◌, ◌<◌, ◌≤◌, List, [], ◌∷◌, ◌++◌, remove, Some, arith, sym, ap, ◌∙◌, subst}
-use Rattle.std.specs.Prelude.{slice_get, slice_set}
-use Rattle.rh_server.specs.declared.state.OutLeg.{OutLeg}
+use Rattle.law_order.proofs.Vocabulary.{◌≡◌, ◌≢◌, ℕ, zero, suc, ◌+◌, ◌<◌, ◌≤◌, List, [], ◌∷◌, ◌++◌, remove, Some, arith, sym, ap, ◌∙◌, subst, slice_get, slice_set}
+use Rattle.law_role_server.proofs.Vocabulary.{OutLeg}
 use Rattle.law_world_bodies.proofs.ClientRooms.{room_in}
 
 -- by the number of a leg, in bytes

@@ -1,49 +1,20 @@
 -- an out proxy puts no more to its client than came from the server, but for CONN/A3 and Pings,
 -- whatever moves came
-use Rattle.std.proofs.Common.{◌≡◌, ℕ, ◌+◌, ◌*◌, ◌≤◌, Bool, true, false, ◌&&◌, ◌||◌, IsTrue, nat_le, if◌then◌else◌, List, [], ◌∷◌, ◌++◌, length, Some, None, Ok, Err, arith, refl, sym, ap, ◌∙◌, subst}
-use Rattle.std.specs.declared.result.Result.{Result}
-use Rattle.std.proofs.lemmas.Bool.{and_parts}
-use Rattle.law_order.proofs.ByNumber.{by_test}
-use Rattle.rh_sig.specs.declared.named.Named.{Named}
-use Rattle.rh_http.specs.declared.fault.HttpFault.{HttpFault}
-use Rattle.rh_http.specs.Lengths.{greatest_echo}
-use Rattle.rh_http.specs.Heads.Verdicts.{Asked, request_verdict}
-use Rattle.rh_line.specs.declared.leg.Leg.{Leg}
-use Rattle.rh_line.specs.declared.leg.LegKind.TheVariants.{ClientOut, OutServer}
-use Rattle.rh_shell.specs.declared.answers.Behind.TheVariants.{Frames, PassedOver}
-use Rattle.rh_shell.specs.declared.answers.Count.{Count}
-use Rattle.rh_shell.specs.declared.answers.HeadRefused.{HeadRefused}
-use Rattle.rh_shell.specs.declared.answers.HeadTaken.{HeadTaken}
-use Rattle.rh_shell.specs.Rules.{Message, Text, Pdu, Packet}
-use Rattle.rh_shell.specs.Shells.{same_leg}
-use Rattle.rh_outproxy.specs.declared.state.Answer.{Answer}
+use Rattle.law_order.proofs.Vocabulary.{◌≡◌, ℕ, ◌+◌, ◌*◌, ◌≤◌, Bool, true, false, ◌&&◌, ◌||◌, IsTrue, nat_le, if◌then◌else◌, List, [], ◌∷◌, ◌++◌, length, Some, None, Ok, Err, arith, refl, sym, ap, ◌∙◌, subst, Result, and_parts}
 use Rattle.rh_outproxy.specs.declared.state.Answer.TheVariants as answers
 use Rattle.rh_outproxy.specs.declared.state.ClientLeg.TheVariants as clients
-use Rattle.rh_outproxy.specs.declared.state.OutProxyConfig.{OutProxyConfig}
-use Rattle.rh_outproxy.specs.declared.state.Ping.TheVariants.{Due}
 use Rattle.rh_outproxy.specs.declared.state.ServerLeg.TheVariants as servers
-use Rattle.rh_outproxy.specs.OutProxy.{OutProxy, is_client_down, is_echo_put, is_known, is_server_down, new_proxy}
-use Rattle.rh_outproxy.specs.Rows.{Done, is_co, is_os, unexpected}
-use Rattle.rh_outproxy.specs.Opening.{head_by, wants}
-use Rattle.rh_outproxy.specs.Acknowledging.{on_pdu}
 use Rattle.rh_outproxy.specs.Machine as machine
 use Rattle.rh_outproxy.specs.Putting as putting
-use Rattle.rh_outproxy.specs.Putting.{Pick}
-use Rattle.law_moves.specs.Moves.{Move, Up, HeadCame, PduCame, PacketCame, Puts, IsDrawn, Marks, Pings, MayMove, OnLeg, Passage, AreAllowed, all_moved, moved, put_by, started, taken_by}
-use Rattle.law_moves.specs.Wires.{of_leg}
-use Rattle.law_node_history.proofs.Wired.{same_itself}
+use Rattle.law_moves.proofs.Vocabulary.{by_test, Named, HttpFault, greatest_echo, Asked, request_verdict, Leg, Frames, PassedOver, Count, HeadRefused, HeadTaken, Message, Text, Pdu, Packet, same_leg, Move, Up, HeadCame, PduCame, PacketCame, Puts, IsDrawn, Marks, Pings, MayMove, OnLeg, Passage, AreAllowed, all_moved, moved, put_by, started, taken_by, of_leg}
+use Rattle.law_moves.proofs.Lemmas.{leg_is, other_more as of_other, leg_more as one_more}
+use Rattle.law_node_history.proofs.Lemmas.{same_itself}
+use Rattle.law_role_outproxy.proofs.Vocabulary.{Answer, OutProxyConfig, Due, OutProxy, is_client_down, is_echo_put, is_known, is_server_down, new_proxy, Done, is_co, is_os, unexpected, head_by, wants, on_pdu, Pick}
 use Rattle.law_role_outproxy.proofs.OrderKept.{starts, step}
 use Rattle.law_role_outproxy.proofs.ProxyLaw.{Law}
-use Rattle.law_node_streams.proofs.Streams.Ends.{leg_is}
-use Rattle.law_node_streams.proofs.Streams.LegLogs.{of_other, one_more}
-use Rattle.law_world_bodies.proofs.OutBooks.{Books, RowKeeps, asks, co_keeps, goes_on, is_opening, is_response_due, is_risen, is_timeout_due, os_keeps, pdu_keeps, same}
+use Rattle.law_role_outproxy.proofs.Counted.OutProxyOwes.{os_at as os, co_at as co, is_response_due}
+use Rattle.law_world_bodies.proofs.OutBooks.{Books, RowKeeps, asks, co_keeps, goes_on, is_opening, is_risen, is_timeout_due, os_keeps, pdu_keeps, same}
 use Rattle.law_world_bodies.proofs.OutPuts.{ToClient, ToServer, behind, client_keeps, server_keeps}
-
-abbrev pub co : ℕ → Leg
-co n = record { kind = ClientOut; number = n }
-
-abbrev pub os : ℕ → Leg
-os n = record { kind = OutServer; number = n }
 
 -- ---- sums over what stands on a leg
 

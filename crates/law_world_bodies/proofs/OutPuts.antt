@@ -1,44 +1,23 @@
 -- what an out proxy puts to its client it held, or CONN/A1 came for it, or it is a Ping
-use Rattle.std.proofs.Common.{◌≡◌, ℕ, ◌+◌, ◌*◌, ◌≤◌, Bool, true, false, ◌&&◌, ◌||◌, nat_le, List, [], ◌∷◌, length, Some, None, arith, refl, sym, ap, ◌∙◌, subst}
-use Rattle.std.proofs.lemmas.Bool.{and_parts}
-use Rattle.std.proofs.lemmas.Bool.Decides.{nat_tests}
-use Rattle.std.specs.Prelude.{IfSome}
-use Rattle.std.specs.declared.option.Option.{Option}
-use Rattle.rh_window.specs.Sending.{after_sent, may_send}
-use Rattle.rh_window.specs.declared.recv_window.Ack.{Ack}
-use Rattle.law_order.proofs.ByNumber.{by_test}
-use Rattle.rh_rts.specs.declared.command.Cookie.{Cookie}
-use Rattle.rh_sig.specs.declared.named.Named.{Named}
-use Rattle.rh_line.specs.Lines.{Line, after_take, after_told, is_empty, moved_on, released, taken}
-use Rattle.rh_line.specs.Queue.{total}
-use Rattle.rh_line.specs.declared.which.Which.TheVariants.{Current}
-use Rattle.rh_shell.specs.declared.due.Due.{Due}
-use Rattle.rh_shell.specs.Rules.{Message, Text, Pdu, Packet}
-use Rattle.rh_shell.specs.Waiting.{with_due}
-use Rattle.rh_outproxy.specs.declared.state.Answer.{Answer}
+use Rattle.law_order.proofs.Vocabulary.{◌≡◌, ℕ, ◌+◌, ◌*◌, ◌≤◌, Bool, true, false, ◌&&◌, ◌||◌, nat_le, List, [], ◌∷◌, length, Some, None, arith, refl, sym, ap, ◌∙◌, subst, and_parts, nat_tests, IfSome, Option}
+use Rattle.rh_line.specs.Lines.{taken}
 use Rattle.rh_outproxy.specs.declared.state.Answer.TheVariants as answers
-use Rattle.rh_outproxy.specs.declared.state.Channel.{Channel}
 use Rattle.rh_outproxy.specs.declared.state.Channel.TheVariants as channels
-use Rattle.rh_outproxy.specs.declared.state.Mark.{Mark}
 use Rattle.rh_outproxy.specs.declared.state.Mark.TheVariants as marks
 use Rattle.rh_outproxy.specs.declared.state.ServerLeg.TheVariants as servers
-use Rattle.rh_outproxy.specs.OutProxy.{OutProxy, is_due, is_known, is_ping_due, is_server_down, is_server_first, joined}
-use Rattle.rh_outproxy.specs.Opening.{first_packet}
-use Rattle.rh_outproxy.specs.Acknowledging.{ack_due}
 use Rattle.rh_outproxy.specs.Putting as putting
-use Rattle.rh_outproxy.specs.Putting.{Pick, or_else, out_response, behind_response}
+use Rattle.law_moves.proofs.Vocabulary.{after_sent, may_send, Ack, by_test, Cookie, Named, Line, after_take, after_told, is_empty, moved_on, released, total, Current, Due, Message, Text, Pdu, Packet, with_due}
+use Rattle.law_node_causes.proofs.Sorts.{or_true}
+use Rattle.law_role_outproxy.proofs.Vocabulary.{Answer, Channel, Mark, OutProxy, is_due, is_known, is_ping_due, is_server_down, is_server_first, joined, first_packet, ack_due, Pick, or_else, behind_response}
+use Rattle.law_role_outproxy.proofs.Counted.OutProxyOwes.{is_response_due}
 use Rattle.law_world_bodies.proofs.Sizes.{size}
-use Rattle.law_world_bodies.proofs.OutBooks.{Books, due_sizes, held, is_early, is_new, is_response_due, is_risen, is_timeout_due, mark_size, moves_on, same}
+use Rattle.law_world_bodies.proofs.OutBooks.{Books, due_sizes, held, is_early, is_new, is_risen, is_timeout_due, mark_size, moves_on, same}
 
 -- the bytes of a message behind the head
 abbrev pub behind : Message → ℕ
 behind (Text text) = 0
 behind (Pdu pdu) = size (Pdu pdu)
 behind (Packet packet) = size (Packet packet)
-
-or_true : (b : Bool) → (b || true) ≡ true
-or_true true = refl
-or_true false = refl
 
 not_true : (b : Bool) → b ≡ false → b ≡ true → ⊥
 not_true true e t = absurd (cc)

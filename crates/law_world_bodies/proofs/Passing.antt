@@ -1,10 +1,6 @@
 -- what comes on a leg is in sum no more than what was put there
-use Rattle.std.proofs.Common.{◌≡◌, ℕ, ◌+◌, ◌≤◌, List, [], ◌∷◌, ◌++◌, arith, ap}
-use mathlib.Core.List.{IsPrefix}
-use Rattle.rh_shell.specs.Hearing.{is_ping}
-use Rattle.law_order.proofs.ByNumber.{by_test}
-use Rattle.rh_shell.specs.Rules.{Message, Text, Pdu, Packet}
-use Rattle.law_moves.specs.ReadBack.Reading.{all_read_of, read_of}
+use Rattle.law_order.proofs.Vocabulary.{◌≡◌, ℕ, ◌+◌, ◌≤◌, List, [], ◌∷◌, ◌++◌, arith, ap, IsPrefix}
+use Rattle.law_moves.proofs.Vocabulary.{by_test, is_ping, Message, Text, Pdu, Packet, all_read_of, read_of}
 use Rattle.law_world_bodies.proofs.OutMoves.{sum}
 
 sum_append : (f : Message → ℕ) (a b : List Message) → sum f (a ++ b) ≡ sum f a + sum f b

@@ -1,44 +1,19 @@
 -- what an out proxy drew on its client's leg is no response that is too long
-use Rattle.std.proofs.Common.{◌≡◌, ℕ, suc, ◌+◌, ◌≤◌, ◌==◌, ◌⊎◌, inl, inr, List, [], ◌∷◌, ◌++◌, append_assoc, length, length-append, Some, Ok, Err, arith, refl, sym, ap, ◌∙◌, subst}
-use Rattle.std.specs.List.{AllByRecursion}
-use Rattle.std.specs.declared.option.Option.{Option}
-use Rattle.std.specs.declared.result.Result.{Result}
-use Rattle.std.proofs.lemmas.List.{append-nil}
-use mathlib.Core.List.{IsPrefix}
-use Rattle.rh_http.specs.declared.fault.HttpFault.{HttpFault}
-use Rattle.rh_http.specs.declared.refusal.Refusal.{Refusal}
-use Rattle.rh_http.specs.declared.response.Response.{Response}
-use Rattle.rh_http.specs.Texts.{IsToldAs, refusal_text, response_text, status_of}
-use Rattle.rh_http.proofs.WrittenResponses.{refusal_told, response_told}
-use Rattle.rh_http.specs.Heads.Verdicts.{response_verdict}
-use Rattle.rh_sig.specs.declared.name.Pipe.{Pipe}
-use Rattle.rh_sig.specs.declared.name.Pipe.TheVariants.{CoD}
-use Rattle.rh_line.specs.declared.leg.Leg.{Leg}
-use Rattle.rh_line.specs.declared.leg.LegKind.{LegKind}
-use Rattle.rh_line.specs.declared.leg.LegKind.TheVariants.{ClientOut, OutServer, ClientIn, InServer}
-use Rattle.law_order.proofs.ByNumber.{by_test}
-use Rattle.law_order.proofs.Prefixes.{prefix_trans}
-use Rattle.rh_shell.specs.declared.answers.HeadRefused.{HeadRefused}
-use Rattle.rh_shell.specs.declared.answers.HeadTaken.{HeadTaken}
-use Rattle.law_moves.specs.Carrying.{spelled}
-use Rattle.rh_shell.specs.Intakes.{is_whole_head}
-use Rattle.rh_shell.specs.Rules.{Message, Text, Pdu, Packet}
+use Rattle.std.proofs.Common.{length-append}
+use Rattle.law_order.proofs.Vocabulary.{◌≡◌, ℕ, suc, ◌+◌, ◌≤◌, ◌==◌, ◌⊎◌, inl, inr, List, [], ◌∷◌, ◌++◌, append_assoc, length, Some, Ok, Err, arith, refl, sym, ap, ◌∙◌, subst, AllByRecursion, Option, Result, append-nil, IsPrefix}
 use Rattle.rh_client.specs.Client as client
-use Rattle.rh_client.specs.Opening.{head_by, opened_by, success}
-use Rattle.rh_outproxy.specs.declared.state.OutProxyConfig.{OutProxyConfig}
-use Rattle.law_role_outproxy.specs.Legible.{IsConfig}
-use Rattle.rh_outproxy.specs.Putting.{ping_room}
-use Rattle.law_moves.specs.Legible.Legible.{MayGoOn}
-use Rattle.law_moves.specs.ReadBack.Reading.{AreNoTexts, Begins, IsWholeText}
+use Rattle.law_moves.proofs.Vocabulary.{by_test, prefix_trans, Pipe, CoD, refusal_told, response_told, HttpFault, Refusal, Response, IsToldAs, refusal_text, response_text, status_of, response_verdict, Leg, LegKind, ClientOut, OutServer, ClientIn, InServer, HeadRefused, HeadTaken, is_whole_head, Message, Text, Pdu, Packet, spelled, MayGoOn, AreNoTexts, Begins, IsWholeText}
+use Rattle.law_role_client.proofs.Vocabulary.{head_by, opened_by, success}
+use Rattle.law_role_outproxy.proofs.Vocabulary.{OutProxyConfig, ping_room, IsConfig}
 use Rattle.law_node_streams.specs.Streams.{IsDrawn}
 use Rattle.law_world_order.proofs.FirstTexts.OutTexts.{IsSuccess, Succeeds}
 use Rattle.law_world_order.proofs.FirstTexts.Requests.{same_head}
 use Rattle.law_world_order.proofs.FirstTexts.Told.{front_told, told_length}
-use Rattle.law_world_bodies.specs.Behind.{HasBody}
 use Rattle.law_world_bodies.proofs.Lengths.{length_of}
 use Rattle.law_world_bodies.proofs.OutMoves.{sum}
 use Rattle.law_world_bodies.proofs.OutPuts.{behind}
 use Rattle.law_world_bodies.proofs.Sizes.{spelled_total, total}
+use Rattle.law_world_bodies.specs.Behind.{HasBody}
 
 -- ---- a response that a client took
 

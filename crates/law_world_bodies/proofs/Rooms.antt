@@ -1,10 +1,8 @@
 -- how much room is left of the length that a head told: on the channels of one direction at a
 -- client, the one in use and its successor while it is replaced
-use Rattle.std.proofs.Common.{◌≡◌, ◌≢◌, ◌⊎◌, ℕ, suc, ◌+◌, ◌<◌, ◌≤◌, Bool, true, false, List, [], ◌∷◌, ◌++◌, inl, inr, arith, sym, subst}
-use Rattle.std.proofs.lemmas.Bool.{cases_lt, cases_eq}
-use Rattle.law_order.specs.Logs.{more}
-use Rattle.law_order.proofs.ByNumber.{more_here, more_other}
-use Rattle.rh_shell.specs.Rules.{Message, Text, Pdu, Packet}
+use Rattle.law_order.proofs.Vocabulary.{◌≡◌, ◌≢◌, ◌⊎◌, ℕ, suc, ◌+◌, ◌<◌, ◌≤◌, Bool, true, false, List, [], ◌∷◌, ◌++◌, inl, inr, arith, sym, subst, cases_lt, cases_eq, more}
+use Rattle.law_moves.proofs.Vocabulary.{more_here, more_other, Message, Text, Pdu, Packet}
+use Rattle.law_node_begins.proofs.EndsBegin.Stands.{NumberLogs, EndsAt}
 use Rattle.law_world_bodies.proofs.Sizes.{size, total, total_push}
 
 -- its number, whether its head was put, and the room that is left
@@ -21,14 +19,6 @@ pub record Front : Type 0 where
   -- it is replaced, by the next one
   pub replaced : Bool
   pub next : Channel
-
--- what stands on the leg of each number
-abbrev pub NumberLogs : Type 0
-NumberLogs = ℕ → List Message
-
--- nothing stands above this number
-abbrev pub EndsAt : ℕ → NumberLogs → Type 0
-EndsAt n logs = (k : ℕ) → n < k → logs k ≡ []
 
 -- for heads that tell lengths, and the greatest of these
 module _ (Tells : ℕ → List ℕ → Type 0) (most : ℕ) where

@@ -1,70 +1,33 @@
 -- what is fed to a node closes it with no body that is too long
-use Rattle.std.proofs.Common.{◌≡◌, ℕ, suc, List, ◌++◌, refl, sym, ap, ◌∙◌, subst}
-use Rattle.std.specs.Prelude.{Some, None}
-use Rattle.std.specs.declared.option.Option.{Option}
-use mathlib.Core.List.{IsPrefix}
-use Rattle.rh_http.specs.declared.config.ClientConfig.{ClientConfig}
-use Rattle.rh_text.specs.declared.ends.Dir.{Dir}
-use Rattle.rh_text.specs.declared.ends.Dir.TheVariants.{U, D}
-use Rattle.rh_sig.specs.declared.name.Pipe.{Pipe}
-use Rattle.rh_line.specs.declared.cause.Cause.{Cause}
+use Rattle.rh_text.specs.declared.ends.Side.TheVariants as side
+use Rattle.law_order.proofs.Vocabulary.{◌≡◌, ℕ, suc, List, ◌++◌, refl, sym, ap, ◌∙◌, subst, Some, None, Option, IsPrefix}
 use Rattle.rh_line.specs.declared.cause.Cause.TheVariants as cause
-use Rattle.rh_line.specs.declared.leg.Leg.{Leg}
-use Rattle.rh_line.specs.declared.leg.LegKind.{LegKind}
-use Rattle.rh_line.specs.declared.leg.LegKind.TheVariants.{ClientOut, OutServer, ClientIn, InServer}
-use Rattle.law_order.proofs.Prefixes.{prefix_trans}
-use Rattle.rh_record.specs.declared.answer.Who.{Who}
 use Rattle.rh_record.specs.declared.answer.Who.TheVariants as who
 use Rattle.rh_shell.specs.declared.stage.Stage.TheVariants as stage
-use Rattle.law_moves.specs.Carrying.{spelled}
-use Rattle.rh_shell.specs.Intakes.{is_whole_head}
-use Rattle.law_moves.specs.Moves.{EndMove, EndPassage}
-use Rattle.law_moves.specs.Moving.{Event, after_end_events, after_events}
-use Rattle.rh_shell.specs.NearEnds.{first_stage}
-use Rattle.rh_shell.specs.Rules.{Rules}
-use Rattle.rh_shell.specs.Shells.{Shell, begun}
-use Rattle.law_moves.specs.Wires.{of_leg}
-use Rattle.rh_nodes.specs.declared.event.Event as told_event
-use Rattle.rh_nodes.specs.declared.event.Event.TheVariants.{Comes}
-use Rattle.rh_nodes.specs.declared.place.Place.{Place}
-use Rattle.rh_nodes.specs.declared.place.Place.TheVariants.{Absent, Here, Gone}
-use Rattle.rh_nodes.specs.Company as company
-use Rattle.rh_nodes.specs.Opening.{Makers}
-use Rattle.rh_nodes.specs.Places as places
-use Rattle.rh_nodes.specs.Readers.{reader_of}
-use Rattle.rh_nodes.specs.Settling.{leg_at}
-use Rattle.rh_nodes.specs.Wires.{receiver, sender}
-use Rattle.rh_nodes.specs.World.{World, at, node_by}
-use Rattle.rh_client.specs.declared.state.ClientRole.{ClientRole}
-use Rattle.rh_client.specs.Client as client
-use Rattle.law_role_client.specs.Order.{AreAllowedMoves, client_moved}
-use Rattle.law_role_client.specs.Legible.{pipe_put}
 use Rattle.rh_inproxy.specs.Machine as in_proxy
-use Rattle.rh_inproxy.specs.State.{InProxy}
-use Rattle.rh_outproxy.specs.declared.out_proxy.TheConstants.{ROOMS}
 use Rattle.rh_outproxy.specs.Machine as out_proxy
-use Rattle.rh_outproxy.specs.OutProxy.{OutProxy, new_proxy}
+use Rattle.rh_client.specs.Client as client
 use Rattle.rh_server.specs.Servers as server
-use Rattle.rh_server.specs.States.{Server}
+use Rattle.rh_company.specs.declared.event.Event as told_event
+use Rattle.rh_company.specs.Company as company
+use Rattle.rh_company.specs.Places as places
+use Rattle.law_moves.proofs.Vocabulary.{Dir, U, D, prefix_trans, Pipe, ClientConfig, Cause, Leg, LegKind, ClientOut, OutServer, ClientIn, InServer, is_whole_head, first_stage, Rules, Shell, begun, spelled, EndMove, EndPassage, Event, after_end_events, after_events, of_leg, AllMayGo, IsWholeText}
+use Rattle.law_role_inproxy.proofs.Vocabulary.{InProxy}
+use Rattle.law_role_client.proofs.Vocabulary.{ClientRole, AreAllowedMoves, client_moved, pipe_put}
+use Rattle.law_role_server.proofs.Vocabulary.{Server}
+use Rattle.law_node_history.proofs.Vocabulary.{Who, reader_of, receiver, sender, Comes, Place, Absent, Here, Gone, Makers, leg_at, World, at, node_by, IsTraced, drawn_by, end_drawn_on, end_node, events_of, happened, heard_on, IsFed, ClosesNode, History, IsRun, at_place, in_place, made_by, noted, out_place, told_to}
+use Rattle.law_node_history.proofs.Lemmas.{happened_more, answered}
 use Rattle.law_node_causes.specs.Closings.{ClosesWith}
-use Rattle.law_node_history.specs.Carried.{IsTraced, drawn_by, end_drawn_on, end_node, events_of, happened, heard_on}
-use Rattle.law_node_history.specs.Changes.{IsFed}
-use Rattle.law_node_history.specs.Closes.{ClosesNode}
-use Rattle.law_node_history.proofs.Appended.{happened_more}
-use Rattle.rh_text.specs.declared.ends.Side.TheVariants as side
-use Rattle.law_node_history.specs.Histories.{History, IsRun, at_place, in_place, made_by, noted, out_place, told_to}
-use Rattle.law_node_history.proofs.Numbers.{answered}
-use Rattle.law_moves.specs.Legible.Legible.{AllMayGo}
-use Rattle.law_moves.specs.ReadBack.Reading.{IsWholeText}
+use Rattle.law_role_outproxy.proofs.Vocabulary.{ROOMS, OutProxy, new_proxy}
 use Rattle.law_node_begins.specs.ProxiesBegin.Pipes as pipes
+use Rattle.law_node_traces.proofs.Vocabulary.{AreOurs, deeds, rules}
 use Rattle.law_peers_routes.specs.Downwards as down
-use Rattle.law_node_traces.specs.Traced.Ours.{AreOurs, deeds, rules}
-use Rattle.law_world_order.specs.Flows.{IsFlowing, numbers_of}
 use Rattle.law_world_order.proofs.Heard.{from_client, node_reads, reads_on}
+use Rattle.law_world_order.proofs.Vocabulary.{IsFlowing, numbers_of}
 use Rattle.law_world_honest.proofs.Honesty.Fed.{fed_piece, hears_is, told_what, told_who}
+use Rattle.law_world_bodies.proofs.Fits.{fits_not}
 use Rattle.law_world_bodies.specs.Behind.{HasBody, TakesHead}
 use Rattle.law_world_bodies.specs.Bodies.{KeepsLength, RequestTells}
-use Rattle.law_world_bodies.proofs.Fits.{fits_not}
 
 -- ---- the laws that this stands on
 

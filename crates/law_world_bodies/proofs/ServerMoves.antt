@@ -1,36 +1,17 @@
 -- what a server puts on its OUT legs is within the lifetimes that were told there, whatever moves
 -- came
-use Rattle.std.proofs.Common.{◌≡◌, ℕ, ◌+◌, ◌≤◌, ◌==◌, ◌&&◌, Bool, true, false, List, [], ◌∷◌, ◌++◌, Some, None, Ok, Err, arith, rules, refl, sym, ◌∙◌, subst}
-use mathlib.Core.Path.{fun_ext}
-use Rattle.std.specs.Prelude.{IfSome}
-use Rattle.std.specs.declared.option.Option.{Option}
-use Rattle.std.specs.declared.result.Result.{Result}
-use Rattle.std.proofs.lemmas.Bool.{and_parts}
-use Rattle.rh_sig.specs.declared.named.Named.{Named}
-use Rattle.rh_window.specs.declared.recv_window.Ack.{Ack}
-use Rattle.rh_line.specs.declared.leg.LegKind.{LegKind}
-use Rattle.rh_line.specs.declared.leg.LegKind.TheVariants.{ClientOut, OutServer, ClientIn, InServer}
-use Rattle.law_order.proofs.ByNumber.{by_test, change_here, change_other, other_number, same_number, test_other}
-use Rattle.rh_shell.specs.declared.answers.Count.{Count}
-use Rattle.rh_shell.specs.declared.end_role.GiveRefused.{GiveRefused}
-use Rattle.rh_shell.specs.Rules.{Message, Text, Pdu, Packet}
-use Rattle.law_moves.specs.Moves as moves
-use Rattle.law_moves.specs.Moves.{OnLeg, Passage, EndPassage, EndMove, Up, HeadCame, PduCame, PacketCame, Puts, IsDrawn, Marks, Pings, Moves, Gives, Takes, Closes, Recycles, AreAllowedAtEnd, all_end_moved, end_moved, end_now_at, end_started, given_by, put_by, taken_by, with_first}
-use Rattle.law_moves.specs.Wires.{of_leg}
-use Rattle.rh_server.specs.declared.state.InLeg.{InLeg}
-use Rattle.rh_server.specs.declared.state.Leaving.{Leaving}
+use Rattle.law_order.proofs.Vocabulary.{◌≡◌, ℕ, ◌+◌, ◌≤◌, ◌==◌, ◌&&◌, Bool, true, false, List, [], ◌∷◌, ◌++◌, Some, None, Ok, Err, arith, rules, refl, sym, ◌∙◌, subst, IfSome, Option, Result, and_parts, fun_ext}
+use Rattle.rh_server.specs.Servers.{pdu_by}
 use Rattle.rh_server.specs.declared.state.Leaving.TheVariants as leaving
-use Rattle.rh_server.specs.declared.state.Tells.{Tells}
 use Rattle.rh_server.specs.declared.state.Tells.TheVariants as tells
-use Rattle.rh_server.specs.States.{Server, in_leg, is_due, is_open, is_waiting, out_place, removed_at, stays, without_in, without_out}
-use Rattle.rh_server.specs.Opening.{Done, has_room, may_up_by, out_leg_up, up_by}
-use Rattle.rh_server.specs.InReplacement.{take}
-use Rattle.rh_server.specs.Ending.{drawn_by, give, in_is_drawn, lost_in, mark_by, settled, with_ack_dropped}
 use Rattle.rh_server.specs.Putting as putting
-use Rattle.rh_server.specs.Putting.{Pick, ack_due, next_in, or_else, put_ack, put_ack_by, put_b1, put_b1_by, put_in_by, put_in_greeting, put_tells, put_tells_by, told_by, was_current}
-use Rattle.rh_server.specs.Servers.{acts, first, on_is, on_os, packet, packet_by, pdu, pdu_by}
 use Rattle.rh_server.specs.Servers as server
-use Rattle.law_world_bodies.proofs.OutMoves.{os, passes, sum, sum_here, sum_other}
+use Rattle.law_moves.proofs.Vocabulary.{Ack, by_test, change_here, change_other, other_number, same_number, test_other, Named, LegKind, ClientOut, OutServer, ClientIn, InServer, Count, GiveRefused, Message, Text, Pdu, Packet, OnLeg, Passage, EndPassage, EndMove, Up, HeadCame, PduCame, PacketCame, Puts, IsDrawn, Marks, Pings, Moves, Gives, Takes, Closes, Recycles, all_end_moved, end_moved, end_now_at, end_started, given_by, put_by, taken_by, with_first, of_leg}
+use Rattle.law_moves.specs.Moves as moves
+use Rattle.law_role_server.proofs.Vocabulary.{InLeg, Leaving, Tells, Server, in_leg, is_due, is_open, is_waiting, out_place, removed_at, stays, without_in, without_out, Done, has_room, may_up_by, out_leg_up, up_by, take, drawn_by, give, in_is_drawn, lost_in, mark_by, settled, with_ack_dropped, Pick, ack_due, or_else, put_ack, put_ack_by, put_b1, put_b1_by, put_in_by, put_in_greeting, put_tells, put_tells_by, told_by, was_current, acts, first, on_is, on_os, packet, packet_by}
+use Rattle.law_role_server.proofs.Vocabulary.{pdu}
+use Rattle.law_role_outproxy.proofs.Counted.OutProxyOwes.{os_at as os}
+use Rattle.law_world_bodies.proofs.OutMoves.{passes, sum, sum_here, sum_other}
 use Rattle.law_world_bodies.proofs.OutLegs.{Amounts, AreRoomy, push_roomy, remove_roomy}
 use Rattle.law_world_bodies.proofs.ServerSame.{Outs, give_same, outs_of, pdu_same, recycle_same, settled_same, take_same}
 use Rattle.law_world_bodies.proofs.ServerRooms.{AreWithin, Roomy, RowKeeps, allows, bump, is_keeps, os_keeps, out_keeps}

@@ -1,41 +1,17 @@
 -- what a server puts on its OUT legs is within the lifetimes that were told there
-use Rattle.std.proofs.Common.{◌≡◌, ℕ, ◌+◌, ◌-◌, ◌≤◌, ◌==◌, ◌&&◌, Bool, true, false, not, if◌then◌else◌, List, [], ◌∷◌, length, Some, None, Ok, Err, arith, refl, sym, ap, ◌∙◌, subst}
-use Rattle.std.specs.Prelude.{IfSome, find, get_or, slice_get, slice_set}
-use Rattle.std.specs.declared.option.Option.{Option}
-use Rattle.std.proofs.lemmas.Bool.{and_parts}
-use Rattle.std.proofs.lemmas.Bool.Decides.{nat_tests}
-use Rattle.std.proofs.lemmas.List.Quantifiers.{position-Some}
-use Rattle.std.proofs.lemmas.Option.{get_or_from_slice_get, slice_get-get_or}
-use Rattle.rh_window.specs.Sending.{may_send}
-use Rattle.rh_keep.specs.Meters.{fits, may_put, started}
-use Rattle.law_order.specs.Logs.{change}
-use Rattle.law_order.proofs.ByNumber.{by_test, change_here, change_other, other_number, same_number}
-use Rattle.rh_rts.specs.declared.command.Cookie.{Cookie}
-use Rattle.rh_sig.specs.declared.named.Named.{Named}
+use Rattle.rh_keep.specs.Meters.{started}
+use Rattle.law_order.proofs.Vocabulary.{◌≡◌, ℕ, ◌+◌, ◌-◌, ◌≤◌, ◌==◌, ◌&&◌, Bool, true, false, not, if◌then◌else◌, List, [], ◌∷◌, length, Some, None, Ok, Err, arith, refl, sym, ap, ◌∙◌, subst, IfSome, find, get_or, slice_get, slice_set, Option, and_parts, nat_tests, position-Some, slice_get-get_or, change}
 use Rattle.rh_sig.specs.declared.named.Named.TheVariants as named
-use Rattle.rh_line.specs.Queue.{front_length}
-use Rattle.rh_shell.specs.declared.answers.Count.{Count}
 use Rattle.rh_shell.specs.declared.answers.Refused.TheVariants as refused
-use Rattle.rh_shell.specs.declared.due.Due.{Due}
-use Rattle.rh_shell.specs.Hearing.{greeting as greeting_text}
-use Rattle.rh_shell.specs.NearEnds.{first_of}
-use Rattle.rh_shell.specs.Rules.{Message, Row, Text, Pdu, Packet}
-use Rattle.rh_shell.specs.Waiting.{Waiting, taken}
 use Rattle.rh_server.specs.declared.out_line.Kind.TheVariants as kind
 use Rattle.rh_server.specs.declared.state.EndMark.TheVariants as end_mark
 use Rattle.rh_server.specs.declared.state.Greeting.TheVariants as greeting
-use Rattle.rh_server.specs.declared.state.OutLeg.{OutLeg}
-use Rattle.rh_server.specs.declared.state.Stage.{Stage}
 use Rattle.rh_server.specs.declared.state.Stage.TheVariants as stage
-use Rattle.rh_server.specs.OutLines.{lets, lets_packet, waits}
-use Rattle.rh_server.specs.OutLegs.{acked, counted, went}
-use Rattle.rh_server.specs.States.{Server, is_due, is_open, out_at, out_cookie, out_place, same_cookie}
-use Rattle.rh_server.specs.Opening.{Done, conn_a2_at, first_out_at, is_first, on_conn_a2, opens, out_leg_up, refuse, took, unexpected, with_first_out, with_out_channel}
-use Rattle.rh_server.specs.Acknowledging.{acked_at, acked_cookie, acked_in, on_ack}
-use Rattle.rh_server.specs.OutReplacement.{answered, answered_by, answered_on, may_answer, on_out_r1_a4, out_r1_a4_at, out_r1_a4_by}
 use Rattle.rh_server.specs.Putting as putting
-use Rattle.rh_server.specs.Putting.{Pick, counts, counts_at, gate, gate_at, goes, is_end_due, may_end_at, may_go_at, next_out, or_else, pdu_by, put_end, put_open, put_out_at, put_out_place, put_pdu, put_pdu_or_end, put_waiting, settled_pick, waiting_at, waiting_by, was_put, went_at, with_out}
-use Rattle.rh_server.specs.Servers.{on_is, on_os}
+use Rattle.law_moves.proofs.Vocabulary.{may_send, fits, may_put, by_test, change_here, change_other, other_number, same_number, Cookie, Named, front_length, Count, Due, greeting as greeting_text, first_of, Message, Row, Text, Pdu, Packet, Waiting, taken}
+use Rattle.law_role_server.proofs.Vocabulary.{OutLeg, Stage, lets, lets_packet, waits, acked, counted, went, Server, is_due, is_open, out_at, out_cookie, out_place, same_cookie, Done, conn_a2_at, first_out_at, is_first, on_conn_a2, opens, out_leg_up, refuse, took, unexpected, with_first_out, with_out_channel, acked_at, acked_cookie, acked_in, on_ack, answered, answered_by, answered_on, may_answer, on_out_r1_a4, out_r1_a4_at, out_r1_a4_by, Pick, counts, counts_at, gate}
+use Rattle.law_role_server.proofs.Vocabulary.{gate_at, goes, is_end_due, may_end_at, may_go_at, next_out, or_else, pdu_by, put_end, put_open, put_out_at, put_out_place, put_pdu, put_pdu_or_end, put_waiting, settled_pick, waiting_at, waiting_by, was_put, went_at, with_out, on_is, on_os}
+use Rattle.law_role_server.proofs.Gives.{found as number_at}
 use Rattle.law_world_bodies.proofs.ClientRooms.{room_in}
 use Rattle.law_world_bodies.proofs.OutMoves.{passes}
 use Rattle.law_world_bodies.proofs.OutLegs.{Amounts, AreRoomy, room_of, set_roomy, set_same, wider_roomy}
@@ -61,14 +37,6 @@ allows (named.OutR1A4 version connection predecessor successor lifetime window t
 allows packet = 0
 
 -- ---- steps
-
-number_at : (n : ℕ) (legs : List OutLeg) (place : ℕ) (leg : OutLeg)
-    → out_place n legs ≡ Some place → slice_get legs place ≡ Some leg → leg.number ≡ n
-number_at n legs place leg found at =
-    let test = position-Some (λ (l : OutLeg). l.number == n) legs place leg found in
-    same_number leg.number n
-    (ap (λ (l : OutLeg). l.number == n) (sym (get_or_from_slice_get legs place leg leg at))
-    ∙ test.1)
 
 find_passes : {X : Type 0} (test : X → Bool) (xs : List X) (x : X) → find test xs ≡ Some x
     → test x ≡ true
@@ -177,13 +145,6 @@ module _ (put may : Amounts) where
   stays : (n add : ℕ) (t : Server) (row : Row) → Roomy put may t → RowKeeps n add (t, row)
   stays n add t (Ok taken) k = widen n add t k
   stays n add t (Err why) k = k
-
-  any_row : (n add : ℕ) (d : Done) → Roomy put may d.0 → RowKeeps n add d
-  any_row n add (t, row) k = stays n add t row k
-
-  same_row : (n add : ℕ) (s : Server) (d : Done) → outs_of d.0 ≡ outs_of s → Roomy put may s
-      → RowKeeps n add d
-  same_row n add s d e k = any_row n add d (subst (AreWithin put may) (sym e) k)
 
   -- CONN/A2
   first_out_keeps : (s : Server) (cookie : Cookie) (lifetime window : ℕ) → Roomy put may s

@@ -1,14 +1,7 @@
 -- what a server does that leaves its OUT legs as they are
-use Rattle.std.proofs.Common.{◌≡◌, ℕ, List, rules}
-use Rattle.rh_rts.specs.declared.command.Cookie.{Cookie}
-use Rattle.rh_shell.specs.declared.answers.Count.{Count}
-use Rattle.rh_server.specs.declared.state.OutLeg.{OutLeg}
-use Rattle.rh_server.specs.States.{Server, without_in}
-use Rattle.rh_server.specs.Opening.{on_conn_b2}
-use Rattle.rh_server.specs.Ending.{give, on_end_a2, settled}
-use Rattle.rh_server.specs.Acknowledging.{on_ack_to, on_pdu}
-use Rattle.rh_server.specs.InReplacement.{on_in_r1_a2, on_in_r1_a6, on_in_r2_a2, take}
-use Rattle.rh_server.specs.OutReplacement.{on_out_r1_a8, recycle}
+use Rattle.law_order.proofs.Vocabulary.{◌≡◌, ℕ, List, rules}
+use Rattle.law_moves.proofs.Vocabulary.{Cookie, Count}
+use Rattle.law_role_server.proofs.Vocabulary.{OutLeg, Server, on_conn_b2, give, on_end_a2, settled, on_ack_to, on_pdu, on_in_r1_a2, on_in_r1_a6, on_in_r2_a2, take, on_out_r1_a8, recycle}
 
 -- the legs, and the newest number
 pub record Outs : Type 0 where
@@ -63,6 +56,3 @@ in_r2_a2_same s n count successor = search rules
 pub end_a2_same : (s : Server) (n : ℕ) (count : Count)
     → outs_of (on_end_a2 s n count).0 ≡ outs_of s
 end_a2_same s n count = search rules
-
-pub lost_in_same : (s : Server) (n : ℕ) → outs_of (without_in s n) ≡ outs_of s
-lost_in_same s n = search rules

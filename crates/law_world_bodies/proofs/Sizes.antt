@@ -1,20 +1,8 @@
 -- the bytes of messages, as their commands tell them (MS-RPCH 2.2.3.5)
-use Rattle.std.proofs.Common.{◌≡◌, ℕ, ◌+◌, List, [], ◌∷◌, ◌++◌, length, length-append, arith, refl}
-use Rattle.std.specs.Prelude.{Some, None}
-use Rattle.std.specs.List.{AllByRecursion}
-use Rattle.std.specs.declared.option.Option.{Option}
-use Rattle.rh_rts.specs.declared.command.Command.{Command}
+use Rattle.std.proofs.Common.{length-append}
+use Rattle.law_order.proofs.Vocabulary.{◌≡◌, ℕ, ◌+◌, List, [], ◌∷◌, ◌++◌, length, arith, refl, Some, None, AllByRecursion, Option}
 use Rattle.rh_rts.specs.declared.command.Command.TheVariants as commands
-use Rattle.rh_rts.specs.Commands.{spelling, spellings, address_bytes, HasSize, HaveSizes}
-use Rattle.rh_rts.specs.Packets.{packet_bytes}
-use Rattle.rh_rts.proofs.OneReading.{sized}
-use Rattle.rh_sig.specs.declared.name.Pipe.{Pipe}
-use Rattle.rh_sig.specs.declared.named.Named.{Named}
-use Rattle.rh_sig.specs.Naming.{named_bytes}
-use Rattle.rh_sig.specs.Values.{commands_of, parts_of}
-use Rattle.rh_shell.specs.Rules.{Message, Text, Pdu, Packet, spell}
-use Rattle.law_moves.specs.Carrying.{spelled}
-use Rattle.law_moves.specs.Legible.Legible.{MayGo, MayGoOn}
+use Rattle.law_moves.proofs.Vocabulary.{sized, Command, spelling, spellings, address_bytes, HasSize, HaveSizes, packet_bytes, Pipe, Named, named_bytes, commands_of, parts_of, Message, Text, Pdu, Packet, spell, spelled, MayGo, MayGoOn}
 
 -- ---- of commands
 

@@ -1,21 +1,14 @@
 -- where a head is waited for, a node holds all that it heard: its stream says so
-use Rattle.std.proofs.Common.{◌≡◌, List, [], ◌∷◌, ◌++◌, append_assoc, true, false, Some, refl, sym, ap, ◌∙◌, subst}
-use Rattle.std.specs.declared.option.Option.{Option}
-use Rattle.rh_sig.specs.declared.name.Pipe.{Pipe}
-use Rattle.rh_line.specs.declared.leg.Leg.{Leg}
-use Rattle.rh_shell.specs.declared.course.Course.TheVariants.{Going}
-use Rattle.rh_shell.specs.declared.rooms.Rooms.{Rooms}
-use Rattle.rh_shell.specs.declared.stage.Stage.{Stage}
-use Rattle.rh_shell.specs.NearEnds.{NearEnd, is_over}
-use Rattle.rh_shell.specs.Rules.{Rules, Acts}
-use Rattle.rh_shell.specs.Shells.{Shell, begun, end_at}
+use Rattle.law_order.proofs.Vocabulary.{◌≡◌, List, [], ◌∷◌, ◌++◌, true, false, Some, refl, sym, ap, ◌∙◌, subst, Option}
+use Rattle.law_moves.proofs.Vocabulary.{Pipe, Leg, Going, Rooms, Stage, NearEnd, is_over, Rules, Acts, Shell, begun, end_at, Event, EndEvent, after_events, after_end_events, begin, reading, reading_after}
 use Rattle.law_moves.specs.Moving as moving
-use Rattle.law_moves.specs.Moving.{Event, EndEvent, after_event, after_events, after_end_event, after_end_events}
-use Rattle.law_moves.specs.ReadBack.Reading.{begin, reading, reading_after}
-use Rattle.law_node_history.specs.Carried.{AreAccepted, AreAcceptedAtEnd, ComesUpOnce, ComesUpOnceAtEnd, happened, heard_on}
-use Rattle.law_node_streams.specs.Streams.{EndStream, HasPipes, HearsInTurn, NeverRefuses, StaysUnused, StaysUnusedAtEnd, Stream, is_live}
+use Rattle.law_node_history.proofs.Vocabulary.{AreAccepted, AreAcceptedAtEnd, ComesUpOnce, ComesUpOnceAtEnd, happened, heard_on}
 use Rattle.law_node_streams.proofs.Streams.Heads.{waited}
+use Rattle.law_node_streams.proofs.Grown.Ends.{turn_front as turns_front}
+use Rattle.law_node_streams.specs.Streams.{EndStream, HasPipes, HearsInTurn, NeverRefuses, StaysUnused, StaysUnusedAtEnd, Stream, is_live}
 use Rattle.law_world_order.proofs.Flowing.{EndStreams, NodeStreams}
+use Rattle.law_world_honest.proofs.Refusals.ClosedClients.{accepted_front as end_accepted_front}
+use Rattle.law_world_honest.proofs.Refusals.Fronts.{accepted_front}
 use Rattle.law_world_bodies.proofs.NodeCounts.{AreBehind, Heards, WaitsAt, end_events_behind, events_behind}
 
 -- ---- by what is read
@@ -35,25 +28,6 @@ waits_by rules pipe heard s reads leg end going at on st =
     record { head = w.head; held_is = w.held_is; none = w.none }
 
 -- ---- what holds of all events holds of those at the front
-
-pub accepted_front : {S : Type 0} (rules : Rules S) (s : Shell S) (front back : List Event)
-    → AreAccepted rules s (front ++ back) → AreAccepted rules s front
-accepted_front rules s [] back all = tt
-accepted_front rules s (event ∷ front) back all =
-    (all.0, accepted_front rules (after_event rules s event) front back all.1)
-
-pub end_accepted_front : {S : Type 0} (rules : Rules S) (acts : Acts S) (s : Shell S)
-    (front back : List EndEvent) → AreAcceptedAtEnd rules acts s (front ++ back)
-    → AreAcceptedAtEnd rules acts s front
-end_accepted_front rules acts s [] back all = tt
-end_accepted_front rules acts s (event ∷ front) back all =
-    (all.0, end_accepted_front rules acts (after_end_event rules acts s event) front back all.1)
-
-pub turns_front : (front back : List Event) → HearsInTurn (front ++ back) → HearsInTurn front
-turns_front front back turns before behind leg piece split =
-    turns before (behind ++ back) leg piece
-    (ap (λ (x : List Event). x ++ back) split
-    ∙ append_assoc before (moving.Hears leg piece ∷ behind) back)
 
 -- what happened in all events begins with what happened in those
 happened_front : (front back : List EndEvent)

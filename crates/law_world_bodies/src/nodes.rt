@@ -9,7 +9,7 @@ ghost use Rattle.rh_line.specs.declared.leg.Leg.{Leg};
 ghost use Rattle.rh_shell.specs.declared.rooms.Rooms.{Rooms};
 ghost use Rattle.rh_shell.specs.NearEnds.{NearEnd};
 ghost use Rattle.rh_shell.specs.Shells.{begun, end_at};
-ghost use Rattle.rh_nodes.specs.declared.event.Event.TheVariants.{Comes};
+ghost use Rattle.rh_company.specs.declared.event.Event.TheVariants.{Comes};
 ghost use Rattle.law_moves.specs.Moving.{EndEvent, Event, after_end_events, after_events};
 ghost use Rattle.law_node_history.specs.Carried.{AreAccepted, AreAcceptedAtEnd, ComesUpOnce};
 ghost use Rattle.law_node_history.specs.Carried.{ComesUpOnceAtEnd, happened, heard_on};

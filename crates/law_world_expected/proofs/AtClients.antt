@@ -1,61 +1,36 @@
 -- whatever a change of a world is, it closes no out proxy since what its client put was not to come
 -- there
-use Rattle.std.proofs.Common.{◌≡◌, ℕ, List, refl, sym, ◌∙◌, subst}
-use Rattle.std.specs.Prelude.{Some, None}
-use Rattle.rh_text.specs.declared.ends.Dir.{Dir}
-use Rattle.rh_text.specs.declared.ends.Dir.TheVariants.{U, D}
-use Rattle.rh_sig.specs.declared.name.Pipe.TheVariants.{CoU}
-use Rattle.rh_http.specs.declared.config.ClientConfig.{ClientConfig}
-use Rattle.rh_line.specs.declared.cause.Cause.{Cause}
-use Rattle.rh_line.specs.declared.leg.Leg.{Leg}
-use Rattle.rh_line.specs.declared.leg.LegKind.TheVariants.{ClientOut}
+use Rattle.law_order.proofs.Vocabulary.{◌≡◌, ℕ, List, refl, sym, ◌∙◌, subst, Some, None}
 use Rattle.rh_record.specs.declared.answer.Who.TheVariants as who
-use Rattle.rh_shell.specs.declared.answers.Refused.{Refused}
-use Rattle.rh_shell.specs.Shells.{Shell}
-use Rattle.rh_shell.specs.Shells.{end_at}
-use Rattle.rh_inproxy.specs.State.{InProxy}
 use Rattle.rh_outproxy.specs.Machine as out_proxy
-use Rattle.rh_outproxy.specs.OutProxy.{OutProxy}
-use Rattle.rh_client.specs.declared.state.ClientRole.{ClientRole}
-use Rattle.rh_client.specs.State.{co}
-use Rattle.rh_server.specs.States.{Server}
-use Rattle.rh_nodes.specs.declared.event.Event.{Event}
-use Rattle.rh_nodes.specs.declared.event.Event.TheVariants.{Comes}
-use Rattle.rh_nodes.specs.declared.place.Place.{Place}
-use Rattle.rh_nodes.specs.declared.place.Place.TheVariants.{Absent, Here, Gone}
-use Rattle.rh_nodes.specs.Company as company
-use Rattle.rh_nodes.specs.Legs as legs
-use Rattle.rh_nodes.specs.Opening.{Makers}
-use Rattle.rh_nodes.specs.Places as places
-use Rattle.rh_nodes.specs.Wires.{receiver}
-use Rattle.rh_nodes.specs.World.{World, at}
-use Rattle.law_moves.specs.Moves.{EndPassage}
-use Rattle.law_moves.specs.Wires.{of_leg}
-use Rattle.law_moves.specs.ReadBack.Reading.{all_read_of}
-use Rattle.law_moves.specs.Moves.{EndMove}
-use Rattle.law_role_client.specs.Order.{AreAllowedMoves, client_moved}
-use Rattle.law_node_history.specs.Changes.{Change, IsFed, MayChange}
-use Rattle.law_node_history.specs.Closes.{ClosesNode}
-use Rattle.law_node_history.specs.Histories.{out_place}
-use Rattle.law_node_history.proofs.Numbers.{answered}
+use Rattle.rh_wires.specs.Legs as legs
+use Rattle.rh_company.specs.Company as company
+use Rattle.rh_company.specs.Places as places
+use Rattle.law_moves.proofs.Vocabulary.{Dir, U, D, CoU, ClientConfig, Cause, Leg, ClientOut, Refused, Shell, end_at, EndPassage, of_leg, all_read_of, EndMove}
+use Rattle.law_role_inproxy.proofs.Vocabulary.{InProxy}
+use Rattle.law_role_client.proofs.Vocabulary.{ClientRole, co, AreAllowedMoves, client_moved}
+use Rattle.law_role_server.proofs.Vocabulary.{Server}
+use Rattle.law_node_history.proofs.Vocabulary.{receiver, Event, Comes, Place, Absent, Here, Gone, Makers, World, at, Change, IsFed, MayChange, ClosesNode, out_place}
+use Rattle.law_node_history.proofs.Lemmas.{answered}
 use Rattle.law_node_causes.specs.Closings.{ClosesWith}
+use Rattle.law_role_outproxy.proofs.Vocabulary.{OutProxy}
 use Rattle.law_role_client_rows.specs.InTurn.Pings.{BeginsWithoutPing}
 use Rattle.law_peers_moments.specs.Expecting.{Expects, HasNoPingFirst, IsAmiss}
-use Rattle.law_node_traces.specs.Traced.Cookies.{ByChanges}
-use Rattle.law_node_traces.specs.Traced.Ours.{AreOurs, deeds, rules}
+use Rattle.law_node_traces.proofs.Vocabulary.{ByChanges, AreOurs, deeds, rules}
 use Rattle.law_world_order.proofs.Legs.{Reads}
-use Rattle.law_world_honest.specs.Honesty.Honest.{well_on}
 use Rattle.law_world_honest.proofs.Honesty.Closing.{IsOfPiece, by_fed}
 use Rattle.law_world_honest.proofs.Honesty.Fed.{told_what, told_who}
+use Rattle.law_world_honest.specs.Honesty.Honest.{well_on}
 use Rattle.law_world_windows.proofs.Moment.{Laws, well_behind}
 use Rattle.law_world_windows.proofs.Stopping.{Readings}
-use Rattle.law_world_expected.specs.Amiss.{amiss_by}
+use Rattle.law_world_windows.proofs.Closing.{out_number}
 use Rattle.law_world_expected.proofs.Amiss.Next.{never_amiss}
 use Rattle.law_world_expected.proofs.Amiss.AtNodes.{RolesKnow, out_amiss}
 use Rattle.law_world_expected.proofs.Amiss.Moments.{AllFlow, flowing, out_shell}
-use Rattle.law_world_expected.specs.Roles.{OutsServe}
-use Rattle.law_world_expected.proofs.Closing.{NamesLeg, NodesLaws, out_number}
+use Rattle.law_world_expected.proofs.Closing.{NamesLeg, NodesLaws}
 use Rattle.law_world_expected.proofs.Facts.{no_ping}
+use Rattle.law_world_expected.specs.Amiss.{amiss_by}
+use Rattle.law_world_expected.specs.Roles.{OutsServe}
 
 abbrev pub PutsNoPingFirst : Type 0
 PutsNoPingFirst =

@@ -1,68 +1,40 @@
 -- whatever a change of a world is, it closes no node since what came was not to come there, as far
 -- as its role expects what comes at each moment
-use Rattle.std.proofs.Common.{◌≡◌, ◌≤◌, ℕ, zero, suc, List, arith, refl, sym, ◌∙◌, subst}
-use Rattle.std.specs.Prelude.{Some, None}
-use Rattle.rh_text.specs.declared.ends.Dir.{Dir}
-use Rattle.rh_text.specs.declared.ends.Dir.TheVariants.{U, D}
-use Rattle.rh_sig.specs.declared.name.Pipe.TheVariants.{CiU, IsU, IsD, CoU, OsU, OsD}
-use Rattle.rh_line.specs.declared.cause.Cause.{Cause}
-use Rattle.rh_line.specs.declared.leg.Leg.{Leg}
-use Rattle.rh_line.specs.declared.leg.LegKind.{LegKind}
-use Rattle.rh_line.specs.declared.leg.LegKind.TheVariants.{ClientOut, OutServer, ClientIn, InServer}
-use Rattle.rh_record.specs.declared.answer.Who.{Who}
+use Rattle.law_order.proofs.Vocabulary.{◌≡◌, ◌≤◌, ℕ, zero, suc, List, arith, refl, sym, ◌∙◌, subst, Some, None}
 use Rattle.rh_record.specs.declared.answer.Who.TheVariants as who
-use Rattle.rh_shell.specs.declared.answers.Refused.{Refused}
-use Rattle.rh_shell.specs.Rules.{Rules}
-use Rattle.rh_shell.specs.Shells.{Shell}
 use Rattle.rh_inproxy.specs.Machine as in_proxy
-use Rattle.rh_inproxy.specs.State.{InProxy}
 use Rattle.rh_outproxy.specs.Machine as out_proxy
-use Rattle.rh_outproxy.specs.OutProxy.{OutProxy}
-use Rattle.rh_client.specs.declared.state.ClientRole.{ClientRole}
 use Rattle.rh_client.specs.Client as client
-use Rattle.rh_client.specs.State.{ci, co}
 use Rattle.rh_server.specs.Servers as server
-use Rattle.rh_server.specs.States.{Server}
-use Rattle.rh_nodes.specs.declared.event.Event.{Event}
-use Rattle.rh_nodes.specs.declared.event.Event.TheVariants.{Comes}
-use Rattle.rh_nodes.specs.declared.place.Place.{Place}
-use Rattle.rh_nodes.specs.declared.place.Place.TheVariants.{Absent, Here, Gone}
-use Rattle.rh_nodes.specs.Company as company
-use Rattle.rh_nodes.specs.Legs as legs
-use Rattle.rh_nodes.specs.Opening.{Makers}
-use Rattle.rh_nodes.specs.Places as places
-use Rattle.rh_nodes.specs.Readers.{reader_of}
-use Rattle.rh_nodes.specs.Settling.{leg_at}
-use Rattle.rh_nodes.specs.Wires.{receiver}
-use Rattle.rh_nodes.specs.World.{World, at}
-use Rattle.law_moves.specs.Moves.{EndPassage, Passage}
-use Rattle.law_moves.specs.Wires.{of_leg}
-use Rattle.law_moves.specs.ReadBack.Reading.{all_read_of}
-use Rattle.law_node_history.specs.Changes.{Change, IsFed, MayChange}
-use Rattle.law_node_history.specs.Closes.{ClosesNode}
-use Rattle.law_node_history.specs.Histories.{in_place, out_place}
-use Rattle.law_node_history.proofs.Numbers.{answered}
+use Rattle.rh_wires.specs.Legs as legs
+use Rattle.rh_company.specs.Company as company
+use Rattle.rh_company.specs.Places as places
+use Rattle.law_moves.proofs.Vocabulary.{Dir, U, D, CiU, IsU, IsD, CoU, OsU, OsD, Cause, Leg, LegKind, ClientOut, OutServer, ClientIn, InServer, Refused, Rules, Shell, EndPassage, Passage, of_leg, all_read_of}
+use Rattle.law_role_inproxy.proofs.Vocabulary.{InProxy}
+use Rattle.law_role_client.proofs.Vocabulary.{ClientRole, ci, co}
+use Rattle.law_role_server.proofs.Vocabulary.{Server}
+use Rattle.law_node_history.proofs.Vocabulary.{Who, reader_of, receiver, Event, Comes, Place, Absent, Here, Gone, Makers, leg_at, World, at, Change, IsFed, MayChange, ClosesNode, in_place, out_place}
+use Rattle.law_node_history.proofs.Lemmas.{answered}
 use Rattle.law_node_causes.specs.Closings.{ClosesWith, MayClose}
 use Rattle.law_node_causes.specs.Reasons.{ComesAmiss}
+use Rattle.law_role_outproxy.proofs.Vocabulary.{OutProxy}
 use Rattle.law_peers_moments.specs.Expecting.{Expects, HasNoPingFirst, IsAmiss}
 use Rattle.law_peers_moments.specs.Moments.{Moves, Numbers, in_behind, out_behind, server_behind}
-use Rattle.law_node_traces.specs.Traced.Cookies.{ByChanges}
-use Rattle.law_node_traces.specs.Traced.Ours.{AreOurs, deeds, rules}
-use Rattle.law_node_traces.specs.Traced.Recordings.{history_at}
-use Rattle.law_world_order.specs.Flows.{IsFlowing, numbers_of}
+use Rattle.law_node_traces.proofs.Vocabulary.{ByChanges, AreOurs, deeds, rules, history_at}
 use Rattle.law_world_order.proofs.Legs.{Reads}
-use Rattle.law_world_order.specs.Pasts.{moves_of, numbers}
-use Rattle.law_world_honest.specs.Honesty.Honest.{well_on}
+use Rattle.law_world_order.proofs.Vocabulary.{IsFlowing, numbers_of, moves_of, numbers}
 use Rattle.law_world_honest.proofs.Honesty.Closing.{EachComes, IsOfPiece, by_fed}
 use Rattle.law_world_honest.proofs.Honesty.Fed.{told_what, told_who}
-use Rattle.law_world_windows.specs.Hops.{is_leg, os_leg}
+use Rattle.law_world_honest.specs.Honesty.Honest.{well_on}
 use Rattle.law_world_windows.proofs.Moment.{Laws, NodeLaws, well_behind}
 use Rattle.law_world_windows.proofs.Stopping.{Readings}
-use Rattle.law_world_expected.specs.Amiss.{amiss_by}
+use Rattle.law_world_windows.proofs.Closing.{in_number, out_number}
+use Rattle.law_world_windows.specs.Hops.{is_leg, os_leg}
 use Rattle.law_world_expected.proofs.Amiss.AtNodes.{RolesKnow, in_next, out_next, server_next}
 use Rattle.law_world_expected.proofs.Amiss.Moments.{AllFlow, OfStreams, flowing, flows, story, world}
 use Rattle.law_world_expected.proofs.Amiss.Next.{never_amiss}
 use Rattle.law_world_expected.proofs.Facts.{IsKept}
+use Rattle.law_world_expected.specs.Amiss.{amiss_by}
 use Rattle.law_world_expected.specs.Roles.{Facts, InExpectsClient, InExpectsServer, OutExpectsClient, OutExpectsServer, Premise, ServerExpectsIn, ServerExpectsOut}
 
 -- ---- the laws that this stands on
@@ -95,12 +67,6 @@ abbrev pub NamesLeg : Leg → Cause → Type 1
 NamesLeg l why =
     (S : Type 0) (its : Rules S) (node : Shell S) (leg : Leg) (piece : List ℕ)
     → ComesAmiss its node leg piece why → l ≡ leg
-
-in_number : (a b : ℕ) → who.In a ≡ who.In b → a ≡ b
-in_number a b e = cc
-
-pub out_number : (a b : ℕ) → who.Out a ≡ who.Out b → a ≡ b
-out_number a b e = cc
 
 module _ {K : Type 0} (roles : RolesKnow) (nodes : NodesLaws) (reads : Reads) (readings : Readings)
     (m : Makers K InProxy OutProxy) (w : World K ClientRole Server InProxy OutProxy)

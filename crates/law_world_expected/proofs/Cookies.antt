@@ -1,48 +1,29 @@
 -- whatever a change of a world is, it closes its client for no cookie
-use Rattle.std.proofs.Common.{◌≡◌, ◌⊎◌, inl, inr, ℕ, List, refl, sym, subst}
-use Rattle.std.specs.Prelude.{Some, Err}
-use Rattle.std.specs.declared.option.Option.{Option}
-use Rattle.rh_text.specs.declared.ends.Dir.{Dir}
-use Rattle.rh_rts.specs.declared.command.Cookie.{Cookie}
-use Rattle.rh_sig.specs.declared.name.Pipe.{Pipe}
-use Rattle.rh_http.specs.declared.config.ClientConfig.{ClientConfig}
-use Rattle.rh_line.specs.declared.cause.Cause.{Cause}
+use Rattle.law_order.proofs.Vocabulary.{◌≡◌, ◌⊎◌, inl, inr, ℕ, List, refl, sym, subst, Some, Err, Option}
 use Rattle.rh_line.specs.declared.cause.Cause.TheVariants as cause
-use Rattle.rh_line.specs.declared.leg.Leg.{Leg}
 use Rattle.rh_record.specs.declared.answer.Who.TheVariants as who
-use Rattle.rh_shell.specs.declared.answers.Count.{Count}
-use Rattle.rh_shell.specs.declared.answers.Refused.{Refused}
 use Rattle.rh_shell.specs.declared.answers.Refused.TheVariants as refused
-use Rattle.rh_shell.specs.Rules.{Message, Text, Pdu, Packet}
-use Rattle.rh_inproxy.specs.State.{InProxy}
-use Rattle.rh_outproxy.specs.OutProxy.{OutProxy}
-use Rattle.rh_client.specs.declared.state.ClientRole.{ClientRole}
 use Rattle.rh_client.specs.Client as client
 use Rattle.rh_client.specs.State as client_state
-use Rattle.rh_server.specs.States.{Server}
-use Rattle.rh_nodes.specs.declared.event.Event.{Event}
-use Rattle.rh_nodes.specs.declared.event.Event.TheVariants.{Comes}
-use Rattle.rh_nodes.specs.Company as company
-use Rattle.rh_nodes.specs.Legs as legs
-use Rattle.rh_nodes.specs.Opening.{Makers}
-use Rattle.rh_nodes.specs.Wires.{receiver}
-use Rattle.rh_nodes.specs.World.{World, at}
-use Rattle.law_moves.specs.Moves.{AreAllowedAtEnd, EndMove, EndPassage, Passage, all_end_moved, end_started}
-use Rattle.law_node_history.specs.Changes.{Change, IsFed, MayChange}
-use Rattle.law_node_history.specs.Closes.{ClosesNode}
+use Rattle.rh_company.specs.Company as company
+use Rattle.law_moves.proofs.Vocabulary.{Dir, Cookie, Pipe, ClientConfig, Cause, Leg, Count, Refused, Message, Text, Pdu, Packet, AreAllowedAtEnd, EndMove, EndPassage, Passage, all_end_moved, end_started}
+use Rattle.law_role_inproxy.proofs.Vocabulary.{InProxy}
+use Rattle.law_role_client.proofs.Vocabulary.{ClientRole}
+use Rattle.law_role_server.proofs.Vocabulary.{Server}
+use Rattle.law_node_history.proofs.Vocabulary.{receiver, Event, Makers, World, at, Change, IsFed, MayChange, ClosesNode}
+use Rattle.law_role_outproxy.proofs.Vocabulary.{OutProxy}
 use Rattle.law_role_client_rows.specs.Refusing.{Refuses}
-use Rattle.law_node_traces.specs.Traced.Cookies.{ByChanges}
-use Rattle.law_node_traces.specs.Traced.Ours.{AreOurs, deeds, rules}
-use Rattle.law_world_order.specs.Flows.{numbers_of}
+use Rattle.law_node_traces.proofs.Vocabulary.{ByChanges, AreOurs, deeds, rules}
 use Rattle.law_world_order.proofs.Legs.{Reads}
-use Rattle.law_world_honest.specs.Honesty.Honest.{well_on}
+use Rattle.law_world_order.proofs.Vocabulary.{numbers_of}
 use Rattle.law_world_honest.proofs.Honesty.Closing.{EachComes, by_fed}
 use Rattle.law_world_honest.proofs.Honesty.Fed.{told_what, told_who}
+use Rattle.law_world_honest.specs.Honesty.Honest.{well_on}
 use Rattle.law_world_windows.proofs.Moment.{Laws, NodeLaws, well_behind}
 use Rattle.law_world_windows.proofs.Stopping.{Readings}
-use Rattle.law_world_expected.specs.Amiss.{RefusesBy}
 use Rattle.law_world_expected.proofs.Amiss.Moments.{AllFlow, OfStreams, client_then, flows}
 use Rattle.law_world_expected.proofs.Amiss.Stops.{PingsFirst, RefusesAhead}
+use Rattle.law_world_expected.specs.Amiss.{RefusesBy}
 
 -- ---- the laws that this stands on
 
@@ -93,9 +74,6 @@ module _ {K : Type 0} (laws : ClientLaws) (reads : Reads) (readings : Readings)
 
   flow : AllFlow m w ours any
   flow u by_then = record { flows = law.flowing u by_then; holds = tt }
-
-  event : Leg → Dir → ℕ → Event
-  event leg dir count = Comes leg (legs.take_out leg dir count v.legs).1
 
   module _ (l : Leg) (expected got : Cookie) where
     abbrev why : Cause

@@ -1,12 +1,9 @@
 -- a close of any node, on any leg: of the kinds of legs that it has, or none
-use Rattle.std.proofs.Common.{◌≡◌, inl, inr, ℕ, ap, subst}
-use Rattle.rh_line.specs.declared.leg.Leg.{Leg}
-use Rattle.rh_line.specs.declared.leg.LegKind.{LegKind}
-use Rattle.rh_line.specs.declared.leg.LegKind.TheVariants.{ClientOut, OutServer, InServer}
-use Rattle.rh_record.specs.declared.answer.Who.{Who}
+use Rattle.law_order.proofs.Vocabulary.{◌≡◌, inl, inr, ℕ, ap, subst}
 use Rattle.rh_record.specs.declared.answer.Who.TheVariants as who
-use Rattle.rh_nodes.specs.Settling.{leg_at}
-use Rattle.law_node_traces.specs.OwnLegs.{IsOfOutProxy, IsOfServer}
+use Rattle.law_moves.proofs.Vocabulary.{Leg, LegKind, ClientOut, OutServer, InServer}
+use Rattle.law_node_history.proofs.Vocabulary.{Who, leg_at}
+use Rattle.law_node_traces.proofs.Vocabulary.{IsOfOutProxy, IsOfServer}
 
 -- no node closes so on the legs of its kinds, and on others neither
 pub record ClosesNone (Closes : Who → Leg → Type 0) : Type 0 where

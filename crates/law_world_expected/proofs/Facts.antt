@@ -1,41 +1,23 @@
 -- what the roles' laws ask of a moment, as it is in each world of roles
-use Rattle.std.proofs.Common.{◌≡◌, ℕ, Bool, true, false, if◌then◌else◌, List, [], ◌∷◌, ◌++◌, inl, inr, refl, sym, ap, ◌∙◌, subst}
-use Rattle.rh_text.specs.declared.ends.Dir.{Dir}
-use Rattle.rh_text.specs.declared.ends.Side.{Side}
 use Rattle.rh_text.specs.declared.ends.Side.TheVariants as side
-use Rattle.rh_rts.specs.declared.command.Cookie.{Cookie}
-use Rattle.rh_line.specs.declared.leg.Leg.{Leg}
+use Rattle.law_order.proofs.Vocabulary.{◌≡◌, ℕ, Bool, List, [], ◌∷◌, refl, sym, ap, ◌∙◌, subst}
 use Rattle.rh_record.specs.declared.answer.Who.TheVariants as who
-use Rattle.rh_shell.specs.Rules.{Message, Text, Pdu, Packet}
-use Rattle.rh_shell.specs.Shells.{Shell}
-use Rattle.rh_inproxy.specs.State.{InProxy}
-use Rattle.rh_outproxy.specs.OutProxy.{OutProxy}
-use Rattle.rh_client.specs.declared.state.ClientRole.{ClientRole}
-use Rattle.rh_client.specs.State.{ci}
-use Rattle.rh_server.specs.States.{Server, no_cookie}
-use Rattle.rh_nodes.specs.Halves.{is_same}
-use Rattle.rh_nodes.specs.Legs as legs
-use Rattle.rh_nodes.specs.Opening.{Makers}
-use Rattle.rh_nodes.specs.Readers.{reader_of}
-use Rattle.rh_nodes.specs.Wires.{receiver}
-use Rattle.rh_nodes.specs.World.{World, at}
-use Rattle.law_moves.specs.Moving.{Event, Hears, after_end_events}
-use Rattle.law_moves.specs.Passages.Rising.{CameUpWith}
-use Rattle.law_node_history.specs.Carried.{IsTraced, end_node, happened}
-use Rattle.law_node_history.specs.Changes.{IsFed, Leads, MayChange, changed}
-use Rattle.law_node_history.specs.Histories.{History, noted, nothing, told_to}
-use Rattle.law_node_history.proofs.Appended.{happened_more}
-use Rattle.law_node_history.proofs.Working.{works_more}
+use Rattle.rh_wires.specs.Legs as legs
+use Rattle.rh_wires.specs.Legs as legs
+use Rattle.law_moves.proofs.Vocabulary.{Dir, Side, Cookie, Leg, Message, Text, Pdu, Packet, Shell, Event, Hears, after_end_events, CameUpWith}
+use Rattle.law_role_inproxy.proofs.Vocabulary.{InProxy}
+use Rattle.law_role_client.proofs.Vocabulary.{ClientRole, ci}
+use Rattle.law_role_server.proofs.Vocabulary.{Server, no_cookie}
+use Rattle.law_node_history.proofs.Vocabulary.{reader_of, receiver, is_same, Makers, World, at, IsTraced, end_node, happened, IsFed, Leads, MayChange, changed, History, noted, nothing, told_to}
+use Rattle.law_node_history.proofs.Lemmas.{happened_more, works_more}
+use Rattle.law_role_outproxy.proofs.Vocabulary.{OutProxy}
 use Rattle.law_role_client_rows.specs.InTurn.Pings as client_turns
 use Rattle.law_peers_moments.specs.Expecting.{HasNoPingFirst}
 use Rattle.law_peers_expects.specs.InProxyExpects.Expected.{AreReadWhereUp}
-use Rattle.law_node_traces.specs.Traced.Cookies.{ByChanges}
-use Rattle.law_node_traces.specs.Traced.Ours.{AreOurs, deeds, rules}
-use Rattle.law_node_traces.specs.Traced.Recordings.{IsKnown, history_at}
-use Rattle.law_world_order.specs.Flows.{IsFlowing, numbers_of}
-use Rattle.law_world_order.specs.Premises.{AreDistinct}
-use Rattle.law_world_order.specs.Pasts.{moves_of}
+use Rattle.law_node_traces.proofs.Vocabulary.{ByChanges, AreOurs, deeds, rules, IsKnown, history_at}
+use Rattle.law_world_order.proofs.Vocabulary.{IsFlowing, numbers_of, AreDistinct, moves_of}
 use Rattle.law_world_windows.proofs.Moment.{noted_append}
+use Rattle.law_world_windows.proofs.ClientHops.Honest.{up_before}
 use Rattle.law_world_expected.specs.Roles.{HaveCookies, IsByLines, OfClient, Premise}
 
 -- no Ping goes first, as is said in either crate
@@ -78,16 +60,6 @@ have_of_cookies events later before have = record {
   distinct = distinct_of_cookies events later before have.distinct;
   some = λ n came. have.some n (before _ no_cookie came);
 }
-
-up_before : (leg on : Leg) (cookie : Cookie) (piece : List ℕ) (fed : Bool) (events : List Event)
-    → CameUpWith (events ++ (if fed then Hears on piece ∷ [] else [])) leg cookie
-    → CameUpWith events leg cookie
-up_before leg on cookie piece true [] (inl is) = absurd cc
-up_before leg on cookie piece true [] (inr none) = none
-up_before leg on cookie piece false [] none = none
-up_before leg on cookie piece fed (event ∷ events) (inl is) = inl is
-up_before leg on cookie piece fed (event ∷ events) (inr has) =
-    inr (up_before leg on cookie piece fed events has)
 
 -- what is fed brings no leg up
 pub came_before : {K : Type 0} (first : Shell ClientRole)

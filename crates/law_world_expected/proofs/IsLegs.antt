@@ -1,38 +1,17 @@
 -- an is leg that came up at the server of a world of lines is that of a channel of its number
-use Rattle.std.proofs.Common.{◌≡◌, ◌≤◌, ◌⊎◌, ◌&&◌, ◌||◌, ℕ, zero, suc, Bool, true, false, not, List, [], ◌∷◌, inl, inr, arith, refl, sym, ap, ◌∙◌, subst}
-use Rattle.std.specs.Prelude.{nat_eq}
-use Rattle.std.specs.List.{list_all, list_any}
-use Rattle.std.proofs.lemmas.Bool.{true≢false, eqb-true}
-use Rattle.rh_line.specs.declared.leg.Leg.{Leg}
-use Rattle.rh_line.specs.declared.leg.LegKind.{LegKind}
-use Rattle.rh_line.specs.declared.leg.LegKind.TheVariants.{ClientIn, ClientOut, InServer, OutServer}
-use Rattle.rh_shell.specs.Shells.{is_of, same_leg}
-use Rattle.rh_inproxy.specs.State.{InProxy}
-use Rattle.rh_outproxy.specs.OutProxy.{OutProxy}
-use Rattle.rh_client.specs.declared.state.ClientRole.{ClientRole}
-use Rattle.rh_client.specs.State.{ci}
-use Rattle.rh_server.specs.States.{Server}
-use Rattle.rh_nodes.specs.Opening.{Makers}
-use Rattle.rh_nodes.specs.Places.{is_absent}
-use Rattle.rh_nodes.specs.Readers.{reader_of}
-use Rattle.rh_nodes.specs.Settling.{leg_at}
-use Rattle.rh_nodes.specs.World.{World}
-use Rattle.law_moves.specs.Moves.{EndMove, Moves, Gives, Takes, Closes, Recycles, Up, HeadCame, PduCame, PacketCame, Puts, IsDrawn, Marks, Pings}
-use Rattle.law_moves.specs.Passages.Rising.{WasUp}
-use Rattle.law_role_server.specs.Order.{came_up, is_up}
-use Rattle.law_node_history.specs.Changes.{Leads, of_line}
-use Rattle.law_node_history.specs.Histories.{History}
-use Rattle.law_node_history.proofs.Connecting.{or_right}
-use Rattle.law_node_history.proofs.Wired.{cases_leg, same_itself}
+use Rattle.law_order.proofs.Vocabulary.{◌≡◌, ◌≤◌, ◌⊎◌, ◌&&◌, ◌||◌, ℕ, zero, suc, Bool, true, false, not, List, [], ◌∷◌, inl, inr, arith, refl, sym, ap, ◌∙◌, subst, nat_eq, list_all, list_any, true≢false, eqb-true}
+use Rattle.law_moves.proofs.Vocabulary.{Leg, LegKind, ClientIn, ClientOut, InServer, OutServer, is_of, same_leg, EndMove, Moves, Gives, Takes, Closes, Recycles, Up, HeadCame, PduCame, PacketCame, Puts, IsDrawn, Marks, Pings, WasUp}
+use Rattle.law_role_inproxy.proofs.Vocabulary.{InProxy}
+use Rattle.law_role_client.proofs.Vocabulary.{ClientRole, ci}
+use Rattle.law_role_server.proofs.Vocabulary.{Server, came_up, is_up}
+use Rattle.law_node_history.proofs.Vocabulary.{reader_of, is_absent, Makers, leg_at, World, Leads, of_line, History}
+use Rattle.law_node_history.proofs.Lemmas.{or_right, cases_leg, same_itself}
+use Rattle.law_role_outproxy.proofs.Vocabulary.{OutProxy}
 use Rattle.law_node_streams.specs.Streams.{is_end_up_on}
-use Rattle.law_node_traces.specs.Traced.Cookies.{ByChanges}
-use Rattle.law_node_traces.specs.Traced.Numbers.{ComeUpByLines, is_made}
-use Rattle.law_node_traces.specs.Traced.Ours.{AreOurs, deeds, rules}
-use Rattle.law_node_traces.specs.Traced.Recordings.{IsKnown, history_at}
 use Rattle.law_node_traces.proofs.Traced.ByChanges.{lines_by_changes}
+use Rattle.law_node_traces.proofs.Vocabulary.{ByChanges, ComeUpByLines, is_made, AreOurs, deeds, rules, IsKnown, history_at}
 use Rattle.law_peers_in_channels.specs.InSuccessors.Connected.{AreConnected}
-use Rattle.law_world_order.specs.Flows.{IsFlowing, numbers_of}
-use Rattle.law_world_order.specs.Pasts.{moves_of}
+use Rattle.law_world_order.proofs.Vocabulary.{IsFlowing, numbers_of, moves_of}
 use Rattle.law_world_windows.specs.Hops.{is_leg}
 use Rattle.law_world_expected.specs.Roles.{IsByLines}
 

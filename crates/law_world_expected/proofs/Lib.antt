@@ -9,3 +9,4 @@ pub mod IsLegs
 pub mod EachNode
 pub mod Amiss
 pub mod Roomy
+mod TurnsRecorded

@@ -1,46 +1,25 @@
 -- whatever a change of a world is, it closes its client for nothing that was not to come on an OUT
 -- channel, where the client expects what comes there and each packet has a name
-use Rattle.std.proofs.Common.{◌≡◌, ℕ, refl, sym, subst}
-use Rattle.std.specs.Prelude.{Some}
-use Rattle.rh_text.specs.declared.ends.Dir.{Dir}
-use Rattle.rh_text.specs.declared.ends.Dir.TheVariants.{U, D}
-use Rattle.rh_sig.specs.declared.name.Pipe.TheVariants.{CoD}
-use Rattle.rh_line.specs.declared.cause.Cause.{Cause}
+use Rattle.law_order.proofs.Vocabulary.{◌≡◌, ℕ, refl, sym, subst, Some}
 use Rattle.rh_line.specs.declared.cause.Cause.TheVariants as cause
-use Rattle.rh_line.specs.declared.leg.Leg.{Leg}
 use Rattle.rh_record.specs.declared.answer.Who.TheVariants as who
 use Rattle.rh_shell.specs.declared.answers.Refused.TheVariants as refused
-use Rattle.rh_inproxy.specs.State.{InProxy}
-use Rattle.rh_outproxy.specs.OutProxy.{OutProxy}
-use Rattle.rh_client.specs.declared.state.ClientRole.{ClientRole}
 use Rattle.rh_client.specs.Client as client
-use Rattle.rh_client.specs.State.{co}
-use Rattle.rh_server.specs.States.{Server}
-use Rattle.rh_nodes.specs.declared.event.Event.{Event}
-use Rattle.rh_nodes.specs.declared.event.Event.TheVariants.{Comes}
-use Rattle.rh_nodes.specs.Company as company
-use Rattle.rh_nodes.specs.Legs as legs
-use Rattle.rh_nodes.specs.Opening.{Makers}
-use Rattle.rh_nodes.specs.Wires.{receiver}
-use Rattle.rh_nodes.specs.World.{World, at}
-use Rattle.law_moves.specs.Moves.{EndPassage, Passage}
-use Rattle.law_moves.specs.Wires.{of_leg}
-use Rattle.law_moves.specs.ReadBack.Reading.{all_read_of}
-use Rattle.law_moves.specs.ReadBack.Well.{ReadsWell, is_named}
-use Rattle.law_node_history.specs.Carried.{end_node, events_of, happened, heard_on}
-use Rattle.law_node_history.specs.Changes.{Change, IsFed, MayChange, changed}
-use Rattle.law_node_history.specs.Closes.{ClosesNode}
-use Rattle.law_node_history.specs.Histories.{noted}
+use Rattle.rh_wires.specs.Legs as legs
+use Rattle.rh_company.specs.Company as company
+use Rattle.law_moves.proofs.Vocabulary.{Dir, U, D, CoD, Cause, Leg, EndPassage, Passage, of_leg, all_read_of, ReadsWell, is_named}
+use Rattle.law_role_inproxy.proofs.Vocabulary.{InProxy}
+use Rattle.law_role_client.proofs.Vocabulary.{ClientRole, co}
+use Rattle.law_role_server.proofs.Vocabulary.{Server}
+use Rattle.law_node_history.proofs.Vocabulary.{receiver, Event, Comes, Makers, World, at, end_node, events_of, happened, heard_on, Change, IsFed, MayChange, changed, ClosesNode, noted}
 use Rattle.law_node_causes.specs.Closings.{ClosesWith}
 use Rattle.law_node_causes.specs.Reasons.{ComesAmiss}
+use Rattle.law_role_outproxy.proofs.Vocabulary.{OutProxy}
 use Rattle.law_peers_moments.specs.Expecting.{Expects}
 use Rattle.law_peers_moments.specs.Moments.{Moves, client_behind}
-use Rattle.law_node_traces.specs.Traced.Cookies.{ByChanges}
-use Rattle.law_node_traces.specs.Traced.Ours.{AreOurs, deeds, rules}
-use Rattle.law_node_traces.specs.Traced.Recordings.{history_at}
+use Rattle.law_node_traces.proofs.Vocabulary.{ByChanges, AreOurs, deeds, rules, history_at}
 use Rattle.law_world_order.proofs.Legs.{Reads}
-use Rattle.law_world_order.specs.Premises.{AreDistinct}
-use Rattle.law_world_order.specs.Pasts.{moves_of, numbers}
+use Rattle.law_world_order.proofs.Vocabulary.{AreDistinct, moves_of, numbers}
 use Rattle.law_world_honest.proofs.Honesty.Closing.{by_fed}
 use Rattle.law_world_honest.proofs.Honesty.Fed.{told_what, told_who}
 use Rattle.law_world_windows.proofs.Moment.{Laws, known}
@@ -48,9 +27,9 @@ use Rattle.law_world_windows.proofs.Stopping.{Readings}
 use Rattle.law_world_expected.proofs.Amiss.AtNodes.{ClientKnows, RolesKnow, client_next}
 use Rattle.law_world_expected.proofs.Amiss.Moments.{AllFlow, flowing}
 use Rattle.law_world_expected.proofs.Amiss.Next.{never_amiss}
-use Rattle.law_world_expected.specs.Roles.{ClientExpects, OfClient}
 use Rattle.law_world_expected.proofs.Closing.{AtMoment, NodesLaws}
 use Rattle.law_world_expected.proofs.Facts.{came_before, distinct_of_cookies}
+use Rattle.law_world_expected.specs.Roles.{ClientExpects, OfClient}
 
 module _ {K : Type 0} (roles : RolesKnow) (client_roles : ClientKnows) (nodes : NodesLaws)
     (reads : Reads) (readings : Readings) (m : Makers K InProxy OutProxy)

@@ -1,17 +1,8 @@
 -- no leg of the client comes up under the cookie of zeros, where cookies are drawn from above 0
-use Rattle.std.proofs.Common.{◌≡◌, ◌<◌, ◌++◌, ◌⊎◌, inl, inr, arith, ℕ, List, Bool, subst, ap, ◌∙◌}
-use Rattle.rh_line.specs.declared.leg.Leg.{Leg}
-use Rattle.rh_nodes.specs.Company.{Rulebook}
-use Rattle.rh_nodes.specs.Cookies.{cookie_of}
-use Rattle.rh_nodes.specs.Giving.{Deeds}
-use Rattle.rh_nodes.specs.Opening.{Makers}
-use Rattle.rh_nodes.specs.World.{World}
-use Rattle.law_node_history.specs.Carried.{happened}
-use Rattle.law_node_history.specs.Changes.{Change}
-use Rattle.law_node_history.specs.Drawn.{AreDrawn, AreLeft, DrawsBy, RoseWith, all_risen}
-use Rattle.law_node_history.specs.Histories.{all_noted, nothing}
-use Rattle.law_node_history.proofs.Drawing.{risen_append}
-use Rattle.law_node_history.proofs.Drawn.{IsAmong, Risen, all_rose, drawn_between, drawn_front, same_number}
+use Rattle.law_order.proofs.Vocabulary.{◌≡◌, ◌<◌, ◌++◌, ◌⊎◌, inl, inr, arith, List, Bool, subst, ap, ◌∙◌}
+use Rattle.law_moves.proofs.Vocabulary.{Leg}
+use Rattle.law_node_history.proofs.Vocabulary.{Rulebook, cookie_of, Deeds, Makers, World, happened, Change, AreDrawn, AreLeft, DrawsBy, RoseWith, all_risen, all_noted, nothing}
+use Rattle.law_node_history.proofs.Lemmas.{risen_append, IsAmong, Risen, all_rose, drawn_between, drawn_front, same_number}
 
 module _ {K C S I O : Type 0} (r : Rulebook C S I O) (m : Makers K I O) (d : Deeds C S) where
   pub some_cookies : {kind : Change → Bool} (w v : World K C S I O) (by : DrawsBy kind r m d w v)

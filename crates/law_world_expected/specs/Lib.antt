@@ -2,3 +2,4 @@ pub mod Roles
 pub mod PdusInWorlds
 pub mod Amiss
 pub mod Roomy
+pub mod PdusInRecordings

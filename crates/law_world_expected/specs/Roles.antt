@@ -14,8 +14,8 @@ use Rattle.rh_client.specs.Client as client
 use Rattle.rh_client.specs.State.{ci, co}
 use Rattle.rh_server.specs.Servers as server
 use Rattle.rh_server.specs.States.{Server, no_cookie}
+use Rattle.rh_wires.specs.Readers.{reader_of}
 use Rattle.rh_nodes.specs.Opening.{Makers}
-use Rattle.rh_nodes.specs.Readers.{reader_of}
 use Rattle.rh_nodes.specs.World.{World}
 use Rattle.law_moves.specs.Moving.{Event, after_events}
 use Rattle.law_moves.specs.Wires.{of_leg}

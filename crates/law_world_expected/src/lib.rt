@@ -5,6 +5,7 @@
 
 pub mod connected;
 pub mod expecting;
+pub mod pdus_in_recordings;
 pub mod pdus_in_worlds;
 pub mod recordings;
 pub mod roles;
@@ -14,6 +15,7 @@ pub mod worlds;
 
 pub use connected::is_legs_of_lines_are_connected;
 pub use expecting::no_node_refuses_what_it_expects;
+pub use pdus_in_recordings::rpc_pdus_of_a_recording_pass_in_turn;
 pub use pdus_in_worlds::rpc_pdus_pass_in_turn;
 pub use recordings::no_node_of_a_recording_refuses_what_comes;
 pub use roles::{
@@ -23,8 +25,7 @@ pub use roles::{
 };
 pub use room::{
     no_node_lacks_room, no_node_of_a_recording_lacks_room,
-    no_node_that_has_room_closes_for_a_full_leg, rows_for_pdus_find_room,
-    rows_that_do_not_forward_find_room,
+    no_node_that_has_room_closes_for_a_full_leg,
 };
 pub use whole::no_node_refuses_what_comes;
 pub use worlds::{a_client_refuses_no_cookie, no_client_refuses_what_comes};

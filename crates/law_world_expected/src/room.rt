@@ -3,10 +3,8 @@
 
 pub mod having;
 pub mod recordings;
-pub mod rows;
 pub mod worlds;
 
 pub use having::no_node_that_has_room_closes_for_a_full_leg;
 pub use recordings::no_node_of_a_recording_lacks_room;
-pub use rows::{rows_for_pdus_find_room, rows_that_do_not_forward_find_room};
 pub use worlds::no_node_lacks_room;

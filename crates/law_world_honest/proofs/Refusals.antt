@@ -4,7 +4,7 @@ pub mod Drawn
 pub mod Refusals
 mod Unreached
 mod Unavailables
-mod Fronts
+pub mod Fronts
 pub mod Lost
 pub mod Moments
 pub mod Losses

@@ -12,10 +12,10 @@ pub use honest::{
     what_is_heard_reads_well, what_is_heard_well_closes_for_the_role,
 };
 pub use refused::{
-    a_200_is_no_refusal, a_client_refused_with_503_lost_its_server, a_refusal_names_its_status,
-    a_refused_client_heard_what_was_drawn, a_refused_client_lost_its_server,
-    a_refused_client_of_a_recording_lost_its_server, a_refused_in_channel_was_refused_by_its_proxy,
-    a_refused_out_channel_was_refused_by_its_proxy, what_a_client_holds_of_a_head,
+    a_client_refused_with_503_lost_its_server, a_refused_client_heard_what_was_drawn,
+    a_refused_client_lost_its_server, a_refused_client_of_a_recording_lost_its_server,
+    a_refused_in_channel_was_refused_by_its_proxy, a_refused_out_channel_was_refused_by_its_proxy,
+    what_a_client_holds_of_a_head,
 };
 pub use world_asked::{
     an_out_proxy_hears_its_clients_request, an_out_proxy_of_a_world_expects_its_client,

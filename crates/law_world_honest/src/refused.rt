@@ -4,7 +4,6 @@
 pub mod clients;
 pub mod recordings;
 pub mod reports;
-pub mod texts;
 
 pub use clients::what_a_client_holds_of_a_head;
 pub use recordings::{
@@ -13,4 +12,3 @@ pub use recordings::{
     a_refused_out_channel_was_refused_by_its_proxy,
 };
 pub use reports::a_refused_client_of_a_recording_lost_its_server;
-pub use texts::{a_200_is_no_refusal, a_refusal_names_its_status};

@@ -1,15 +1,11 @@
 -- a client's legs of one kind are apart where all of its legs have cookies of their own
-use Rattle.std.proofs.Common.{◌≡◌, ◌⊎◌, inl, inr, ℕ, List, [], ◌∷◌, ap}
-use Rattle.rh_rts.specs.declared.command.Cookie.{Cookie}
-use Rattle.rh_line.specs.declared.leg.Leg.{Leg}
-use Rattle.rh_nodes.specs.Settling.{leg_at}
-use Rattle.law_moves.specs.Moving.{Event}
-use Rattle.law_moves.specs.Passages.Rising.{CameUpWith}
-use Rattle.law_node_history.specs.Drawn.{HaveOwnCookies, RoseWith}
-use Rattle.law_world_order.specs.Premises.{AreDistinct}
+use Rattle.law_order.proofs.Vocabulary.{inl, inr, List, [], ◌∷◌, ap}
+use Rattle.law_moves.proofs.Vocabulary.{Cookie, Leg, Event, CameUpWith}
+use Rattle.law_node_history.proofs.Vocabulary.{leg_at, HaveOwnCookies, RoseWith}
+use Rattle.law_world_order.proofs.Vocabulary.{AreDistinct}
 
 -- the two tell of the same events
-rose : (events : List Event) (leg : Leg) (cookie : Cookie)
+pub rose : (events : List Event) (leg : Leg) (cookie : Cookie)
     → CameUpWith events leg cookie → RoseWith events leg cookie
 rose [] leg cookie came = came
 rose (event ∷ events) leg cookie (inl is) = inl is

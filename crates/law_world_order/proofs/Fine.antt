@@ -1,18 +1,9 @@
 -- what comes to each node has its sizes and ranges: by induction over what happens, since what was
 -- put before may go on its pipe
-use Rattle.std.proofs.Common.{◌≡◌, ℕ, List, [], ap}
-use Rattle.std.specs.List.{AllByRecursion}
-use Rattle.std.specs.declared.option.Option.{Option}
-use mathlib.Core.List.{IsPrefix}
-use Rattle.rh_sig.specs.declared.name.Pipe.{Pipe}
-use Rattle.rh_line.specs.declared.leg.Leg.{Leg}
-use Rattle.law_moves.specs.Moves.{OnLeg}
-use Rattle.rh_shell.specs.Rules.{Message}
-use Rattle.law_moves.specs.Wires.{of_leg}
-use Rattle.law_moves.specs.Legible.Legible.{AreLegible, IsFineMessage, MayGoOn, ReadsBack}
-use Rattle.law_moves.specs.ReadBack.Reading.{Begins, messages_read}
-use Rattle.law_node_streams.specs.Streams.{IsDrawn}
+use Rattle.law_order.proofs.Vocabulary.{◌≡◌, ℕ, List, [], ap, AllByRecursion, Option, IsPrefix}
+use Rattle.law_moves.proofs.Vocabulary.{Pipe, Leg, Message, OnLeg, of_leg, AreLegible, IsFineMessage, MayGoOn, ReadsBack, Begins, messages_read}
 pub use Rattle.law_node_streams.proofs.Streams.LegLogs.{on_leg}
+use Rattle.law_node_streams.specs.Streams.{IsDrawn}
 use Rattle.law_world_order.proofs.Legs.{Reads, leg_fine, fine_none, none_came}
 
 -- ---- one leg of one node

@@ -1,20 +1,15 @@
 -- where both directions are joined, what an end took is a front of what the other one gave
-use Rattle.std.proofs.Common.{◌≡◌, ℕ, Bool, true, List, sym, ◌∙◌, ap, subst}
-use mathlib.Core.List.{IsPrefix}
-use Rattle.rh_http.specs.declared.config.ClientConfig.{ClientConfig}
+use Rattle.law_order.proofs.Vocabulary.{◌≡◌, ℕ, Bool, true, List, sym, ◌∙◌, ap, subst, IsPrefix, ReportsEnd}
 use Rattle.rh_line.specs.declared.state.Take.TheVariants as takes
-use Rattle.law_order.specs.Taking.{ReportsEnd}
-use Rattle.rh_shell.specs.Ends.{take_answer}
-use Rattle.law_moves.specs.Moving.{EndEvent, Event, after_end_events}
-use Rattle.rh_shell.specs.Shells.{Shell}
-use Rattle.rh_client.specs.declared.state.ClientRole.{ClientRole}
 use Rattle.rh_client.specs.Client as client
-use Rattle.law_role_client.specs.Order as client_order
-use Rattle.rh_inproxy.specs.declared.state.InProxyConfig.{InProxyConfig}
-use Rattle.rh_outproxy.specs.declared.state.OutProxyConfig.{OutProxyConfig}
-use Rattle.law_role_server.specs.Order as server_order
 use Rattle.rh_server.specs.Servers as server
-use Rattle.rh_server.specs.States.{Server, is_closing}
+use Rattle.law_moves.proofs.Vocabulary.{ClientConfig, take_answer, Shell, EndEvent, Event, after_end_events}
+use Rattle.law_role_inproxy.proofs.Vocabulary.{InProxyConfig}
+use Rattle.law_role_client.proofs.Vocabulary.{ClientRole}
+use Rattle.law_role_client.specs.Order as client_order
+use Rattle.law_role_server.proofs.Vocabulary.{Server, is_closing}
+use Rattle.law_role_server.specs.Order as server_order
+use Rattle.law_role_outproxy.proofs.Vocabulary.{OutProxyConfig}
 use Rattle.law_node_streams.specs.Streams.{all_given, all_taken}
 use Rattle.law_peers_routes.specs.Downwards.{GoesDown, client_after, client_took, server_accepted, server_after}
 use Rattle.law_peers_routes.specs.Upwards.{GoesUp}

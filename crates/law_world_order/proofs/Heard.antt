@@ -1,57 +1,28 @@
 -- one more change leaves all that came to the nodes fine
-use Rattle.std.proofs.Common.{◌≡◌, ℕ, Bool, true, false, List, [], refl, sym, ap, ◌∙◌, subst, inl}
-use Rattle.std.specs.Prelude.{if◌then◌else◌, Some, None}
-use Rattle.std.specs.List.{AllByRecursion}
-use Rattle.std.specs.declared.option.Option.{Option}
-use mathlib.Core.List.{IsPrefix}
-use Rattle.std.proofs.lemmas.Bool.{true≢false}
-use Rattle.rh_text.specs.declared.ends.Dir.{Dir}
-use Rattle.rh_text.specs.declared.ends.Dir.TheVariants.{U, D}
-use Rattle.rh_text.specs.declared.ends.Side.{Side}
 use Rattle.rh_text.specs.declared.ends.Side.TheVariants as side
-use Rattle.rh_sig.specs.declared.name.Pipe.{Pipe}
-use Rattle.rh_sig.specs.declared.name.Pipe.TheVariants.{IsD, CoU, OsD}
-use Rattle.rh_line.specs.declared.leg.Leg.{Leg}
-use Rattle.rh_line.specs.declared.leg.LegKind.{LegKind}
-use Rattle.rh_line.specs.declared.leg.LegKind.TheVariants.{ClientOut, OutServer, ClientIn, InServer}
-use Rattle.rh_record.specs.declared.answer.Who.{Who}
+use Rattle.law_order.proofs.Vocabulary.{◌≡◌, ℕ, Bool, true, false, List, [], refl, sym, ap, ◌∙◌, subst, inl, if◌then◌else◌, Some, None, AllByRecursion, Option, true≢false, IsPrefix}
 use Rattle.rh_record.specs.declared.answer.Who.TheVariants as who
-use Rattle.rh_shell.specs.Rules.{Message}
-use Rattle.rh_shell.specs.Shells.{Shell, begun, same_leg}
-use Rattle.law_moves.specs.Wires.{of_leg}
-use Rattle.law_moves.specs.Legible.Legible.{IsFineMessage}
-use Rattle.rh_nodes.specs.Company.{Company}
-use Rattle.rh_nodes.specs.Halves.{is_same}
-use Rattle.rh_nodes.specs.Opening.{Makers}
-use Rattle.rh_nodes.specs.Readers.{reader_of}
-use Rattle.rh_nodes.specs.Settling.{leg_at}
-use Rattle.rh_nodes.specs.Wires.{receiver, sender}
-use Rattle.rh_nodes.specs.World.{World, node_by}
-use Rattle.rh_client.specs.declared.state.ClientRole.{ClientRole}
-use Rattle.rh_client.specs.Client as client
-use Rattle.law_role_client.specs.Legible as client_legible
-use Rattle.law_role_inproxy.specs.Legible as in_legible
 use Rattle.rh_inproxy.specs.Machine as in_proxy
-use Rattle.rh_inproxy.specs.State.{InProxy}
-use Rattle.law_role_outproxy.specs.Legible as out_legible
 use Rattle.rh_outproxy.specs.Machine as out_proxy
-use Rattle.rh_outproxy.specs.OutProxy.{OutProxy, new_proxy}
-use Rattle.rh_outproxy.specs.declared.out_proxy.TheConstants.{ROOMS}
-use Rattle.law_role_server.specs.Legible as server_legible
+use Rattle.rh_client.specs.Client as client
 use Rattle.rh_server.specs.Servers as server
-use Rattle.rh_server.specs.States.{Server}
-use Rattle.law_node_history.specs.Carried.{drawn_by, drawn_on, end_drawn_on, end_node, events_of, heard_on}
-use Rattle.law_node_history.specs.Histories.{History}
-use Rattle.law_node_history.proofs.Ledgers.{who_itself}
-use Rattle.law_node_history.proofs.Lines.{same_who}
-use Rattle.law_node_history.proofs.Wired.{same_itself}
-use Rattle.law_node_traces.specs.Traced.Ours.{AreOurs, deeds, rules}
-use Rattle.law_moves.specs.ReadBack.Reading.{Begins, messages_read}
-use Rattle.law_peers_routes.specs.Downwards as down
+use Rattle.law_moves.proofs.Vocabulary.{Dir, U, D, Side, Pipe, IsD, CoU, OsD, Leg, LegKind, ClientOut, OutServer, ClientIn, InServer, Message, Shell, begun, same_leg, of_leg, IsFineMessage, Begins, messages_read}
+use Rattle.law_role_inproxy.proofs.Vocabulary.{InProxy}
+use Rattle.law_role_inproxy.specs.Legible as in_legible
+use Rattle.law_role_client.proofs.Vocabulary.{ClientRole}
+use Rattle.law_role_client.specs.Legible as client_legible
+use Rattle.law_role_server.proofs.Vocabulary.{Server}
+use Rattle.law_role_server.specs.Legible as server_legible
+use Rattle.law_node_history.proofs.Vocabulary.{Who, reader_of, receiver, sender, Company, is_same, Makers, leg_at, World, node_by, drawn_by, drawn_on, end_drawn_on, end_node, events_of, heard_on, History}
+use Rattle.law_node_history.proofs.Lemmas.{who_itself, same_who, same_itself}
+use Rattle.law_role_outproxy.proofs.Vocabulary.{OutProxy, new_proxy, ROOMS}
+use Rattle.law_role_outproxy.specs.Legible as out_legible
 use Rattle.law_node_begins.specs.ProxiesBegin.Pipes as pipes
-use Rattle.law_world_order.specs.Flows.{AllFine, AllLegible, AreBegun, Flows, numbers_of, read_on}
+use Rattle.law_node_traces.proofs.Vocabulary.{AreOurs, deeds, rules}
+use Rattle.law_peers_routes.specs.Downwards as down
 use Rattle.law_world_order.proofs.Legs.{Reads, of_legs}
 use Rattle.law_world_order.proofs.Fine.{Source, from_nothing, from_source, sourced}
+use Rattle.law_world_order.proofs.Vocabulary.{AllFine, AllLegible, AreBegun, Flows, numbers_of, read_on}
 
 -- ---- what each node reads
 

@@ -1,53 +1,28 @@
 -- what came at each node of a world of roles is of what was put at the other end of its leg
-use Rattle.std.proofs.Common.{◌≡◌, ℕ, List, [], ◌∷◌, ◌++◌, inl, inr, sym, ap, ◌∙◌, subst}
-use Rattle.std.specs.List.{AllByRecursion}
-use Rattle.std.specs.declared.option.Option.{Option}
-use mathlib.Core.List.{IsPrefix}
-use Rattle.rh_text.specs.declared.ends.Dir.{Dir}
-use Rattle.rh_text.specs.declared.ends.Dir.TheVariants.{U, D}
-use Rattle.rh_text.specs.declared.ends.Side.{Side}
-use Rattle.rh_http.specs.Texts.{refusal_text}
-use Rattle.rh_sig.specs.declared.name.Pipe.{Pipe}
-use Rattle.rh_line.specs.declared.leg.Leg.{Leg}
-use Rattle.rh_line.specs.declared.leg.LegKind.{LegKind}
-use Rattle.rh_line.specs.declared.leg.LegKind.TheVariants.{ClientOut, OutServer, ClientIn, InServer}
-use Rattle.law_order.proofs.ItemLists.{nil_front}
-use Rattle.law_order.proofs.Prefixes.{prefix_trans}
-use Rattle.rh_record.specs.declared.answer.Who.{Who}
+use Rattle.law_order.proofs.Vocabulary.{◌≡◌, ℕ, List, [], ◌∷◌, ◌++◌, inl, inr, sym, ap, ◌∙◌, subst, AllByRecursion, Option, IsPrefix}
 use Rattle.rh_record.specs.declared.answer.Who.TheVariants as who
-use Rattle.rh_shell.specs.Rules.{Message}
-use Rattle.rh_shell.specs.Shells.{begun}
-use Rattle.law_moves.specs.Wires.{of_leg}
-use Rattle.law_moves.specs.Legible.Legible.{IsFineMessage, MayGoOn}
-use Rattle.rh_nodes.specs.Opening.{Makers}
-use Rattle.rh_nodes.specs.Readers.{reader_of}
-use Rattle.rh_nodes.specs.Settling.{leg_at}
-use Rattle.rh_nodes.specs.Wires.{receiver, sender}
-use Rattle.rh_nodes.specs.World.{World}
-use Rattle.rh_client.specs.declared.state.ClientRole.{ClientRole}
-use Rattle.rh_client.specs.Client as client
-use Rattle.law_role_client.specs.Legible as client_legible
-use Rattle.law_role_inproxy.specs.Legible as in_legible
 use Rattle.rh_inproxy.specs.Machine as in_proxy
-use Rattle.rh_inproxy.specs.State.{InProxy}
-use Rattle.rh_outproxy.specs.declared.out_proxy.TheConstants.{ROOMS}
-use Rattle.law_role_outproxy.specs.Legible as out_legible
 use Rattle.rh_outproxy.specs.Machine as out_proxy
-use Rattle.rh_outproxy.specs.OutProxy.{OutProxy, new_proxy}
-use Rattle.law_role_server.specs.Legible as server_legible
+use Rattle.rh_client.specs.Client as client
 use Rattle.rh_server.specs.Servers as server
-use Rattle.rh_server.specs.States.{Server}
-use Rattle.law_node_history.specs.Carried.{IsTraced, drawn_by, drawn_on, end_drawn_on, end_node, events_of, heard_on}
-use Rattle.law_node_history.specs.Histories.{History}
-use Rattle.law_moves.specs.ReadBack.Reading.{Begins, all_read_of, messages_read}
+use Rattle.law_moves.proofs.Vocabulary.{Dir, U, D, Side, nil_front, prefix_trans, Pipe, refusal_text, Leg, LegKind, ClientOut, OutServer, ClientIn, InServer, Message, begun, of_leg, IsFineMessage, MayGoOn, Begins, all_read_of, messages_read}
+use Rattle.law_role_inproxy.proofs.Vocabulary.{InProxy}
+use Rattle.law_role_inproxy.specs.Legible as in_legible
+use Rattle.law_role_client.proofs.Vocabulary.{ClientRole}
+use Rattle.law_role_client.specs.Legible as client_legible
+use Rattle.law_role_server.proofs.Vocabulary.{Server}
+use Rattle.law_role_server.specs.Legible as server_legible
+use Rattle.law_node_history.proofs.Vocabulary.{Who, reader_of, receiver, sender, Makers, leg_at, World, IsTraced, drawn_by, drawn_on, end_drawn_on, end_node, events_of, heard_on, History}
+use Rattle.law_role_outproxy.proofs.Vocabulary.{ROOMS, OutProxy, new_proxy}
+use Rattle.law_role_outproxy.specs.Legible as out_legible
 use Rattle.law_node_streams.specs.Streams.{IsDrawn}
-use Rattle.law_node_traces.specs.Traced.Ours.{AreOurs, deeds, rules}
-use Rattle.law_world_order.specs.Flows.{IsFlowing, numbers_of, read_on}
+use Rattle.law_peers_moments.proofs.Joining.{nothing_front}
+use Rattle.law_peers_moments.specs.Moments.{AreJoined, Passages, came_to, put_by}
+use Rattle.law_node_traces.proofs.Vocabulary.{AreOurs, deeds, rules}
 use Rattle.law_world_order.proofs.Fine.{Source, on_leg, sourced}
 use Rattle.law_world_order.proofs.Heard.{as_first, from_client, from_in, from_out, from_server, node_reads, reads_on}
 use Rattle.law_world_order.proofs.Legs.{Reads}
-use Rattle.law_peers_moments.specs.Moments.{AreJoined, Passages, came_to, put_by}
-use Rattle.law_peers_moments.proofs.Joining.{nothing_front}
+use Rattle.law_world_order.proofs.Vocabulary.{IsFlowing, numbers_of, read_on}
 
 last_of : (P : Message → Type 0) (ms : List Message) (m : Message)
     → AllByRecursion P (ms ++ m ∷ []) → P m

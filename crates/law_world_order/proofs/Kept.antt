@@ -1,35 +1,22 @@
 -- what was taken and given at each moment is in the order that reports are told in
-use Rattle.std.proofs.Common.{◌≡◌, ℕ, List, sym, ◌∙◌, ap, subst}
 use mathlib.Core.List as lists
-use Rattle.rh_text.specs.declared.ends.Side.{Side}
 use Rattle.rh_text.specs.declared.ends.Side.TheVariants as side
+use Rattle.law_order.proofs.Vocabulary.{◌≡◌, ℕ, List, sym, ◌∙◌, ap, subst}
 use Rattle.rh_line.specs.declared.state.Take.TheVariants as takes
-use Rattle.law_moves.specs.Moving.{after_end_events}
-use Rattle.rh_shell.specs.Shells.{Shell}
-use Rattle.rh_nodes.specs.Opening.{Makers}
-use Rattle.rh_nodes.specs.World.{World}
-use Rattle.rh_client.specs.declared.state.ClientRole.{ClientRole}
 use Rattle.rh_client.specs.Client as client
-use Rattle.rh_inproxy.specs.State.{InProxy}
-use Rattle.rh_outproxy.specs.OutProxy.{OutProxy}
-use Rattle.rh_server.specs.States.{Server, is_closing}
 use Rattle.rh_server.specs.Servers as server
-use Rattle.law_node_history.specs.Changes.{of_line}
-use Rattle.law_node_history.specs.Histories.{AreRuns}
+use Rattle.law_moves.proofs.Vocabulary.{Side, Shell, after_end_events}
+use Rattle.law_role_inproxy.proofs.Vocabulary.{InProxy}
+use Rattle.law_role_client.proofs.Vocabulary.{ClientRole}
+use Rattle.law_role_server.proofs.Vocabulary.{Server, is_closing}
+use Rattle.law_node_history.proofs.Vocabulary.{other, IsPrefix, reader_of, Makers, World, of_line, AreRuns}
+use Rattle.law_role_outproxy.proofs.Vocabulary.{OutProxy}
 use Rattle.law_node_streams.specs.Streams.{all_given, all_taken}
-use Rattle.rh_record.specs.Events.Events.{other}
-use Rattle.rh_record.specs.Events.Order.{IsPrefix}
-use Rattle.law_world_reports.specs.Telling.{end_given, end_taken, next_take}
-use Rattle.law_node_traces.specs.Traced.Cookies.{ByChanges, has_whole_cookie}
-use Rattle.law_node_traces.specs.Traced.Ours.{AreOurs, deeds, rules}
 use Rattle.law_node_traces.proofs.Traced.ByChanges.{lines_by_changes}
-use Rattle.law_world_reports.specs.Ordering.Premises.{HasAll, KeepsOrder}
-use Rattle.rh_nodes.specs.Readers.{reader_of}
-use Rattle.law_node_traces.specs.Traced.Numbers.{is_made}
-use Rattle.law_node_traces.specs.Traced.Recordings.{history_at}
-use Rattle.law_world_order.specs.Directions.{Directions}
-use Rattle.law_world_order.specs.Flows.{numbers_of}
+use Rattle.law_node_traces.proofs.Vocabulary.{ByChanges, has_whole_cookie, AreOurs, deeds, rules, is_made, history_at}
+use Rattle.law_world_reports.proofs.Vocabulary.{end_given, end_taken, next_take, HasAll, KeepsOrder}
 use Rattle.law_world_order.proofs.Fronts.{Ended, IsInOrder, in_order}
+use Rattle.law_world_order.proofs.Vocabulary.{Directions, numbers_of}
 
 front_of : (front all : List (List ℕ)) → lists.IsPrefix front all → IsPrefix front all
 front_of front all p = (p.0, sym p.1)

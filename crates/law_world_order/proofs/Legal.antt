@@ -1,28 +1,20 @@
 -- what the nodes put may go on its pipe, as long as what came to them is fine
-use Rattle.std.proofs.Common.{◌≡◌, ℕ, zero, suc, List, [], sym, subst}
-use Rattle.rh_window.specs.Sides.{IsWindow}
-use Rattle.rh_http.specs.declared.config.ClientConfig.{ClientConfig}
-use Rattle.rh_inproxy.specs.declared.state.InProxyConfig.{InProxyConfig}
+use Rattle.law_order.proofs.Vocabulary.{◌≡◌, ℕ, zero, suc, List, [], sym, subst}
 use Rattle.rh_inproxy.specs.Machine as in_proxy
-use Rattle.rh_inproxy.specs.State.{InProxy}
 use Rattle.rh_inproxy.specs.State as in_state
-use Rattle.rh_outproxy.specs.declared.state.OutProxyConfig.{OutProxyConfig}
 use Rattle.rh_outproxy.specs.Machine as out_proxy
-use Rattle.rh_outproxy.specs.OutProxy.{OutProxy, new_proxy}
-use Rattle.rh_client.specs.declared.state.ClientRole.{ClientRole}
 use Rattle.rh_server.specs.Servers as server
-use Rattle.rh_server.specs.States.{Server}
-use Rattle.law_moves.specs.Moves.{EndMove, EndPassage, Move, Passage, all_end_moved, all_moved, end_started, started}
-use Rattle.law_moves.specs.Legible.Legible.{AreLegible, IsLegible}
+use Rattle.law_moves.proofs.Vocabulary.{IsWindow, ClientConfig, EndMove, EndPassage, Move, Passage, all_end_moved, all_moved, end_started, started, AreLegible, IsLegible}
+use Rattle.law_role_inproxy.proofs.Vocabulary.{InProxyConfig, InProxy}
 use Rattle.law_role_inproxy.specs.Legible as in_legible
+use Rattle.law_role_client.proofs.Vocabulary.{ClientRole, HasCookies, HaveCookies, client_moved}
 use Rattle.law_role_client.specs.Legible as client_legible
-use Rattle.law_role_client.specs.Legible.{HasCookies, HaveCookies}
-use Rattle.law_role_client.specs.Order.{client_moved}
+use Rattle.law_role_server.proofs.Vocabulary.{Server}
 use Rattle.law_role_server.specs.Legible as server_legible
-use Rattle.law_node_history.specs.Histories.{History}
+use Rattle.law_node_history.proofs.Vocabulary.{History}
+use Rattle.law_role_outproxy.proofs.Vocabulary.{OutProxyConfig, OutProxy, new_proxy}
 use Rattle.law_role_outproxy.specs.Legible as out_legible
-use Rattle.law_world_order.specs.Flows.{AllFine, AllLegible, Flows, Numbers}
-use Rattle.law_world_order.specs.Premises.{AreInRange}
+use Rattle.law_world_order.proofs.Vocabulary.{AllFine, AllLegible, Flows, Numbers, AreInRange}
 
 pub record Legalities : Type 0 where
   pub client : (config : ClientConfig) (moves : List EndMove) → client_legible.IsConfig config

@@ -1,21 +1,6 @@
 -- what comes on a leg is fine where what was put there may go
-use Rattle.std.proofs.Common.{◌≡◌, ℕ, Bool, true, false, List, [], ◌∷◌, ◌∙◌, inl, inr, if◌then◌else◌}
-use Rattle.std.specs.List.{AllByRecursion}
-use Rattle.std.specs.declared.option.Option.{Option}
-use mathlib.Core.List.{IsPrefix}
-use Rattle.rh_http.specs.declared.refusal.Refusal.{Refusal}
-use Rattle.rh_http.specs.Texts.{refusal_text}
-use Rattle.rh_sig.specs.declared.name.Pipe.{Pipe}
-use Rattle.rh_line.specs.declared.leg.Leg.{Leg}
-use Rattle.law_order.proofs.ItemLists.{nil_front}
-use Rattle.law_order.proofs.Prefixes.{prefix_trans}
-use Rattle.law_moves.specs.Carrying.{spelled}
-use Rattle.law_moves.specs.Moves.{OnLeg}
-use Rattle.rh_shell.specs.Rules.{Message}
-use Rattle.rh_shell.specs.Shells.{same_leg}
-use Rattle.law_moves.specs.Wires.{of_leg}
-use Rattle.law_moves.specs.Legible.Legible.{IsFineMessage, MayGoOn, ReadsBack}
-use Rattle.law_moves.specs.ReadBack.Reading.{Begins, ReadsNothing, all_read_of, messages_read}
+use Rattle.law_order.proofs.Vocabulary.{◌≡◌, ℕ, Bool, true, false, List, [], ◌∷◌, ◌∙◌, inl, inr, if◌then◌else◌, AllByRecursion, Option, IsPrefix}
+use Rattle.law_moves.proofs.Vocabulary.{nil_front, prefix_trans, Pipe, Refusal, refusal_text, Leg, Message, same_leg, spelled, OnLeg, of_leg, IsFineMessage, MayGoOn, ReadsBack, Begins, ReadsNothing, all_read_of, messages_read}
 use Rattle.law_node_streams.specs.Streams.{IsDrawn}
 
 -- the laws of reading that this stands on

@@ -1,3 +1,4 @@
+pub mod Vocabulary
 pub mod Legs
 pub mod Fine
 pub mod Heard
@@ -5,14 +6,15 @@ pub mod Joined
 pub mod Distinct
 pub mod Flowing
 pub mod Starting
-mod Legal
+pub mod Legal
 mod Reaching
 mod Routing
-mod Moments
+pub mod Moments
 mod Fronts
 pub mod Marked
 mod Kept
 pub mod Recorded
 pub mod FirstTexts
 mod CookiesLeft
-mod Pasts
+pub mod Pasts
+mod Finality

@@ -1,23 +1,15 @@
 -- both directions are routes, on whose legs nothing stands behind a mark
-use Rattle.std.proofs.Common.{◌≡◌, ℕ, Bool, true, List}
-use Rattle.law_order.specs.Items.{IsChannel}
-use Rattle.law_order.specs.Routes.{IsRoute, Route}
-use Rattle.rh_http.specs.declared.config.ClientConfig.{ClientConfig}
-use Rattle.rh_inproxy.specs.declared.state.InProxyConfig.{InProxyConfig}
-use Rattle.rh_inproxy.specs.State.{InProxy}
-use Rattle.rh_outproxy.specs.declared.state.OutProxyConfig.{OutProxyConfig}
-use Rattle.rh_outproxy.specs.OutProxy.{OutProxy}
-use Rattle.rh_client.specs.declared.state.ClientRole.{ClientRole}
-use Rattle.rh_server.specs.States.{Server}
-use Rattle.rh_nodes.specs.Readers.{reader_of}
-use Rattle.rh_nodes.specs.World.{World}
-use Rattle.law_moves.specs.Moving.{EndEvent, Event}
-use Rattle.law_node_history.specs.Histories.{History}
-use Rattle.law_node_traces.specs.Traced.Numbers.{is_made}
+use Rattle.law_order.proofs.Vocabulary.{◌≡◌, ℕ, Bool, true, List, IsChannel, IsRoute, Route}
+use Rattle.law_moves.proofs.Vocabulary.{ClientConfig, EndEvent, Event}
+use Rattle.law_role_inproxy.proofs.Vocabulary.{InProxyConfig, InProxy}
+use Rattle.law_role_client.proofs.Vocabulary.{ClientRole}
+use Rattle.law_role_server.proofs.Vocabulary.{Server}
+use Rattle.law_node_history.proofs.Vocabulary.{reader_of, World, History}
+use Rattle.law_role_outproxy.proofs.Vocabulary.{OutProxyConfig, OutProxy}
+use Rattle.law_node_traces.proofs.Vocabulary.{is_made}
 use Rattle.law_peers_routes.specs.Downwards.{GoesDown, route_of}
 use Rattle.law_peers_routes.specs.Upwards.{GoesUp, up_route}
-use Rattle.law_world_order.specs.Directions.{BothMark, Directions, MarksAreLast, down_route_of, up_route_of}
-use Rattle.law_world_order.specs.Flows.{Numbers}
+use Rattle.law_world_order.proofs.Vocabulary.{BothMark, Directions, MarksAreLast, down_route_of, up_route_of, Numbers}
 
 pub record RouteLaws : Type 0 where
   pub down : (config : ClientConfig) (window : ℕ) (out_config : ℕ → OutProxyConfig)

@@ -1,42 +1,27 @@
 -- at each moment of a run the streams of the nodes are joined by what the legs carried
-use Rattle.std.proofs.Common.{◌≡◌, List, [], ◌∷◌, refl, subst}
-use Rattle.std.specs.List.{AllByRecursion}
-use mathlib.Core.List.{IsPrefix}
-use Rattle.rh_text.specs.declared.ends.Dir.{Dir}
-use Rattle.rh_text.specs.declared.ends.Side.{Side}
-use Rattle.rh_line.specs.declared.leg.Leg.{Leg}
-use Rattle.rh_record.specs.declared.answer.Who.{Who}
-use Rattle.law_moves.specs.Moving.{ComesUp, Event, Hears, Ends, Breaks, Draws, Ticks}
-use Rattle.rh_nodes.specs.Opening.{Makers}
-use Rattle.rh_nodes.specs.Wires.{receiver, sender}
-use Rattle.rh_nodes.specs.World.{World}
-use Rattle.rh_client.specs.declared.state.ClientRole.{ClientRole}
-use Rattle.rh_inproxy.specs.State.{InProxy}
-use Rattle.rh_outproxy.specs.OutProxy.{OutProxy}
-use Rattle.rh_server.specs.States.{Server}
-use Rattle.law_node_history.specs.Carried.{IsTraced, LegsComeUpOnce, drawn_by, end_node, events_of, happened, heard_on}
-use Rattle.law_node_history.specs.Changes.{Leads}
-use Rattle.law_node_history.specs.Histories.{History, IsNew, all_noted, nothing}
-use Rattle.law_node_history.proofs.Recordings.{traced_first}
+use Rattle.law_order.proofs.Vocabulary.{◌≡◌, List, [], ◌∷◌, refl, subst, AllByRecursion, IsPrefix}
+use Rattle.law_moves.proofs.Vocabulary.{Dir, Side, Leg, ComesUp, Event, Hears, Ends, Breaks, Draws, Ticks}
+use Rattle.law_role_inproxy.proofs.Vocabulary.{InProxy}
+use Rattle.law_role_client.proofs.Vocabulary.{ClientRole}
+use Rattle.law_role_server.proofs.Vocabulary.{Server}
+use Rattle.law_node_history.proofs.Vocabulary.{Who, receiver, sender, Makers, World, IsTraced, LegsComeUpOnce, drawn_by, end_node, events_of, happened, heard_on, Leads, History, IsNew, all_noted, nothing}
+use Rattle.law_node_history.proofs.Lemmas.{traced_first}
+use Rattle.law_role_outproxy.proofs.Vocabulary.{OutProxy}
 use Rattle.law_node_streams.specs.Streams.{ComesUpWith, IsCookie}
-use Rattle.law_node_traces.specs.Traced.Cookies.{ByChanges}
-use Rattle.law_node_traces.specs.Traced.Numbers.{ComeUpInOrder, HasWholeCookie, HaveWholeCookies}
-use Rattle.law_node_traces.specs.Traced.Ours.{AreOurs, deeds, rules}
-use Rattle.law_node_traces.specs.Traced.Recordings.{IsKnown}
 use Rattle.law_node_traces.proofs.Traced.Along.{kept_along}
-use Rattle.law_world_order.specs.Directions.{Directions}
-use Rattle.law_world_order.specs.Flows.{AllLegible, AreBegun, Flows, IsFlowing, numbers_of}
-use Rattle.law_world_order.specs.Premises.{AreInRange}
+use Rattle.law_node_traces.proofs.Vocabulary.{ByChanges, ComeUpInOrder, HasWholeCookie, HaveWholeCookies, AreOurs, deeds, rules, IsKnown}
 use Rattle.law_world_order.proofs.Legs.{Reads}
 use Rattle.law_world_order.proofs.Flowing.{Streaming}
 use Rattle.law_world_order.proofs.Starting.{Beginning, starts}
 use Rattle.law_world_order.proofs.Legal.{Legalities, all_legible}
-use Rattle.law_world_order.proofs.Reaching.{Apart, IsSized, Keeps, Tracing, flows_here, have_cookies, keeps_first, one_more}
+use Rattle.law_world_order.proofs.Reaching.{Apart, IsSized, Keeps, Tracing, flows_here, keeps_first, one_more}
 use Rattle.law_world_order.proofs.Routing.{goes_down, goes_up}
+use Rattle.law_world_order.proofs.Pasts.Legal.{have_cookies}
+use Rattle.law_world_order.proofs.Vocabulary.{Directions, AllLegible, AreBegun, Flows, IsFlowing, numbers_of, AreInRange}
 
 -- ---- the laws that this stands on
 
-abbrev OurWorld : Type 0 → Type 0
+abbrev pub OurWorld : Type 0 → Type 0
 OurWorld K = World K ClientRole Server InProxy OutProxy
 
 pub record Known (K : Type 0) : Type 0 where
@@ -57,7 +42,7 @@ Drew K =
 
 -- ---- cookies
 
-sized : (events : List Event) → HaveWholeCookies events
+pub sized : (events : List Event) → HaveWholeCookies events
     → AllByRecursion (ComesUpWith IsCookie) events
 sized [] all = tt
 sized (event ∷ events) all = (one event all.0, sized events all.1)

@@ -1,70 +1,31 @@
 -- behind all changes from a new world, what came to the nodes is fine
-use Rattle.std.proofs.Common.{◌≡◌, List, [], ◌∷◌, ◌++◌, refl, ◌∙◌, subst}
-use Rattle.std.specs.List.{AllByRecursion}
-use mathlib.Core.List.{IsPrefix}
-use Rattle.rh_text.specs.declared.ends.Dir.{Dir}
-use Rattle.rh_text.specs.declared.ends.Side.{Side}
-use Rattle.rh_line.specs.declared.leg.Leg.{Leg}
-use Rattle.rh_record.specs.declared.answer.Who.{Who}
-use Rattle.law_moves.specs.Moving.{EndEvent, Event, Happens, IsGiven, IsTaken, IsClosed, IsRecycled, Hears}
-use Rattle.law_moves.specs.Moves.{EndMove, Moves, Up, HeadCame, PduCame, PacketCame, Puts, IsDrawn, Marks, Pings, Gives, Takes, Closes, Recycles}
-use Rattle.law_moves.specs.Wires.{of_leg}
-use Rattle.law_moves.specs.Legible.Legible.{IsFineMessage}
-use Rattle.rh_nodes.specs.Company.{Company}
-use Rattle.rh_nodes.specs.Opening.{Makers}
-use Rattle.rh_nodes.specs.Wires.{receiver, sender}
-use Rattle.rh_nodes.specs.World.{World}
-use Rattle.rh_client.specs.declared.state.ClientRole.{ClientRole}
-use Rattle.law_role_client.specs.Legible.{HaveCookies, HasCookieAtEnd}
+use Rattle.law_order.proofs.Vocabulary.{◌≡◌, List, [], ◌∷◌, ◌++◌, refl, ◌∙◌, subst, AllByRecursion, IsPrefix}
 use Rattle.rh_inproxy.specs.Machine as in_proxy
-use Rattle.rh_inproxy.specs.State.{InProxy}
-use Rattle.rh_outproxy.specs.OutProxy.{OutProxy}
-use Rattle.rh_server.specs.States.{Server}
-use Rattle.law_node_history.specs.Carried.{AllAccepted, IsTraced, LegsComeUpOnce, drawn_by, end_node, events_of, happened, heard_on}
-use Rattle.law_node_history.specs.Changes.{Change, MayChange, changed}
-use Rattle.rh_nodes.specs.declared.place.Place.{Place}
-use Rattle.law_node_history.specs.Histories.{History, IsRun, noted, nothing}
-use Rattle.law_node_history.proofs.Leading.{cast_stays}
-use Rattle.law_node_history.proofs.Tracing.{change_is_traced}
-use Rattle.law_node_history.proofs.Wired.{same_itself}
-use Rattle.law_node_streams.specs.Streams.{ComesUpWith, IsCookie, RisesWith}
-use Rattle.law_node_traces.specs.Traced.Ours.{AreOurs, deeds, rules}
-use Rattle.law_node_traces.specs.Traced.Turns.{HearInTurn}
+use Rattle.law_moves.proofs.Vocabulary.{Dir, Side, Leg, EndEvent, Event, Happens, IsGiven, IsTaken, IsClosed, IsRecycled, Hears, of_leg, IsFineMessage}
+use Rattle.law_role_inproxy.proofs.Vocabulary.{InProxy}
+use Rattle.law_role_client.proofs.Vocabulary.{ClientRole}
+use Rattle.law_role_server.proofs.Vocabulary.{Server}
+use Rattle.law_node_history.proofs.Vocabulary.{Who, receiver, sender, Company, Place, Makers, World, AllAccepted, IsTraced, LegsComeUpOnce, drawn_by, end_node, events_of, happened, heard_on, Change, MayChange, changed, History, IsRun, noted, nothing}
+use Rattle.law_node_history.proofs.Lemmas.{cast_stays, change_is_traced, same_itself}
+use Rattle.law_role_outproxy.proofs.Vocabulary.{OutProxy}
+use Rattle.law_node_streams.specs.Streams.{ComesUpWith, IsCookie}
 use Rattle.law_node_begins.specs.ProxiesBegin.Pipes.{in_pipe}
+use Rattle.law_node_traces.proofs.Vocabulary.{AreOurs, deeds, rules, HearInTurn}
 use Rattle.law_peers_routes.specs.Downwards as down
-use Rattle.law_world_order.specs.Flows.{AllFine, Flows, numbers_of}
-use Rattle.law_world_order.specs.Premises.{AreInRange}
 use Rattle.law_world_order.proofs.Legs.{Reads, of_legs}
 use Rattle.law_world_order.proofs.Fine.{from_nothing}
 use Rattle.law_world_order.proofs.Heard.{heard_fine}
 use Rattle.law_world_order.proofs.Flowing.{Streaming, flows}
 use Rattle.law_world_order.proofs.Starting.{Beginning, starts}
 use Rattle.law_world_order.proofs.Legal.{Legalities, all_legible}
+use Rattle.law_world_order.proofs.Pasts.Legal.{have_cookies}
+use Rattle.law_world_order.proofs.Vocabulary.{AllFine, Flows, numbers_of, AreInRange}
 
 -- ---- cookies
 
 -- the legs of the client came up with whole cookies
 abbrev pub IsSized : History → Type 0
 IsSized h = AllByRecursion (ComesUpWith IsCookie) (happened h.client)
-
-pub have_cookies : (moves : List EndMove) → AllByRecursion (RisesWith IsCookie) moves
-    → HaveCookies moves
-have_cookies [] all = tt
-have_cookies (move ∷ moves) all = (one move all.0, have_cookies moves all.1)
-  where
-    one : (move : EndMove) → RisesWith IsCookie move → HasCookieAtEnd move
-    one (Moves (Up leg cookie)) is = is
-    one (Moves (HeadCame leg text)) is = tt
-    one (Moves (PduCame leg count pdu)) is = tt
-    one (Moves (PacketCame leg count named)) is = tt
-    one (Moves (Puts leg)) is = tt
-    one (Moves (IsDrawn leg)) is = tt
-    one (Moves (Marks leg)) is = tt
-    one (Moves (Pings leg)) is = tt
-    one (Gives pdu) is = tt
-    one Takes is = tt
-    one Closes is = tt
-    one Recycles is = tt
 
 happened_front : (P : Event → Type 0) (es fs : List EndEvent)
     → AllByRecursion P (happened (es ++ fs)) → AllByRecursion P (happened es)

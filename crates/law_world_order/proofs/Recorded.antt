@@ -1,14 +1,11 @@
 -- a world of roles that settings make has numbers in their ranges
-use Rattle.std.proofs.Common.{ℕ, suc, ◌≤◌, IsTrue, ◌||◌, ◌==◌, arith, refl}
-use Rattle.std.proofs.lemmas.Bool.Decides.{nat_tests}
-use Rattle.rh_sig.specs.Values.{IsKeepalive, IsLifetime}
-use Rattle.rh_record.specs.Words.{most_number, within}
-use Rattle.rh_world.specs.declared.config.WorldConfig.{WorldConfig}
+use Rattle.law_order.proofs.Vocabulary.{ℕ, suc, ◌≤◌, IsTrue, ◌||◌, ◌==◌, arith, refl, nat_tests}
+use Rattle.law_moves.proofs.Vocabulary.{IsKeepalive, IsLifetime}
+use Rattle.law_node_history.proofs.Vocabulary.{most_number, within}
 use Rattle.rh_world.specs.Config as config
-use Rattle.rh_world.proofs.Ranges.{in_timeout, in_window}
+use Rattle.law_world_reports.proofs.Vocabulary.{in_timeout, in_window, WorldConfig}
 pub use Rattle.law_world_reports.proofs.Ordering.Recorded.{new, ours}
-use Rattle.law_world_order.specs.Flows.{numbers_of}
-use Rattle.law_world_order.specs.Premises.{AreInRange}
+use Rattle.law_world_order.proofs.Vocabulary.{numbers_of, AreInRange}
 
 in_lifetime : (n : ℕ) → IsTrue (within 131072 2147483648 n) → IsLifetime n
 in_lifetime n h = grind (arith, nat_tests)

@@ -1,34 +1,19 @@
 -- the streams of a recording go down and up
-use Rattle.std.proofs.Common.{◌≡◌, ℕ, List, [], refl, sym, subst, inl, inr, ◌⊎◌}
-use Rattle.std.proofs.lemmas.Bool.{cases_eq}
-use mathlib.Core.List.{IsPrefix}
-use Rattle.rh_text.specs.declared.ends.Dir.{Dir}
-use Rattle.rh_text.specs.declared.ends.Dir.TheVariants.{U, D}
-use Rattle.rh_text.specs.declared.ends.Side.{Side}
 use Rattle.rh_text.specs.declared.ends.Side.TheVariants as side
-use Rattle.rh_line.specs.declared.leg.Leg.{Leg}
-use Rattle.rh_line.specs.declared.leg.LegKind.TheVariants.{ClientOut, OutServer, ClientIn, InServer}
-use Rattle.rh_record.specs.declared.answer.Who.{Who}
+use Rattle.law_order.proofs.Vocabulary.{◌≡◌, ℕ, List, [], refl, sym, subst, inl, inr, ◌⊎◌, cases_eq, IsPrefix}
 use Rattle.rh_record.specs.declared.answer.Who.TheVariants as who
-use Rattle.rh_nodes.specs.Company.{Company}
-use Rattle.rh_nodes.specs.Opening.{Makers}
-use Rattle.rh_nodes.specs.Readers.{reader_of}
-use Rattle.rh_nodes.specs.Settling.{leg_at}
-use Rattle.rh_nodes.specs.Wires.{receiver, sender}
-use Rattle.rh_nodes.specs.World.{World}
-use Rattle.rh_client.specs.declared.state.ClientRole.{ClientRole}
 use Rattle.rh_client.specs.Client as client
-use Rattle.rh_inproxy.specs.State.{InProxy}
-use Rattle.rh_outproxy.specs.OutProxy.{OutProxy}
-use Rattle.rh_server.specs.States.{Server}
-use Rattle.law_node_history.specs.Carried.{drawn_by, end_drawn_on, end_node, events_of, happened, heard_on}
-use Rattle.law_node_history.specs.Histories.{History}
-use Rattle.law_node_traces.specs.Traced.Numbers.{ComeUpInOrder, is_made}
-use Rattle.law_node_traces.specs.Traced.Ours.{AreOurs, deeds, rules}
+use Rattle.law_moves.proofs.Vocabulary.{Dir, U, D, Side, Leg, ClientOut, OutServer, ClientIn, InServer}
+use Rattle.law_role_inproxy.proofs.Vocabulary.{InProxy}
+use Rattle.law_role_client.proofs.Vocabulary.{ClientRole}
+use Rattle.law_role_server.proofs.Vocabulary.{Server}
+use Rattle.law_node_history.proofs.Vocabulary.{Who, reader_of, receiver, sender, Company, Makers, leg_at, World, drawn_by, end_drawn_on, end_node, events_of, happened, heard_on, History}
+use Rattle.law_role_outproxy.proofs.Vocabulary.{OutProxy}
+use Rattle.law_node_traces.proofs.Vocabulary.{ComeUpInOrder, is_made, AreOurs, deeds, rules}
 use Rattle.law_peers_routes.specs.Downwards.{GoesDown}
 use Rattle.law_peers_routes.specs.Upwards.{GoesUp}
-use Rattle.law_world_order.specs.Flows.{AllLegible, AreBegun, Flows, numbers_of}
 use Rattle.law_world_order.proofs.Heard.{from_client, from_in, from_out, from_server}
+use Rattle.law_world_order.proofs.Vocabulary.{AllLegible, AreBegun, Flows, numbers_of}
 
 module _ {K : Type 0} (m : Makers K InProxy OutProxy)
     (first : Company ClientRole Server InProxy OutProxy) (cast : K)

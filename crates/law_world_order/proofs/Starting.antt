@@ -1,43 +1,24 @@
 -- what was put on each leg begins as it is read at the other end
-use Rattle.std.proofs.Common.{◌≡◌, ℕ, false, List, [], sym, ap, subst, refl}
-use Rattle.std.specs.Prelude.{Some, None}
-use Rattle.std.specs.declared.option.Option.{Option}
-use mathlib.Core.Path.{fun_ext}
-use Rattle.rh_sig.specs.declared.name.Pipe.{Pipe}
-use Rattle.rh_sig.specs.declared.name.Pipe.TheVariants.{IsU, CoD, OsU}
-use Rattle.rh_line.specs.declared.leg.Leg.{Leg}
-use Rattle.rh_line.specs.declared.leg.LegKind.TheVariants.{ClientOut, OutServer, ClientIn, InServer}
-use Rattle.law_moves.specs.Moves.{AreAllowed, AreAllowedAtEnd, EndMove, EndPassage, Move, Passage, all_end_moved, all_moved, end_started, started}
-use Rattle.rh_shell.specs.Rules.{Rules}
-use Rattle.rh_shell.specs.Shells.{same_leg}
-use Rattle.law_moves.specs.Wires.{of_leg}
-use Rattle.rh_http.specs.declared.config.ClientConfig.{ClientConfig}
-use Rattle.rh_client.specs.declared.state.ClientRole.{ClientRole}
-use Rattle.law_role_client.specs.Legible as client_legible
-use Rattle.law_role_client.specs.Order.{AreAllowedMoves, client_moved}
-use Rattle.rh_inproxy.specs.declared.state.InProxyConfig.{InProxyConfig}
+use Rattle.law_order.proofs.Vocabulary.{◌≡◌, ℕ, false, List, [], sym, ap, subst, refl, Some, None, Option, fun_ext}
 use Rattle.rh_inproxy.specs.Machine as in_proxy
-use Rattle.rh_inproxy.specs.State.{InProxy, is_client_leg}
 use Rattle.rh_inproxy.specs.State as in_state
-use Rattle.rh_outproxy.specs.declared.state.OutProxyConfig.{OutProxyConfig}
 use Rattle.rh_outproxy.specs.Machine as out_proxy
-use Rattle.rh_outproxy.specs.OutProxy.{OutProxy, new_proxy}
-use Rattle.law_role_server.specs.Legible as server_legible
 use Rattle.rh_server.specs.Servers as server
-use Rattle.rh_server.specs.States.{Server}
-use Rattle.rh_nodes.specs.Company.{Company}
-use Rattle.rh_nodes.specs.Opening.{Makers}
-use Rattle.rh_nodes.specs.Settling.{leg_at}
-use Rattle.law_node_history.specs.Histories.{History}
-use Rattle.law_moves.specs.ReadBack.Reading.{Begins}
+use Rattle.law_moves.proofs.Vocabulary.{Pipe, IsU, CoD, OsU, ClientConfig, Leg, ClientOut, OutServer, ClientIn, InServer, Rules, same_leg, AreAllowed, AreAllowedAtEnd, EndMove, EndPassage, Move, Passage, all_end_moved, all_moved, end_started, started, of_leg, Begins, AreInTurn, RefusesInTurn}
+use Rattle.law_role_inproxy.proofs.Vocabulary.{InProxyConfig, InProxy, is_client_leg}
+use Rattle.law_role_client.proofs.Vocabulary.{ClientRole, AreAllowedMoves, client_moved}
+use Rattle.law_role_client.specs.Legible as client_legible
+use Rattle.law_role_server.proofs.Vocabulary.{Server}
+use Rattle.law_role_server.specs.Legible as server_legible
+use Rattle.law_node_history.proofs.Vocabulary.{Company, Makers, leg_at, History}
+use Rattle.law_role_outproxy.proofs.Vocabulary.{OutProxyConfig, OutProxy, new_proxy}
 use Rattle.law_node_streams.specs.Streams.{RefusesFirst}
-use Rattle.law_moves.specs.Turns.{AreInTurn, RefusesInTurn}
-use Rattle.law_node_traces.specs.Traced.Ours.{AreOurs}
 use Rattle.law_node_begins.specs.EndsBegin.{BeginsLegs}
 use Rattle.law_node_begins.specs.ProxiesBegin.Pipes.{in_pipe, out_pipe, ci, is, co, os}
+use Rattle.law_node_traces.proofs.Vocabulary.{AreOurs}
 use Rattle.law_peers_routes.specs.Downwards as down
-use Rattle.law_world_order.specs.Flows.{AreBegun, Flows, numbers_of}
 use Rattle.law_world_order.proofs.Flowing.{Streaming}
+use Rattle.law_world_order.proofs.Vocabulary.{AreBegun, Flows, numbers_of}
 
 abbrev in_moved : InProxyConfig → List Move → Passage InProxy
 in_moved config moves = all_moved in_proxy.rules (started (in_state.first config)) moves

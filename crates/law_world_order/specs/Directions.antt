@@ -6,7 +6,7 @@ use Rattle.rh_inproxy.specs.State.{InProxy}
 use Rattle.rh_outproxy.specs.OutProxy.{OutProxy}
 use Rattle.rh_client.specs.declared.state.ClientRole.{ClientRole}
 use Rattle.rh_server.specs.States.{Server}
-use Rattle.rh_nodes.specs.Readers.{reader_of}
+use Rattle.rh_wires.specs.Readers.{reader_of}
 use Rattle.rh_nodes.specs.World.{World}
 use Rattle.law_node_history.specs.Histories.{History}
 use Rattle.law_node_traces.specs.Traced.Numbers.{is_made}

@@ -22,8 +22,8 @@ use Rattle.rh_client.specs.Client as client
 use Rattle.rh_client.specs.State as client_state
 use Rattle.rh_server.specs.Servers as server
 use Rattle.rh_server.specs.States.{Server}
+use Rattle.rh_company.specs.Company.{Company}
 use Rattle.rh_nodes.specs.Settling.{leg_at}
-use Rattle.rh_nodes.specs.Company.{Company}
 use Rattle.rh_nodes.specs.Opening.{Makers}
 use Rattle.rh_nodes.specs.World.{World}
 use Rattle.law_moves.specs.Wires.{of_leg}

@@ -5,3 +5,4 @@ pub mod Turns
 pub mod FirstTexts
 pub mod CookiesLeft
 pub mod Pasts
+pub mod FinalTurns

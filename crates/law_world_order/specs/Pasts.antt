@@ -3,9 +3,9 @@ use Rattle.rh_inproxy.specs.State.{InProxy}
 use Rattle.rh_outproxy.specs.OutProxy.{OutProxy}
 use Rattle.rh_client.specs.declared.state.ClientRole.{ClientRole}
 use Rattle.rh_server.specs.States.{Server}
-use Rattle.rh_nodes.specs.Company.{Company}
+use Rattle.rh_wires.specs.Readers.{reader_of}
+use Rattle.rh_company.specs.Company.{Company}
 use Rattle.rh_nodes.specs.Opening.{Makers}
-use Rattle.rh_nodes.specs.Readers.{reader_of}
 use Rattle.rh_nodes.specs.World.{World}
 use Rattle.law_node_history.specs.Carried.{happened}
 use Rattle.law_node_history.specs.Histories.{History}

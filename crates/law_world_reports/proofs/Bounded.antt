@@ -1,3 +1,4 @@
 mod Numbers
 pub mod Reached
 pub mod Windows
+pub mod Onwards

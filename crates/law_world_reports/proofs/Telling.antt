@@ -1,10 +1,11 @@
 mod Passed
-mod Adding
-mod Parts
+pub mod Adding
+pub mod Parts
 mod Tales
-mod Acting
-mod Lines
+pub mod Acting
+pub mod Lines
 pub mod Splits
 pub mod Shut
 pub mod Behind
 pub mod GoingOn
+pub mod Recorded

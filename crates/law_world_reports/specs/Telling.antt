@@ -7,13 +7,13 @@ use Rattle.rh_line.specs.declared.state.Take.{Take}
 use Rattle.rh_line.specs.declared.state.Take.TheVariants as takes
 use Rattle.rh_record.specs.declared.answer.Who.{Who}
 use Rattle.rh_record.specs.declared.answer.Who.TheVariants as who
-use Rattle.rh_record.specs.Events.Events.{Event, Ends, Closes, Stops, given, taken}
+use Rattle.rh_record.specs.Events.Events.{Event, Gives, Refuses, Takes, Ends, Closes, Stops, Silent, given, of_end, taken}
 use Rattle.rh_shell.specs.Ends.{take_answer}
-use Rattle.rh_nodes.specs.Company.{Company, Rulebook}
+use Rattle.rh_company.specs.Company.{Company, Rulebook}
 use Rattle.rh_nodes.specs.Giving.{Deeds}
 use Rattle.rh_nodes.specs.Opening.{Makers}
 use Rattle.rh_nodes.specs.World.{World}
-use Rattle.law_moves.specs.Moving.{EndEvent}
+use Rattle.law_moves.specs.Moving.{EndEvent, Happens, IsGiven, IsTaken, IsClosed, IsRecycled}
 use Rattle.law_node_history.specs.Changes as changes
 use Rattle.law_node_history.specs.Changes.{Change, ByLines}
 use Rattle.law_node_history.specs.Closes.{HasClosed}
@@ -46,12 +46,37 @@ abbrev pub end_taken : {C S I O : Type 0} → Rulebook C S I O → Deeds C S →
 end_taken r d first h Client = all_taken r.client d.client first.client h.client
 end_taken r d first h Server = all_taken r.server d.server first.server h.server
 
+-- and, as a list of empty PDUs, how often it was told to give no more
+abbrev pub all_stopped : List EndEvent → List (List ℕ)
+all_stopped [] = []
+all_stopped (IsClosed ∷ events) = [] ∷ all_stopped events
+all_stopped (Happens event ∷ events) = all_stopped events
+all_stopped (IsGiven pdu ∷ events) = all_stopped events
+all_stopped (IsTaken ∷ events) = all_stopped events
+all_stopped (IsRecycled ∷ events) = all_stopped events
+
+abbrev pub end_stopped : History → Side → List (List ℕ)
+end_stopped h Client = all_stopped h.client
+end_stopped h Server = all_stopped h.server
+
+-- how often a report tells so
+abbrev pub stopped : Side → List Event → List (List ℕ)
+stopped end [] = []
+stopped end (Stops side ∷ events) = of_end end side [] ++ stopped end events
+stopped end (Gives side ∷ events) = stopped end events
+stopped end (Refuses side ∷ events) = stopped end events
+stopped end (Takes side pdu ∷ events) = stopped end events
+stopped end (Ends side ∷ events) = stopped end events
+stopped end (Closes side ∷ events) = stopped end events
+stopped end (Silent ∷ events) = stopped end events
+
 -- these events of a report, where these PDUs were offered, tell what the history says
 pub record Agrees {C S I O : Type 0} (r : Rulebook C S I O) (d : Deeds C S)
     (first : Company C S I O) (h : History) (pdus : List (List ℕ)) (told : List Event)
     : Type 0 where
   pub gives : (end : Side) → given end pdus told ≡ end_given r d first h end
   pub takes : (end : Side) → taken end told ≡ end_taken r d first h end
+  pub stops : (end : Side) → stopped end told ≡ end_stopped h end
 
 -- ---- what an event tells
 

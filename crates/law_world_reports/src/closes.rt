@@ -5,7 +5,7 @@ pub mod licences;
 pub mod recordings;
 pub mod shows;
 
-pub use licences::{each_cause_shows, each_close_shows};
+pub use licences::each_close_shows;
 pub use recordings::{
     a_node_of_a_recording_falls_silent, a_recording_reports_a_node_closed_once,
     each_cause_of_a_recording_shows, each_close_of_a_recording_shows,

@@ -3,7 +3,7 @@
 
 ghost use Rattle.std.specs.Prelude.{◌≡◌, List, []};
 ghost use Rattle.rh_record.specs.declared.line.Line.{Line};
-ghost use Rattle.rh_nodes.specs.Company.{Rulebook};
+ghost use Rattle.rh_company.specs.Company.{Rulebook};
 ghost use Rattle.rh_nodes.specs.Giving.{Deeds};
 ghost use Rattle.rh_nodes.specs.Opening.{Makers};
 ghost use Rattle.rh_nodes.specs.Steps.{told};

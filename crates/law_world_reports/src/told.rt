@@ -6,7 +6,7 @@ ghost use Rattle.rh_text.specs.declared.ends.Side.{Side};
 ghost use Rattle.rh_line.specs.declared.cause.Cause.{Cause};
 ghost use Rattle.rh_record.specs.declared.line.Line.{Line};
 ghost use Rattle.rh_record.specs.Events.Events.{Closes, Event, events, given, offered, taken};
-ghost use Rattle.rh_nodes.specs.Company.{Company, Rulebook};
+ghost use Rattle.rh_company.specs.Company.{Company, Rulebook};
 ghost use Rattle.rh_nodes.specs.Giving.{Deeds};
 ghost use Rattle.rh_nodes.specs.Opening.{Makers};
 ghost use Rattle.rh_nodes.specs.Steps.{told};

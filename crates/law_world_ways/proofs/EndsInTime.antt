@@ -4,4 +4,6 @@ pub mod Goes
 pub mod Losing
 pub mod Rounds
 pub mod EachLine
+mod Told
+pub mod ToldRecorded
 pub mod Recorded

@@ -8,5 +8,5 @@ pub mod ClientOver
 pub mod HeadTexts
 pub mod ReadBy
 pub mod Passing
-mod LegGoes
+pub mod LegGoes
 pub mod NoLoss

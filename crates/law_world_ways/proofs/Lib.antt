@@ -4,3 +4,5 @@ mod LiveIntakes
 pub mod OnPaths
 pub mod ExactWays
 mod ExactPaths
+mod DirectKept
+mod OnToldWays

@@ -7,7 +7,7 @@ mod Ends
 pub mod Used
 mod AtEnds
 mod Carriages
-mod OnPath
+pub mod OnPath
 mod Down
 mod ReadBy
 mod Up

@@ -1,13 +1,17 @@
 //! What is on its way; that nothing is lost where nothing broke.
 #![tactic(auto)]
 
+pub mod direct_ways;
 pub mod ends_in_time;
 pub mod exact_paths;
 pub mod exact_ways;
 pub mod live_intakes;
 pub mod marks_put;
 pub mod paths;
+pub mod told_exactly;
+pub mod told_ways;
 
+pub use direct_ways::direct_recordings_keep_all;
 pub use ends_in_time::{
     lines_end_legs_in_time, recordings_end_legs_in_time, settling_ends_legs_in_time,
 };
@@ -28,3 +32,5 @@ pub use paths::{
     every_recording_keeps_what_is_on_its_way, legs_in_use_lose_nothing, nothing_on_its_way_is_lost,
     what_stands_on_a_leg_is_read_in_its_bytes, what_was_forgotten_was_drawn,
 };
+pub use told_exactly::a_recording_tells_all_that_it_keeps;
+pub use told_ways::a_recording_tells_what_is_on_its_way;

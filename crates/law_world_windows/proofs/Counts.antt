@@ -1,21 +1,10 @@
 -- bytes and edges of more messages, and of a front of them
-use Rattle.std.proofs.Common.{◌≡◌, ℕ, ◌+◌, ◌≤◌, List, [], ◌∷◌, ◌++◌, arith, rules}
-use Rattle.std.specs.List.{AllByRecursion}
-use Rattle.std.proofs.lemmas.Bool.Decides.{nat_tests}
+use Rattle.law_order.proofs.Vocabulary.{ℕ, ◌+◌, ◌≤◌, List, [], ◌∷◌, ◌++◌, arith, rules, AllByRecursion, nat_tests}
 use Rattle.rh_sig.specs.declared.named.Named.TheVariants.{Ack}
-use Rattle.rh_shell.specs.Rules.{Message, Text, Pdu, Packet}
-use Rattle.law_world_windows.specs.Hops.{pdu_bytes, edge_in, greatest_edge, IsTrueAck}
+use Rattle.law_moves.proofs.Vocabulary.{Message, Text, Pdu, Packet}
+use Rattle.law_world_windows.specs.Hops.{edge_in, greatest_edge, IsTrueAck}
 
 -- ---- more messages
-
-pub bytes_append : (a b : List Message) → pdu_bytes (a ++ b) ≡ pdu_bytes a + pdu_bytes b
-bytes_append [] b = omega arith
-bytes_append (Text bytes ∷ a) b = bytes_append a b
-bytes_append (Pdu pdu ∷ a) b = let rest = bytes_append a b in omega (arith, rest)
-bytes_append (Packet named ∷ a) b = bytes_append a b
-
-pub bytes_rise : (a b : List Message) → pdu_bytes a ≤ pdu_bytes (a ++ b)
-bytes_rise a b = let both = bytes_append a b in omega (arith, both)
 
 pub edges_rise : (a b : List Message) → greatest_edge a ≤ greatest_edge (a ++ b)
 edges_rise [] b = omega arith
@@ -50,8 +39,3 @@ pub all_later : (came more : ℕ) (ms : List Message) → came ≤ more
 all_later came more [] e all = tt
 all_later came more (m ∷ ms) e all =
     (true_later came more m e all.0, all_later came more ms e all.1)
-
-pub all_append : {X : Type 0} (P : X → Type 0) (a b : List X) → AllByRecursion P a
-    → AllByRecursion P b → AllByRecursion P (a ++ b)
-all_append P [] b all more = more
-all_append P (x ∷ a) b all more = (all.0, all_append P a b all.1 more)

@@ -1,33 +1,17 @@
 -- a node that a fed piece closes, by the byte that closes it: what it heard until then
-use Rattle.std.proofs.Common.{◌≡◌, ℕ, Bool, List, [], ◌∷◌, ◌++◌, map, sym, ap, ◌∙◌}
-use Rattle.std.specs.Prelude.{if◌then◌else◌}
-use Rattle.std.proofs.lemmas.List.{append-nil}
-use Rattle.rh_text.specs.declared.ends.Dir.{Dir}
 use Rattle.rh_text.specs.declared.ends.Side.TheVariants as side
-use Rattle.rh_line.specs.declared.leg.Leg.{Leg}
-use Rattle.rh_record.specs.declared.answer.Who.{Who}
+use Rattle.law_order.proofs.Vocabulary.{◌≡◌, ℕ, Bool, List, [], ◌∷◌, ◌++◌, map, sym, ap, ◌∙◌, if◌then◌else◌, append-nil}
 use Rattle.rh_record.specs.declared.answer.Who.TheVariants as who
-use Rattle.rh_shell.specs.Shells.{Shell, bytes}
-use Rattle.rh_inproxy.specs.State.{InProxy}
-use Rattle.rh_outproxy.specs.OutProxy.{OutProxy}
-use Rattle.rh_client.specs.declared.state.ClientRole.{ClientRole}
-use Rattle.rh_server.specs.States.{Server}
-use Rattle.rh_nodes.specs.declared.place.Place.{Place}
-use Rattle.rh_nodes.specs.declared.place.Place.TheVariants.{Here}
-use Rattle.rh_nodes.specs.Halves.{is_same}
-use Rattle.rh_nodes.specs.Legs as legs
-use Rattle.rh_nodes.specs.Wires.{receiver}
-use Rattle.rh_nodes.specs.World.{World, at}
+use Rattle.rh_wires.specs.Legs as legs
+use Rattle.law_moves.proofs.Vocabulary.{Dir, Leg, Shell, bytes, Happens, after_end_events}
 use Rattle.law_moves.specs.Moving as moving
-use Rattle.law_moves.specs.Moving.{EndEvent, Happens, after_end_event, after_end_events, after_event, after_events}
-use Rattle.law_node_history.specs.Carried.{happened, heard_on}
-use Rattle.law_node_history.specs.Changes.{IsFed}
-use Rattle.law_node_history.specs.Histories.{History, at_place, in_place, made_by, noted, out_place, told_to}
-use Rattle.law_node_history.proofs.Appended.{happened_more, heard_append}
-use Rattle.law_node_history.proofs.Runs.{end_events_append}
-use Rattle.law_node_history.proofs.Wired.{same_itself}
-use Rattle.law_node_traces.specs.Traced.Ours.{deeds, rules}
-use Rattle.law_world_honest.proofs.Honesty.Fed.{same_who}
+use Rattle.law_role_inproxy.proofs.Vocabulary.{InProxy}
+use Rattle.law_role_client.proofs.Vocabulary.{ClientRole}
+use Rattle.law_role_server.proofs.Vocabulary.{Server}
+use Rattle.law_node_history.proofs.Vocabulary.{Who, receiver, Place, Here, is_same, World, at, happened, heard_on, IsFed, History, at_place, in_place, made_by, noted, out_place, told_to}
+use Rattle.law_node_history.proofs.Lemmas.{happened_more, heard_append, end_events_append, same_itself, who_itself as same_who}
+use Rattle.law_role_outproxy.proofs.Vocabulary.{OutProxy}
+use Rattle.law_node_traces.proofs.Vocabulary.{deeds, rules}
 
 module _ {K : Type 0} (v : World K ClientRole Server InProxy OutProxy) (h : History) (leg : Leg)
     (dir : Dir) (node : Who) (here : at v leg (receiver dir) ≡ node) where

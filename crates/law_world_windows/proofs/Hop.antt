@@ -1,36 +1,17 @@
 -- what a row refuses on a hop cannot come from the other end
-use Rattle.std.proofs.Common.{◌≡◌, inl, inr, ℕ, ◌+◌, ◌≤◌, ◌<◌, Bool, true, false, if◌then◌else◌, List, [], ◌∷◌, ◌++◌, length, arith, refl, sym, ap, ◌∙◌, subst, rules}
-use Rattle.std.specs.List.{AllByRecursion}
-use Rattle.std.proofs.lemmas.Bool.Decides.{nat_tests}
-use mathlib.Core.List.{IsPrefix}
-use Rattle.rh_window.specs.declared.fault.WindowExceeded.{WindowExceeded}
-use Rattle.rh_sig.specs.declared.named.Named.{Named}
+use Rattle.law_order.proofs.Vocabulary.{inl, inr, ℕ, ◌+◌, ◌≤◌, ◌<◌, Bool, true, false, if◌then◌else◌, List, [], ◌∷◌, ◌++◌, length, arith, sym, ◌∙◌, subst, rules, AllByRecursion, nat_tests, IsPrefix}
 use Rattle.rh_sig.specs.declared.named.Named.TheVariants.{Ack}
-use Rattle.rh_line.specs.declared.leg.Leg.{Leg}
 use Rattle.rh_shell.specs.declared.answers.Refused.TheVariants as refused
-use Rattle.rh_shell.specs.Hearing.{is_ping}
-use Rattle.law_moves.specs.Moves.{Passage}
-use Rattle.rh_shell.specs.Rules.{Message, Text, Pdu, Packet, Rules}
-use Rattle.law_moves.specs.Wires.{of_leg}
-use Rattle.law_moves.specs.ReadBack.Reading.{all_read_of}
+use Rattle.law_moves.proofs.Vocabulary.{WindowExceeded, Named, Leg, is_ping, Message, Text, Pdu, Packet, Rules, Passage, of_leg, all_read_of}
+use Rattle.law_moves.proofs.Lemmas.{bytes_append, bytes_rise}
+use Rattle.law_peers_moments.proofs.Read.{read_bytes}
+use Rattle.law_world_windows.proofs.Counts.{edges_rise}
 use Rattle.law_world_windows.specs.Hops.{pdu_bytes, greatest_edge, IsFalseAck, RefusesFalseAcks, IsTrueAck, IsNoWindow, RefusesBehind, SendsWithin, ReceivesWithin}
 use Rattle.law_world_windows.specs.Refusing.{RefusesMessage}
-use Rattle.law_world_windows.proofs.Counts.{bytes_append, bytes_rise, edges_rise}
 
 -- ---- what is read of what was put
 
-read_bytes : (put : List Message) → pdu_bytes (all_read_of put) ≡ pdu_bytes put
-read_bytes [] = refl
-read_bytes (Text bytes ∷ put) = read_bytes put
-read_bytes (Pdu pdu ∷ put) = ap (λ (n : ℕ). length pdu + n) (read_bytes put)
-read_bytes (Packet named ∷ put) = by (is_ping named) (read_bytes put)
-  where
-    by : (t : Bool) → pdu_bytes (all_read_of put) ≡ pdu_bytes put
-        → pdu_bytes ((if t then [] else Packet named ∷ []) ++ all_read_of put) ≡ pdu_bytes put
-    by true rest = rest
-    by false rest = rest
-
-read_edges : (put : List Message) → greatest_edge (all_read_of put) ≤ greatest_edge put
+pub read_edges : (put : List Message) → greatest_edge (all_read_of put) ≤ greatest_edge put
 read_edges [] = omega arith
 read_edges (Text bytes ∷ put) = let rest = read_edges put in grind (arith, nat_tests, rest)
 read_edges (Pdu pdu ∷ put) = let rest = read_edges put in grind (arith, nat_tests, rest)
@@ -56,11 +37,11 @@ read_all P (Packet named ∷ put) all = by (is_ping named) (read_all P put all.1
 
 -- ---- and of a front of that
 
-front_bytes : (a b : List Message) → IsPrefix a b → pdu_bytes a ≤ pdu_bytes b
+pub front_bytes : (a b : List Message) → IsPrefix a b → pdu_bytes a ≤ pdu_bytes b
 front_bytes a b p = subst (λ (all : List Message). pdu_bytes a ≤ pdu_bytes all) p.1
     (bytes_rise a p.0)
 
-front_edges : (a b : List Message) → IsPrefix a b → greatest_edge a ≤ greatest_edge b
+pub front_edges : (a b : List Message) → IsPrefix a b → greatest_edge a ≤ greatest_edge b
 front_edges a b p = subst (λ (all : List Message). greatest_edge a ≤ greatest_edge all) p.1
     (edges_rise a p.0)
 

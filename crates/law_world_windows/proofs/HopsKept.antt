@@ -1,65 +1,33 @@
 -- no hop that lies on one leg closes a node of it for a window
-use Rattle.std.proofs.Common.{◌≡◌, ℕ, ◌+◌, List, [], ◌∷◌, ◌++◌, length, refl, sym, ap, ◌∙◌, subst}
-use Rattle.std.specs.Prelude.{Some}
-use Rattle.std.specs.List.{AllByRecursion}
-use Rattle.std.specs.declared.option.Option.{Option}
-use mathlib.Core.List.{IsPrefix}
-use Rattle.rh_text.specs.declared.ends.Dir.TheVariants.{U, D}
-use Rattle.rh_window.specs.Sides.{IsWindow}
-use Rattle.rh_sig.specs.declared.name.Pipe.{Pipe}
-use Rattle.rh_sig.specs.declared.name.Pipe.TheVariants.{IsU, IsD, OsU, OsD}
-use Rattle.rh_line.specs.declared.cause.Cause.{Cause}
+use Rattle.law_order.proofs.Vocabulary.{◌≡◌, ℕ, ◌+◌, List, [], ◌∷◌, ◌++◌, length, refl, sym, ap, ◌∙◌, subst, Some, AllByRecursion, Option, IsPrefix}
 use Rattle.rh_line.specs.declared.cause.Cause.TheVariants as cause
-use Rattle.rh_line.specs.declared.leg.Leg.{Leg}
-use Rattle.rh_line.specs.declared.leg.LegKind.TheVariants.{ClientOut, OutServer, ClientIn, InServer}
 use Rattle.rh_record.specs.declared.answer.Who.TheVariants as who
-use Rattle.rh_shell.specs.declared.answers.Refused.{Refused}
 use Rattle.rh_shell.specs.declared.answers.Refused.TheVariants as refused
-use Rattle.law_moves.specs.Carrying.{spelled}
-use Rattle.law_moves.specs.Moves.{EndMove, Move, Passage, EndPassage, AreAllowed, AreAllowedAtEnd, all_end_moved, all_moved, end_started, started}
-use Rattle.law_moves.specs.Moving.{Event, Hears, after_events}
-use Rattle.rh_shell.specs.Shells.{Shell, begun}
-use Rattle.law_moves.specs.Wires.{of_leg}
-use Rattle.law_moves.specs.Legible.Legible.{ReadsBack}
-use Rattle.rh_nodes.specs.declared.event.Event.TheVariants.{Comes}
-use Rattle.rh_nodes.specs.declared.place.Place.TheVariants.{Here}
-use Rattle.rh_nodes.specs.Legs as legs
-use Rattle.rh_nodes.specs.Opening.{Makers}
-use Rattle.rh_nodes.specs.Settling.{leg_at}
-use Rattle.rh_nodes.specs.World.{World}
-use Rattle.rh_client.specs.declared.state.ClientRole.{ClientRole}
-use Rattle.rh_inproxy.specs.declared.state.InProxyConfig.{InProxyConfig}
-use Rattle.law_role_inproxy.specs.Legible as in_legible
 use Rattle.rh_inproxy.specs.Machine as in_proxy
-use Rattle.rh_inproxy.specs.State.{InProxy}
 use Rattle.rh_inproxy.specs.State as in_state
-use Rattle.rh_outproxy.specs.declared.out_proxy.TheConstants.{ROOMS}
-use Rattle.rh_outproxy.specs.declared.state.OutProxyConfig.{OutProxyConfig}
-use Rattle.law_role_outproxy.specs.Legible as out_legible
 use Rattle.rh_outproxy.specs.Machine as out_proxy
-use Rattle.rh_outproxy.specs.OutProxy.{OutProxy, new_proxy}
-use Rattle.law_role_server.specs.Legible as server_legible
 use Rattle.rh_server.specs.Servers as server
-use Rattle.rh_server.specs.States.{Server}
+use Rattle.rh_wires.specs.Legs as legs
+use Rattle.law_moves.proofs.Vocabulary.{U, D, IsWindow, Pipe, IsU, IsD, OsU, OsD, Cause, Leg, ClientOut, OutServer, ClientIn, InServer, Refused, Shell, begun, spelled, EndMove, Move, Passage, EndPassage, AreAllowed, AreAllowedAtEnd, all_end_moved, all_moved, end_started, started, Event, Hears, after_events, of_leg, ReadsBack, Begins, messages_read, ReadsWell}
+use Rattle.law_role_inproxy.proofs.Vocabulary.{InProxyConfig, InProxy}
+use Rattle.law_role_inproxy.specs.Legible as in_legible
+use Rattle.law_role_client.proofs.Vocabulary.{ClientRole}
+use Rattle.law_role_server.proofs.Vocabulary.{Server}
+use Rattle.law_role_server.specs.Legible as server_legible
+use Rattle.law_node_history.proofs.Vocabulary.{Comes, Here, Makers, leg_at, World, drawn_by, drawn_on, end_drawn_on, happened, heard_on, IsFed, MayChange, changed, History, IsRun, in_place, out_place}
 use Rattle.law_node_causes.specs.Closings.{ClosesWith}
 use Rattle.law_node_causes.specs.Refusals.{MayRefuseOn}
-use Rattle.law_node_history.specs.Carried.{drawn_by, drawn_on, end_drawn_on, happened, heard_on}
-use Rattle.law_node_history.specs.Changes.{IsFed, MayChange, changed}
-use Rattle.law_node_history.specs.Histories.{History, IsRun, in_place, out_place}
-use Rattle.law_moves.specs.ReadBack.Reading.{Begins, messages_read}
-use Rattle.law_moves.specs.ReadBack.Well.{ReadsWell}
+use Rattle.law_role_outproxy.proofs.Vocabulary.{ROOMS, OutProxyConfig, OutProxy, new_proxy}
+use Rattle.law_role_outproxy.specs.Legible as out_legible
 use Rattle.law_node_streams.proofs.Streams.LegLogs.{on_leg}
 use Rattle.law_node_begins.specs.ProxiesBegin.Pipes as pipes
+use Rattle.law_node_traces.proofs.Vocabulary.{ByChanges, AreOurs, deeds, rules}
 use Rattle.law_peers_routes.specs.Downwards as down
-use Rattle.law_node_traces.specs.Traced.Cookies.{ByChanges}
-use Rattle.law_node_traces.specs.Traced.Ours.{AreOurs, deeds, rules}
-use Rattle.law_world_order.specs.Flows.{IsFlowing, numbers_of}
-use Rattle.law_world_order.specs.Premises.{AreInRange}
 use Rattle.law_world_order.proofs.Heard.{from_in, from_out, from_server, reads_on}
-use Rattle.law_world_honest.specs.Honesty.Honest.{well_on}
+use Rattle.law_world_order.proofs.Vocabulary.{IsFlowing, numbers_of, AreInRange}
 use Rattle.law_world_honest.proofs.Honesty.Drawn.{free_by}
 use Rattle.law_world_honest.proofs.Honesty.Fed.{strict_on}
-use Rattle.law_world_windows.specs.Hops.{is_leg, os_leg, ReceivesWithin, SendsWithin}
+use Rattle.law_world_honest.specs.Honesty.Honest.{well_on}
 use Rattle.law_world_windows.proofs.Fed.{piece, in_events, out_events, heard_behind}
 use Rattle.law_world_windows.proofs.Hop.{never_exceeded, never_out_of_range}
 use Rattle.law_world_windows.proofs.Moment.{Laws, NodeLaws, now, known, flowing, behind, flowing_behind, well_behind, drawn_before, drawn_now, closes_at}
@@ -68,6 +36,7 @@ use Rattle.law_world_windows.proofs.OneByte.{AtByte}
 use Rattle.law_world_windows.proofs.Pieces.{FedFronts, fed_fronts}
 use Rattle.law_world_windows.proofs.Servers.{short, server_passage, server_stops}
 use Rattle.law_world_windows.proofs.Stopping.{Readings, StopsAt, Way}
+use Rattle.law_world_windows.specs.Hops.{is_leg, os_leg, ReceivesWithin, SendsWithin}
 
 -- ---- the laws that this stands on
 
@@ -109,20 +78,20 @@ module _ {K : Type 0} (hop : HopLaws) (m : Makers K InProxy OutProxy)
     abbrev server_at : Passage Server
     server_at = flowing.flows.server.passage.passage
 
-    server_receives : (n : ℕ) → ReceivesWithin server.rules (is_leg n) server_at
+    pub server_receives : (n : ℕ) → ReceivesWithin server.rules (is_leg n) server_at
     server_receives n =
         let f = flowing.flows.server in
         subst (λ (p : EndPassage Server). ReceivesWithin server.rules (is_leg n) p.passage)
         f.leads.reached
         (hop.server_receives ours.window n f.leads.moves ranges.window f.leads.allowed)
 
-    server_sends : (n : ℕ) → SendsWithin server.rules (os_leg n) server_at
+    pub server_sends : (n : ℕ) → SendsWithin server.rules (os_leg n) server_at
     server_sends n =
         let f = flowing.flows.server in
         subst (λ (p : EndPassage Server). SendsWithin server.rules (os_leg n) p.passage)
         f.leads.reached (hop.server_sends ours.window n f.leads.moves f.leads.allowed)
 
-    in_sends : (n : ℕ)
+    pub in_sends : (n : ℕ)
         → SendsWithin in_proxy.rules (is_leg n) (flowing.flows.ins n).passage
     in_sends n =
         let f = flowing.flows.ins n in
@@ -131,7 +100,7 @@ module _ {K : Type 0} (hop : HopLaws) (m : Makers K InProxy OutProxy)
         (all_moved in_proxy.rules (started (in_state.first (ours.in_config n))) f.leads.moves))
         (ours.in_number n) (hop.in_sends (ours.in_config n) f.leads.moves f.leads.allowed))
 
-    out_receives : (n : ℕ)
+    pub out_receives : (n : ℕ)
         → ReceivesWithin out_proxy.rules (os_leg n) (flowing.flows.outs n).passage
     out_receives n =
         let f = flowing.flows.outs n in
@@ -149,7 +118,7 @@ module _ {K : Type 0} (hop : HopLaws) (m : Makers K InProxy OutProxy)
     server_back leg =
         on_leg server_legible.pipe_put ReadsBack leg server_at.put flowing.legible.server.read_back
 
-    server_way : (leg : Leg) (bytes : List ℕ)
+    pub server_way : (leg : Leg) (bytes : List ℕ)
         → Begins (server_legible.pipe_put leg) (of_leg leg server_at.put)
         → IsPrefix bytes (drawn_by rules m deeds w.company w.cast h who.Server leg)
         → Way (server_legible.pipe_put leg) (of_leg leg server_at.put) bytes
@@ -177,7 +146,7 @@ module _ {K : Type 0} (hop : HopLaws) (m : Makers K InProxy OutProxy)
         on_leg in_legible.pipe_put ReadsBack (is_leg n) (flowing.flows.ins n).passage.put
         (flowing.legible.ins n).read_back
 
-    in_way : (n : ℕ) (bytes : List ℕ)
+    pub in_way : (n : ℕ) (bytes : List ℕ)
         → IsPrefix bytes (drawn_by rules m deeds w.company w.cast h (who.In n) (is_leg n))
         → Way (Some IsU) (of_leg (is_leg n) (flowing.flows.ins n).passage.put) bytes
     in_way n bytes p = record {
@@ -205,7 +174,7 @@ module _ {K : Type 0} (hop : HopLaws) (m : Makers K InProxy OutProxy)
         on_leg out_legible.pipe_put ReadsBack (os_leg n) (flowing.flows.outs n).passage.put
         (flowing.legible.outs n).read_back
 
-    out_way : (n : ℕ) (bytes : List ℕ)
+    pub out_way : (n : ℕ) (bytes : List ℕ)
         → IsPrefix bytes (drawn_by rules m deeds w.company w.cast h (who.Out n) (os_leg n))
         → Way (Some OsU) (of_leg (os_leg n) (flowing.flows.outs n).passage.put) bytes
     out_way n bytes p = record {
@@ -218,7 +187,7 @@ module _ {K : Type 0} (hop : HopLaws) (m : Makers K InProxy OutProxy)
     }
 
     -- what the in proxy took there
-    in_came : (n : ℕ) → IsPrefix (of_leg (is_leg n) (flowing.flows.ins n).passage.came)
+    pub in_came : (n : ℕ) → IsPrefix (of_leg (is_leg n) (flowing.flows.ins n).passage.came)
         (messages_read (Some IsD) (heard_on (is_leg n) (h.ins n)))
     in_came n =
         subst (λ (p : Option Pipe). IsPrefix

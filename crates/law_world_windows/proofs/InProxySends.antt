@@ -1,56 +1,20 @@
 -- an in proxy sends to the server within its window
-use Rattle.std.proofs.Common.{◌≡◌, ℕ, ◌==◌, Bool, true, false, true≢false, ◌&&◌, not, List, [], ◌∷◌, ◌++◌, length, Some, None, Ok, Err, arith, refl, sym, ◌∙◌, subst, rules}
-use Rattle.std.proofs.lemmas.Bool.{and_parts}
-use Rattle.std.specs.Prelude.{if◌then◌else◌}
-use Rattle.std.specs.declared.option.Option.{Option}
-use Rattle.std.specs.declared.result.Result.{Result}
-use Rattle.rh_window.specs.Sides.{Sender}
-use Rattle.rh_window.specs.Sending.{may_send, after_acked, ack_verdict}
-use Rattle.rh_window.specs.declared.fault.BadAck.{BadAck}
 use Rattle.rh_window.specs.declared.recv_window.Ack as told
-use Rattle.law_order.proofs.ByNumber.{by_test}
-use Rattle.rh_rts.specs.declared.command.Cookie.{Cookie}
-use Rattle.rh_sig.specs.declared.named.Named.{Named}
-use Rattle.rh_sig.specs.declared.named.Named.TheVariants.{ConnB1, ConnB3, InR1A1, InR1B1, InR1B2, Ack}
+use Rattle.law_order.proofs.Vocabulary.{◌≡◌, ℕ, ◌==◌, Bool, true, false, true≢false, ◌&&◌, not, List, [], ◌∷◌, ◌++◌, length, Some, None, Ok, Err, arith, refl, sym, ◌∙◌, subst, rules, and_parts, if◌then◌else◌, Option, Result}
+use Rattle.rh_sig.specs.declared.named.Named.TheVariants.{Ack}
 use Rattle.rh_line.specs.Lines as line
-use Rattle.rh_line.specs.declared.leg.Leg.{Leg}
-use Rattle.rh_line.specs.declared.which.Which.{Which}
-use Rattle.rh_line.specs.declared.which.Which.TheVariants.{Current, Next}
-use Rattle.rh_shell.specs.declared.answers.Count.{Count}
 use Rattle.rh_shell.specs.declared.answers.Refused.TheVariants as refused
-use Rattle.rh_shell.specs.declared.due.Due.{Due}
-use Rattle.rh_shell.specs.Rules.{Message, Text, Pdu, Packet}
-use Rattle.rh_shell.specs.Shells.{same_leg}
-use Rattle.rh_inproxy.specs.declared.state.Edge.{Edge}
-use Rattle.rh_inproxy.specs.declared.state.Handover.{Handover}
-use Rattle.rh_inproxy.specs.declared.state.Handover.TheVariants.{Before, Came, Passed}
-use Rattle.rh_inproxy.specs.declared.state.InProxyConfig.{InProxyConfig}
-use Rattle.rh_inproxy.specs.declared.state.Joining.TheVariants.{TellsServer, Told, Follows}
-use Rattle.rh_inproxy.specs.declared.state.Opener.{Opener}
-use Rattle.rh_inproxy.specs.declared.state.Opening.{Opening}
 use Rattle.rh_inproxy.specs.declared.state.Opening.TheVariants as openings
-use Rattle.rh_inproxy.specs.declared.state.Successor.{Successor}
 use Rattle.rh_inproxy.specs.declared.state.Successor.TheVariants as successors
-use Rattle.rh_inproxy.specs.declared.state.Work.{Work}
 use Rattle.rh_inproxy.specs.declared.state.Work.TheVariants as works
-use Rattle.rh_inproxy.specs.Answers.{Done, Pick, or_else, refuse, unexpected}
-use Rattle.rh_inproxy.specs.State.{InProxy, first, channel_of, is_client_leg, is_server_leg, same_cookie}
-use Rattle.rh_inproxy.specs.Opening.{up, head, drawn, first_by, put_first, echo_answer, echo_by, put_echo, opener_of, is_absent, is_connection, is_replacement, is_unknown, with_edge, on_conn_b1}
-use Rattle.rh_inproxy.specs.Acknowledging.{acked, acked_by, ack_for, on_ack, ack_due, ack_by, current_ack, next_ack, put_acks}
-use Rattle.rh_inproxy.specs.Ending.{is_newest, mark, put_end, settled, settled_pick}
-use Rattle.rh_inproxy.specs.InReplacement.{has_passed, on_in_r1_a1, on_in_r1_b1, told_by, put_in_r2_a2, mark_by, put_in_r1_a6}
-use Rattle.rh_inproxy.specs.Passing.{next_pdu, put_pdu}
-use Rattle.rh_inproxy.specs.Putting.{put as put_of, next, waiting_by, put_waiting, put_control, put_early, put_stream, put_behind, put_mark}
-use Rattle.rh_inproxy.specs.Time.{ping, put_ping}
-use Rattle.rh_inproxy.specs.Machine.{pdu, packet, on_channel, on_channel_by, on_ci, on_is}
-use Rattle.rh_inproxy.specs.Machine.{rules as proxy_rules}
-use Rattle.law_moves.specs.Moves.{Move, AreAllowed, started, all_moved}
-use Rattle.law_moves.specs.Wires.{of_leg}
+use Rattle.law_moves.proofs.Vocabulary.{Sender, may_send, after_acked, ack_verdict, BadAck, by_test, Cookie, Named, ConnB1, ConnB3, InR1A1, InR1B1, InR1B2, Leg, Which, Current, Next, Count, Due, Message, Text, Pdu, Packet, same_leg, Move, AreAllowed, started, all_moved, of_leg}
+use Rattle.law_role_inproxy.proofs.Vocabulary.{Edge, Handover, Before, Came, Passed, InProxyConfig, TellsServer, Told, Follows, Opener, Opening, Successor, Work, Done, Pick, or_else, refuse, unexpected, InProxy, first, channel_of, is_client_leg, is_server_leg, same_cookie, up, head, drawn, first_by, put_first, echo_answer, echo_by, put_echo, opener_of, is_absent, is_connection, is_replacement, is_unknown, with_edge, on_conn_b1, acked, acked_by, ack_for, on_ack, ack_due}
+use Rattle.law_role_inproxy.proofs.Vocabulary.{ack_by, current_ack, next_ack, put_acks, is_newest, mark, put_end, settled, settled_pick, has_passed, on_in_r1_a1, on_in_r1_b1, told_by, put_in_r2_a2, mark_by, put_in_r1_a6, next_pdu, put_pdu, put as put_of, next, waiting_by, put_waiting, put_control, put_early, put_stream, put_behind, put_mark, ping, put_ping, pdu, packet, on_channel, on_channel_by, on_ci, on_is, rules as proxy_rules}
 use Rattle.law_node_streams.proofs.Streams.LegLogs.{same_back}
-use Rattle.law_world_windows.specs.Hops.{is_leg, pdu_bytes, edge_told, RefusesFalseAcks, SendsWithin}
 use Rattle.law_world_windows.proofs.Legs.{on}
 use Rattle.law_world_windows.proofs.Sending.{Sends, unsent_sends, heard_more, put_more, opens_sends, acked_sends, refused_sends, sent_sends, sends_within, IsFalse, verdict_false}
 use Rattle.law_world_windows.proofs.Steps.{RowKeeps, PutKeeps, RowHere, PutHere, row_here, put_here, StepsKeep, moves_keep}
+use Rattle.law_world_windows.specs.Hops.{is_leg, pdu_bytes, edge_told, RefusesFalseAcks, SendsWithin}
 
 -- what the facts are about
 record Seen : Type 0 where

@@ -1,9 +1,6 @@
 -- legs, and what is on them
-use Rattle.std.proofs.Common.{◌≡◌, true, false, if◌then◌else◌, List, [], ◌∷◌, arith}
-use Rattle.std.proofs.lemmas.Bool.Decides.{nat_tests}
-use Rattle.rh_line.specs.declared.leg.Leg.{Leg}
-use Rattle.rh_shell.specs.Rules.{Message}
-use Rattle.rh_shell.specs.Shells.{same_leg}
+use Rattle.law_order.proofs.Vocabulary.{◌≡◌, true, false, if◌then◌else◌, List, [], ◌∷◌, arith, nat_tests}
+use Rattle.law_moves.proofs.Vocabulary.{Leg, Message, same_leg}
 
 pub same_other : (a b c : Leg) → same_leg a b ≡ true → same_leg a c ≡ false
     → same_leg b c ≡ false

@@ -18,6 +18,8 @@ pub mod Moment
 mod Servers
 mod Nodes
 mod HopsKept
-mod Closing
+pub mod Closing
 pub mod ClientHops
 mod Windowed
+mod EachHop
+mod HopsRecorded

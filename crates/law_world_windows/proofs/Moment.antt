@@ -1,37 +1,17 @@
 -- the moment before the byte of a fed piece that closes a node
-use Rattle.std.proofs.Common.{◌≡◌, ℕ, List, [], ◌∷◌, ◌++◌, refl, sym, ap, ◌∙◌, subst, append_assoc}
-use Rattle.std.specs.Prelude.{None}
-use mathlib.Core.List.{IsPrefix}
-use Rattle.rh_text.specs.declared.ends.Dir.{Dir}
-use Rattle.rh_line.specs.declared.cause.Cause.{Cause}
-use Rattle.rh_line.specs.declared.leg.Leg.{Leg}
-use Rattle.law_moves.specs.Laws.{ClosedWith, Stays}
-use Rattle.rh_shell.specs.Rules.{Rules}
-use Rattle.rh_shell.specs.Shells.{Shell, bytes}
-use Rattle.rh_nodes.specs.declared.event.Event.{Event}
-use Rattle.rh_nodes.specs.declared.event.Event.TheVariants.{Comes}
-use Rattle.rh_nodes.specs.Company.{Rulebook}
-use Rattle.rh_nodes.specs.Giving.{Deeds}
-use Rattle.rh_nodes.specs.Opening.{Makers}
-use Rattle.rh_nodes.specs.Telling.{tell}
-use Rattle.rh_nodes.specs.Wires.{receiver, sender}
-use Rattle.rh_nodes.specs.World.{World, at}
-use Rattle.rh_client.specs.declared.state.ClientRole.{ClientRole}
-use Rattle.rh_inproxy.specs.State.{InProxy}
-use Rattle.rh_outproxy.specs.OutProxy.{OutProxy}
-use Rattle.rh_server.specs.States.{Server}
+use Rattle.law_order.proofs.Vocabulary.{◌≡◌, ℕ, List, [], ◌∷◌, ◌++◌, refl, sym, ap, ◌∙◌, subst, append_assoc, None, IsPrefix}
+use Rattle.law_moves.proofs.Vocabulary.{Dir, Cause, Leg, Rules, Shell, bytes, ClosedWith, Stays, ReadsWell}
+use Rattle.law_role_inproxy.proofs.Vocabulary.{InProxy}
+use Rattle.law_role_client.proofs.Vocabulary.{ClientRole}
+use Rattle.law_role_server.proofs.Vocabulary.{Server}
+use Rattle.law_node_history.proofs.Vocabulary.{receiver, sender, Event, Comes, Rulebook, tell, Deeds, Makers, World, at, IsTraced, LegsComeUpOnce, drawn_by, end_node, events_of, heard_on, Change, IsFed, Leads, MayChange, all_changed, changed, History, all_noted, noted, nothing}
+use Rattle.law_node_history.proofs.Lemmas.{works_more}
 use Rattle.law_node_causes.specs.Closings.{ClosesWith}
-use Rattle.law_node_history.specs.Carried.{IsTraced, LegsComeUpOnce, drawn_by, end_node, events_of, heard_on}
-use Rattle.law_node_history.specs.Changes.{Change, IsFed, Leads, MayChange, all_changed, changed}
-use Rattle.law_node_history.specs.Histories.{History, all_noted, noted, nothing}
-use Rattle.law_node_history.proofs.Working.{works_more}
-use Rattle.law_moves.specs.ReadBack.Well.{ReadsWell}
-use Rattle.law_node_traces.specs.Traced.Cookies.{ByChanges}
-use Rattle.law_node_traces.specs.Traced.Ours.{AreOurs, deeds, rules}
-use Rattle.law_node_traces.specs.Traced.Recordings.{IsKnown, history_at}
-use Rattle.law_world_order.specs.Flows.{IsFlowing, numbers_of, read_on}
-use Rattle.law_world_honest.specs.Honesty.Honest.{well_on}
+use Rattle.law_role_outproxy.proofs.Vocabulary.{OutProxy}
+use Rattle.law_node_traces.proofs.Vocabulary.{ByChanges, AreOurs, deeds, rules, IsKnown, history_at}
+use Rattle.law_world_order.proofs.Vocabulary.{IsFlowing, numbers_of, read_on}
 use Rattle.law_world_honest.proofs.Honesty.HeardWell.{going_is}
+use Rattle.law_world_honest.specs.Honesty.Honest.{well_on}
 use Rattle.law_world_windows.proofs.OneByte.{AtByte, at_byte}
 
 -- ---- the laws that this stands on

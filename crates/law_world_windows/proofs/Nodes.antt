@@ -1,35 +1,15 @@
 -- a node that a fed piece closes for what a row refuses, by its stream until the byte that does
-use Rattle.std.proofs.Common.{◌≡◌, ℕ, false, List, [], ◌∷◌, ◌++◌, sym, ap, ◌∙◌, subst, append_assoc}
-use Rattle.std.specs.Prelude.{Some, Err}
-use Rattle.std.specs.List.{AllByRecursion}
-use Rattle.std.specs.declared.option.Option.{Option}
-use mathlib.Core.List.{IsPrefix}
+use Rattle.law_order.proofs.Vocabulary.{◌≡◌, ℕ, false, List, [], ◌∷◌, ◌++◌, sym, ap, ◌∙◌, subst, append_assoc, Some, Err, AllByRecursion, Option, IsPrefix}
 use Rattle.rh_sig.specs.declared.fault.SigFault.TheVariants as sig
-use Rattle.rh_sig.specs.declared.name.Pipe.{Pipe}
-use Rattle.rh_line.specs.declared.cause.Cause.{Cause}
-use Rattle.rh_line.specs.declared.leg.Leg.{Leg}
-use Rattle.law_order.proofs.Prefixes.{prefix_trans}
-use Rattle.rh_shell.specs.declared.answers.Refused.{Refused}
 use Rattle.rh_shell.specs.declared.reading.PacketFault.TheVariants as unread
-use Rattle.rh_shell.specs.declared.rooms.Rooms.{Rooms}
-use Rattle.law_moves.specs.Carrying.{spelled}
-use Rattle.law_moves.specs.Laws.{ClosedWith}
-use Rattle.law_moves.specs.Moves.{Passage}
-use Rattle.law_moves.specs.Moving.{Event, Hears, after_events}
-use Rattle.rh_shell.specs.Rules.{Rules}
-use Rattle.rh_shell.specs.Shells.{Shell, begun, bytes}
-use Rattle.law_moves.specs.Wires.{of_leg}
-use Rattle.law_moves.specs.Legible.Legible.{ReadsBack}
-use Rattle.law_node_history.specs.Carried.{drawn_on, heard_on}
-use Rattle.law_node_history.proofs.Appended.{drawn_append}
-use Rattle.law_node_history.proofs.Runs.{events_append}
-use Rattle.law_moves.specs.ReadBack.Reading.{Begins, messages_read}
-use Rattle.law_moves.specs.ReadBack.Well.{Answers, ReadsWell}
+use Rattle.law_moves.proofs.Vocabulary.{prefix_trans, Pipe, Cause, Leg, Refused, Rooms, Rules, Shell, begun, bytes, spelled, ClosedWith, Passage, Event, Hears, after_events, of_leg, ReadsBack, Begins, messages_read, Answers, ReadsWell}
+use Rattle.law_node_history.proofs.Lemmas.{drawn_append, events_append}
+use Rattle.law_node_history.proofs.Vocabulary.{drawn_on, heard_on}
 use Rattle.law_node_streams.specs.Streams.{Seated, Stream}
-use Rattle.law_world_windows.specs.Refusing.{refused_by}
 use Rattle.law_world_windows.proofs.Fed.{heard_behind}
 use Rattle.law_world_windows.proofs.OneByte.{AtByte}
 use Rattle.law_world_windows.proofs.Stopping.{Readings, StopsAt, Way, stops_at}
+use Rattle.law_world_windows.specs.Refusing.{refused_by}
 
 -- a stream until then, of which what was put on the leg is read back at its other end
 pub record NodeStream {S : Type 0} (rules : Rules S) (first : S) (rooms : Rooms)

@@ -1,15 +1,6 @@
 -- a piece that closes a node closes it by one of its bytes
-use Rattle.std.proofs.Common.{◌≡◌, ℕ, List, [], ◌∷◌, ◌++◌, Some, None, refl, sym, ap, ◌∙◌, subst}
-use Rattle.std.specs.declared.option.Option.{Option}
-use Rattle.rh_line.specs.declared.cause.Cause.{Cause}
-use Rattle.rh_line.specs.declared.leg.Leg.{Leg}
-use Rattle.rh_shell.specs.declared.course.Course.{Course}
-use Rattle.rh_shell.specs.declared.course.Course.TheVariants.{Going, Closed, Refusing}
-use Rattle.rh_shell.specs.Hearing.{hear}
-use Rattle.rh_shell.specs.NearEnds.{NearEnd}
-use Rattle.rh_shell.specs.Rules.{Rules}
-use Rattle.rh_shell.specs.Shells.{Shell, bytes, bytes_at, bytes_by, end_at}
-use Rattle.law_moves.specs.Laws.{ClosedWith, Stays}
+use Rattle.law_order.proofs.Vocabulary.{◌≡◌, ℕ, List, [], ◌∷◌, ◌++◌, Some, None, refl, sym, ap, ◌∙◌, subst, Option}
+use Rattle.law_moves.proofs.Vocabulary.{Cause, Leg, Course, Going, Closed, Refusing, hear, NearEnd, Rules, Shell, bytes, bytes_at, bytes_by, end_at, ClosedWith, Stays}
 
 module _ {S : Type 0} (rules : Rules S) (leg : Leg) where
   -- the node goes on behind the front, and the byte behind that closes it

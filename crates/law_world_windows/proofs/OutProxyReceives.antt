@@ -1,52 +1,25 @@
 -- an out proxy receives from the server within its window
-use Rattle.std.proofs.Common.{◌≡◌, ℕ, ◌+◌, ◌≤◌, List, [], ◌∷◌, ◌++◌, length, Bool, true, false, true≢false, if◌then◌else◌, ◌&&◌, ◌||◌, Some, None, Ok, Err, arith, refl, sym, ◌∙◌, subst, rules}
-use Rattle.std.proofs.lemmas.Bool.{and_parts}
-use Rattle.std.proofs.lemmas.Bool.Decides.{nat_tests}
-use Rattle.std.specs.Prelude.{IfSome, nat_le}
-use Rattle.std.specs.List.{AllByRecursion}
-use Rattle.std.specs.declared.option.Option.{Option}
-use Rattle.std.specs.declared.result.Result.{Result}
-use Rattle.rh_window.specs.Sides.{IsWindow, Receiver}
-use Rattle.rh_window.specs.Sending.{may_send}
-use Rattle.rh_window.specs.declared.recv_window.Ack.{Ack}
-use Rattle.law_order.proofs.ByNumber.{by_test}
-use Rattle.rh_rts.specs.declared.command.Cookie.{Cookie}
-use Rattle.rh_sig.specs.declared.named.Named.{Named}
+use Rattle.law_order.proofs.Vocabulary.{◌≡◌, ℕ, ◌+◌, ◌≤◌, List, [], ◌∷◌, ◌++◌, length, Bool, true, false, true≢false, if◌then◌else◌, ◌&&◌, ◌||◌, Some, None, Ok, Err, arith, refl, sym, ◌∙◌, subst, rules, and_parts, nat_tests, IfSome, nat_le, AllByRecursion, Option, Result}
 use Rattle.rh_sig.specs.declared.named.Named.TheVariants as named
+use Rattle.rh_line.specs.Lines.{taken as taken_line}
 use Rattle.rh_line.specs.Lines as lines
-use Rattle.rh_line.specs.Lines.{Incoming, Line, due, is_empty, moved_on, released, settled, taken as taken_line}
-use Rattle.rh_line.specs.declared.line_fault.LineFault.{LineFault}
 use Rattle.rh_line.specs.declared.line_fault.LineFault.TheVariants as line_fault
-use Rattle.rh_line.specs.declared.leg.Leg.{Leg}
-use Rattle.rh_line.specs.declared.leg.LegKind.TheVariants.{ClientOut}
-use Rattle.rh_line.specs.declared.which.Which.TheVariants.{Current}
-use Rattle.rh_shell.specs.declared.answers.Count.{Count}
-use Rattle.rh_shell.specs.declared.due.Due.{Due}
-use Rattle.rh_shell.specs.Rules.{Message, Pdu, Packet}
-use Rattle.rh_shell.specs.Shells.{same_leg}
-use Rattle.rh_outproxy.specs.declared.state.Answer.{Answer}
 use Rattle.rh_outproxy.specs.declared.state.Answer.TheVariants as answers
-use Rattle.rh_outproxy.specs.declared.state.Channel.{Channel}
 use Rattle.rh_outproxy.specs.declared.state.Channel.TheVariants as channels
-use Rattle.rh_outproxy.specs.declared.state.OutProxyConfig.{OutProxyConfig}
-use Rattle.rh_outproxy.specs.OutProxy.{OutProxy, new_proxy, has_come, joined, is_server_first, is_due, is_ping_due}
-use Rattle.rh_outproxy.specs.Rows.{Done, is_co, is_os, unexpected, takes_pdus}
-use Rattle.rh_outproxy.specs.Opening.{up, head, first_packet}
-use Rattle.rh_outproxy.specs.Acknowledging.{admitted, line_row, on_pdu, ack_due}
-use Rattle.rh_outproxy.specs.Ending.{drawn, mark}
-use Rattle.rh_outproxy.specs.Putting.{Pick, ping_room, or_else, answer_by, put_answer, waiting_by, put_waiting, pdu_by, put_pdu, put_end, put_handover, put_mark, put_ping, next_co, first_by, put_first, ack_by, put_ack, next_os}
-use Rattle.rh_outproxy.specs.Putting.{put as put_of}
-use Rattle.rh_outproxy.specs.Machine.{packet, pdu, on_co, on_os}
-use Rattle.rh_outproxy.specs.Machine.{rules as proxy_rules}
-use Rattle.law_moves.specs.Moves.{Move, AreAllowed, started, all_moved}
-use Rattle.law_moves.specs.Wires.{of_leg}
+use Rattle.law_moves.proofs.Vocabulary.{IsWindow, Receiver, may_send, Ack, by_test, Cookie, Named, Incoming, Line, due, is_empty, moved_on, released, settled, LineFault, Leg, ClientOut, Current, Count, Due, Message, Pdu, Packet, same_leg, Move, AreAllowed, started, all_moved, of_leg}
+use Rattle.law_moves.proofs.Lemmas.{bytes_rise, all_append}
+use Rattle.law_role_client.proofs.Receiving.Windows.{IsBehind}
+use Rattle.law_role_outproxy.proofs.Vocabulary.{Answer, Channel, OutProxyConfig, OutProxy, new_proxy, has_come, joined, is_server_first, is_due, is_ping_due, Done, is_co, is_os, unexpected, takes_pdus, up, head, first_packet, admitted, line_row, on_pdu, ack_due, drawn, mark, Pick, ping_room, or_else, answer_by, put_answer, waiting_by, put_waiting, pdu_by, put_pdu, put_end, put_handover, put_mark, put_ping, next_co, first_by, put_first, ack_by, put_ack, next_os, put as put_of}
+use Rattle.law_role_outproxy.proofs.Vocabulary.{packet, pdu, on_co, on_os, rules as proxy_rules}
+use Rattle.law_role_outproxy.proofs.Sending.OutProxySends.{no_window}
+use Rattle.law_role_windows.proofs.Held.ServerLine.{told_admitted as admitted_told}
 use Rattle.law_role_windows.specs.Held.{Holds}
 use Rattle.law_node_streams.proofs.Streams.LegLogs.{same_back}
-use Rattle.law_world_windows.specs.Hops.{os_leg, pdu_bytes, edge_in, greatest_edge, IsTrueAck, IsNoWindow, RefusesBehind, ReceivesWithin}
 use Rattle.law_world_windows.proofs.Legs.{on, same_other}
-use Rattle.law_world_windows.proofs.Counts.{bytes_rise, all_later, all_append}
-use Rattle.law_world_windows.proofs.Receiving.{Receives, came_more, put_within, admitted_told, admitted_size, received_more, refused_same, IsBehind, refused_behind, due_is}
+use Rattle.law_world_windows.proofs.Counts.{all_later}
+use Rattle.law_world_windows.proofs.Receiving.{Receives, came_more, put_within, admitted_size, received_more, refused_same, refused_behind, due_is}
 use Rattle.law_world_windows.proofs.Steps.{RowKeeps, PutKeeps, RowHere, PutHere, row_here, put_here, put_there, StepsKeep, moves_keep}
+use Rattle.law_world_windows.specs.Hops.{os_leg, pdu_bytes, edge_in, greatest_edge, IsTrueAck, IsNoWindow, RefusesBehind, ReceivesWithin}
 
 -- what the facts are about
 record Seen : Type 0 where
@@ -425,21 +398,9 @@ module _ (config : OutProxyConfig) (is : IsWindow config.window) where
       verdict (Err (line_fault.Window exceeded)) is_behind = is_behind
       verdict (Err line_fault.Over) is_behind = tt
 
--- no packet is refused for a window
-os_no_window : (s : OutProxy) (named : Named) → IsNoWindow (on_os s named).1
-os_no_window s named = search rules
-
 co_no_window : (s : OutProxy) (count : Count) (named : Named)
     → IsNoWindow (on_co s count named).1
 co_no_window s count named = search rules
-
-no_window : (s : OutProxy) (other : Leg) (count : Count) (named : Named)
-    → IsNoWindow (packet s other count named).1
-no_window s other count named =
-    by_test (λ (x : Done). IsNoWindow x.1) (is_co s other) (on_co s count named)
-    (if is_os s other then on_os s named else unexpected s) (λ e. co_no_window s count named)
-    (λ e. by_test (λ (x : Done). IsNoWindow x.1) (is_os s other) (on_os s named) (unexpected s)
-    (λ f. os_no_window s named) (λ f. tt))
 
 pub out_proxy_receives : (config : OutProxyConfig) (moves : List Move)
     → IsWindow config.window

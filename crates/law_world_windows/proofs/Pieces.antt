@@ -1,16 +1,9 @@
 -- the first bytes of what is fed of a leg
-use Rattle.std.proofs.Common.{◌≡◌, ℕ, ◌+◌, List, [], ◌∷◌, ◌++◌, length, take, drop, Some, None, arith, sym, ap, ◌∙◌}
-use Rattle.std.proofs.lemmas.List.{append_assoc, append-nil, take-append-drop}
-use Rattle.std.proofs.Math.Seq.{take-append-add}
-use Rattle.std.specs.Prelude.{slice_get}
-use Rattle.std.specs.declared.option.Option.{Option}
-use Rattle.rh_text.specs.declared.ends.Dir.{Dir}
-use Rattle.rh_line.specs.declared.leg.Leg.{Leg}
-use Rattle.rh_nodes.specs.declared.legs.Legs.{Legs}
-use Rattle.rh_nodes.specs.declared.wire.Wire.{Wire}
-use Rattle.rh_nodes.specs.Legs as legs
-use Rattle.rh_nodes.specs.Numbered.{act_by}
-use Rattle.rh_nodes.specs.Wires as wires
+use Rattle.law_order.proofs.Vocabulary.{◌≡◌, ℕ, ◌+◌, List, [], ◌∷◌, ◌++◌, length, take, drop, Some, None, arith, sym, ap, ◌∙◌, append_assoc, append-nil, take-append-drop, take-append-add, slice_get, Option}
+use Rattle.rh_wires.specs.Legs as legs
+use Rattle.rh_wires.specs.Wires as wires
+use Rattle.law_moves.proofs.Vocabulary.{Dir, Leg}
+use Rattle.law_node_history.proofs.Vocabulary.{Legs, Wire, act_by}
 
 -- a front of the bytes, and one byte more
 pub record AreFronts (xs front : List ℕ) (b : ℕ) : Type 0 where

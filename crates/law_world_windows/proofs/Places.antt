@@ -1,9 +1,5 @@
 -- what holds of all legs that a server keeps, and which one has a number
-use Rattle.std.proofs.Common.{◌≡◌, ℕ, zero, suc, Bool, true, List, [], ◌∷◌, Some, sym, ap, ◌∙◌}
-use Rattle.std.specs.Prelude.{position, slice_get, slice_set, remove, IfSome}
-use Rattle.std.specs.List.{AllByRecursion}
-use Rattle.std.proofs.lemmas.List.Quantifiers.{position-Some}
-use Rattle.std.proofs.lemmas.Option.{get_or_from_slice_get}
+use Rattle.law_order.proofs.Vocabulary.{ℕ, zero, suc, List, [], ◌∷◌, slice_get, slice_set, remove, IfSome, AllByRecursion}
 
 module _ {X : Type 0} (P : X → Type 0) where
   pub all_at : (xs : List X) (place : ℕ) → AllByRecursion P xs → IfSome (slice_get xs place) P
@@ -28,10 +24,3 @@ pub all_weaken : {X : Type 0} (P Q : X → Type 0) → ((x : X) → P x → Q x)
     → AllByRecursion P xs → AllByRecursion Q xs
 all_weaken P Q weaken [] all = tt
 all_weaken P Q weaken (x ∷ xs) all = (weaken x all.0, all_weaken P Q weaken xs all.1)
-
--- one that is found passes the test
-pub found_passes : {X : Type 0} (test : X → Bool) (xs : List X) (place : ℕ) (x : X)
-    → position test xs ≡ Some place → slice_get xs place ≡ Some x → test x ≡ true
-found_passes test xs place x e at =
-    let first = position-Some test xs place x e in
-    ap test (sym (get_or_from_slice_get xs place x x at)) ∙ first.1

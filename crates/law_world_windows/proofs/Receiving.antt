@@ -1,18 +1,11 @@
 -- a receive window, and the messages of its leg
-use Rattle.std.proofs.Common.{◌≡◌, ℕ, ◌+◌, ◌≤◌, ◌<◌, nat_le, Bool, true, false, if◌then◌else◌, List, [], ◌∷◌, ◌++◌, length, Some, Ok, Err, arith, refl, ap, rules}
-use Rattle.std.specs.Prelude.{is_ok}
-use Rattle.std.specs.declared.result.Result.{Result}
-use Rattle.std.proofs.lemmas.Bool.Decides.{nat_tests}
-use Rattle.rh_window.specs.Sides.{Receiver}
 use Rattle.rh_window.specs.Receiving as windows
-use Rattle.rh_window.specs.declared.recv_window.Ack.{Ack}
-use Rattle.rh_line.specs.Lines.{Incoming, admitted, channel_verdict, by_window}
-use Rattle.rh_line.specs.Histories.{IsWithin}
-use Rattle.rh_line.specs.declared.line_fault.LineFault.{LineFault}
-use Rattle.rh_line.specs.declared.line_fault.LineFault.TheVariants.{Window, Over}
-use Rattle.rh_shell.specs.Rules.{Message, Pdu}
+use Rattle.law_order.proofs.Vocabulary.{◌≡◌, ℕ, ◌+◌, ◌≤◌, ◌<◌, nat_le, Bool, true, false, if◌then◌else◌, List, [], ◌∷◌, ◌++◌, length, Some, Ok, Err, arith, refl, ap, rules, is_ok, Result, nat_tests}
+use Rattle.law_moves.proofs.Vocabulary.{Receiver, Ack, Incoming, admitted, channel_verdict, by_window, IsWithin, LineFault, Over, Message, Pdu}
+use Rattle.law_moves.proofs.Lemmas.{bytes_append, bytes_rise}
+use Rattle.law_role_client.proofs.Receiving.Windows.{IsBehind}
+use Rattle.law_world_windows.proofs.Counts.{edges_within}
 use Rattle.law_world_windows.specs.Hops.{pdu_bytes, greatest_edge}
-use Rattle.law_world_windows.proofs.Counts.{bytes_append, bytes_rise, edges_within}
 
 -- it counted no more than came, and told all that was put
 pub record Receives (r : Receiver) (came put : List Message) : Type 0 where
@@ -36,10 +29,6 @@ put_within r came put more within h = record {
 }
 
 -- ---- a PDU comes
-
-pub admitted_told : (c : Incoming) (pdu : List ℕ)
-    → (admitted c pdu).window.told ≡ c.window.told
-admitted_told c pdu = search rules
 
 pub admitted_size : (c : Incoming) (pdu : List ℕ)
     → (admitted c pdu).window.size ≡ c.window.size
@@ -65,11 +54,6 @@ refused_same c pdu fault e =
       pdus = c.pdus ++ pdu ∷ [];
       window = windows.after_admit c.window (length pdu);
     } else c) e
-
--- one that the window refuses ends behind what was told
-abbrev pub IsBehind : ℕ → ℕ → Result (Unit {0}) LineFault → Type 0
-IsBehind edge reached (Err (Window exceeded)) = edge < reached
-IsBehind edge reached verdict = Unit {0}
 
 pub refused_behind : (c : Incoming) (came put : List Message) (pdu : List ℕ)
     → Receives c.window came put

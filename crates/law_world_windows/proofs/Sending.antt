@@ -1,18 +1,10 @@
 -- a send window, and the messages of its leg
-use Rattle.std.proofs.Common.{◌≡◌, ◌⊎◌, ℕ, ◌+◌, ◌≤◌, ◌<◌, nat_lt, Bool, true, false, inl, inr, if◌then◌else◌, List, [], ◌∷◌, ◌++◌, length, Ok, Err, arith, refl, sym, ◌∙◌, subst, rules}
-use Rattle.std.specs.Prelude.{max, is_ok}
-use Rattle.std.specs.declared.result.Result.{Result}
-use Rattle.std.proofs.lemmas.Bool.Decides.{nat_tests}
-use Rattle.rh_window.specs.Sides.{Sender}
-use Rattle.rh_window.specs.Sending.{unsent, may_send, after_sent, bad_ack, ack_verdict, after_acked}
-use Rattle.rh_window.specs.declared.fault.BadAck.{BadAck}
-use Rattle.rh_window.specs.declared.range.TheConstants.{GREATEST_WINDOW}
-use Rattle.rh_rts.specs.declared.command.Cookie.{Cookie}
-use Rattle.rh_sig.specs.declared.named.Named.{Named}
+use Rattle.law_order.proofs.Vocabulary.{◌≡◌, ◌⊎◌, ℕ, ◌+◌, ◌≤◌, ◌<◌, nat_lt, Bool, true, false, inl, inr, if◌then◌else◌, List, [], ◌∷◌, ◌++◌, length, Ok, Err, arith, refl, sym, ◌∙◌, subst, rules, max, is_ok, Result, nat_tests}
 use Rattle.rh_sig.specs.declared.named.Named.TheVariants.{Ack}
-use Rattle.rh_shell.specs.Rules.{Message, Pdu, Packet}
+use Rattle.law_moves.proofs.Vocabulary.{Sender, unsent, may_send, after_sent, bad_ack, ack_verdict, after_acked, BadAck, GREATEST_WINDOW, Cookie, Named, Message, Pdu, Packet}
+use Rattle.law_moves.proofs.Lemmas.{bytes_append}
+use Rattle.law_world_windows.proofs.Counts.{edges_rise, edge_last}
 use Rattle.law_world_windows.specs.Hops.{pdu_bytes, greatest_edge, edge_told}
-use Rattle.law_world_windows.proofs.Counts.{bytes_append, edges_rise, edge_last}
 
 -- it counts what was put, and knows of no edge that did not come
 pub record Sends (w : Sender) (came put : List Message) : Type 0 where

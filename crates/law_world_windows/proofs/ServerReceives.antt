@@ -1,81 +1,39 @@
 -- a server receives from an in proxy within its window
-use Rattle.std.proofs.Common.{◌≡◌, ℕ, suc, ◌+◌, ◌≤◌, ◌<◌, ◌==◌, List, [], ◌∷◌, ◌++◌, length, Bool, true, false, true≢false, if◌then◌else◌, ◌&&◌, ◌||◌, not, Some, None, Ok, Err, arith, refl, sym, ap, ◌∙◌, subst, rules}
-use Rattle.std.proofs.lemmas.Bool.{false≢true, and_parts}
-use Rattle.std.proofs.lemmas.Bool.Decides.{nat_tests}
-use Rattle.std.specs.Prelude.{slice_get, IfSome}
-use Rattle.std.specs.List.{AllByRecursion}
-use Rattle.std.specs.declared.option.Option.{Option}
-use Rattle.std.specs.declared.result.Result.{Result}
-use Rattle.std.proofs.lemmas.List.{append-nil}
-use Rattle.rh_window.specs.Sides.{IsWindow, Receiver}
 use Rattle.rh_window.specs.Receiving as windows
-use Rattle.rh_window.specs.declared.recv_window.Ack.{Ack}
-use Rattle.law_order.specs.Logs.{Log}
-use Rattle.law_order.specs.Taking.{TakerLaw}
-use Rattle.law_order.proofs.ByNumber.{by_test, same_number}
-use Rattle.rh_rts.specs.declared.command.Cookie.{Cookie}
-use Rattle.rh_sig.specs.declared.named.Named.{Named}
+use Rattle.law_order.proofs.Vocabulary.{◌≡◌, ℕ, suc, ◌+◌, ◌≤◌, ◌<◌, ◌==◌, List, [], ◌∷◌, ◌++◌, length, Bool, true, false, true≢false, if◌then◌else◌, ◌&&◌, ◌||◌, not, Some, None, Ok, Err, arith, refl, sym, ap, ◌∙◌, subst, rules, false≢true, and_parts, nat_tests, slice_get, IfSome, AllByRecursion, Option, Result, append-nil, Log, TakerLaw}
 use Rattle.rh_sig.specs.declared.named.Named.TheVariants as named
+use Rattle.rh_line.specs.Lines.{taken as taken_line}
 use Rattle.rh_line.specs.Lines as lines
-use Rattle.rh_line.specs.Lines.{Incoming, Line, admitted, released, settled as settled_line, moved_on, taken as taken_line, is_empty, due, after_admit, after_finish, after_open_next, after_tell, after_told}
-use Rattle.rh_line.specs.Queue.{front_length}
-use Rattle.rh_line.specs.declared.line_fault.LineFault.{LineFault}
-use Rattle.rh_line.specs.declared.line_fault.LineFault.TheVariants.{Window, Over}
-use Rattle.rh_line.specs.declared.leg.Leg.{Leg}
-use Rattle.rh_line.specs.declared.leg.LegKind.{LegKind}
-use Rattle.rh_line.specs.declared.leg.LegKind.TheVariants.{ClientOut, OutServer, ClientIn, InServer}
-use Rattle.rh_line.specs.declared.which.Which.{Which}
-use Rattle.rh_line.specs.declared.which.Which.TheVariants.{Current, Next}
-use Rattle.rh_shell.specs.declared.answers.Count.{Count}
 use Rattle.rh_shell.specs.declared.answers.Refused.TheVariants as refused
-use Rattle.rh_shell.specs.declared.due.Due.{Due}
-use Rattle.rh_shell.specs.Rules.{Message, Text, Pdu, Packet}
-use Rattle.rh_shell.specs.Shells.{same_leg}
-use Rattle.rh_shell.specs.Waiting.{Waiting, taken as taken_out}
-use Rattle.rh_shell.specs.Hearing.{greeting as greeting_text}
+use Rattle.rh_server.specs.Servers.{pdu_by}
 use Rattle.rh_server.specs.declared.state.Greeting.TheVariants as greetings
 use Rattle.rh_server.specs.declared.out_line.Kind.TheVariants as kind
-use Rattle.rh_server.specs.declared.state.Edge.{Edge}
 use Rattle.rh_server.specs.declared.state.Edge.TheVariants as edges
-use Rattle.rh_server.specs.declared.state.InStage.{InStage}
 use Rattle.rh_server.specs.declared.state.InStage.TheVariants as in_stage
-use Rattle.rh_server.specs.declared.state.InLeg.{InLeg}
-use Rattle.rh_server.specs.declared.state.Leaving.{Leaving}
 use Rattle.rh_server.specs.declared.state.Leaving.TheVariants as leaving
-use Rattle.rh_server.specs.declared.state.OutLeg.{OutLeg}
-use Rattle.rh_server.specs.declared.state.Stage.{Stage}
 use Rattle.rh_server.specs.declared.state.Stage.TheVariants as stages
-use Rattle.rh_server.specs.declared.state.Tells.{Tells}
 use Rattle.rh_server.specs.declared.state.Tells.TheVariants as tells
-use Rattle.rh_server.specs.States.{Server, is_open, is_due, is_shut, is_fresh, is_waiting, stays, same_cookie, in_place, in_at, in_leg, set_at, removed_at, with_in, without_in, without_out, out_place}
-use Rattle.rh_server.specs.OutLines.{waits, Gate, lets}
-use Rattle.rh_server.specs.Opening.{Done, took, refuse, unexpected, is_first, may_up_by, in_leg_up, up, up_by, opens, first_in, with_first_in, conn_b2_at, on_conn_a2, on_conn_b2}
-use Rattle.rh_server.specs.Acknowledging.{channel_at, admitted_by, admitted_on, on_ack_to, on_ack, on_ping_traffic}
-use Rattle.rh_server.specs.InReplacement.{ended_if, opens_next, opens_leg, waiting_place, first_waiting, next_opened, becomes_current, moved_if, take, has_fresh_below, announced, in_r1_a2_by, in_r1_a2_at, on_in_r1_a2, leaves_by, hands_over, on_in_r1_a6, on_in_r2_a2}
-use Rattle.rh_server.specs.OutReplacement.{recycle, on_out_r1_a4, on_out_r1_a8}
-use Rattle.rh_server.specs.Ending.{give, is_over_on, end_a2_on_leg, end_a2_waiting, end_a2_at, on_end_a2, settled, in_is_drawn, drawn_by, with_ack_dropped, lost_in, mark_by}
-use Rattle.rh_server.specs.Putting.{Pick, or_else, put_in_greeting, told_by, was_current, put_tells_by, put_tells, put_b1_by, put_b1, put_ack_by, put_ack, next_in, put_in_by, out_greeting_at, put_out_greeting, gate_at, counts, was_put, waiting_by, waiting_at, put_waiting, may_go_at, pdu_by as put_pdu_by, put_pdu, is_end_due, may_end_at, put_end, put_pdu_or_end, next_out, settled_pick, put_open, put_out_at, put_out}
-use Rattle.rh_server.specs.Putting.{put_by as put_by_kind}
-use Rattle.rh_server.specs.Servers.{on_is, on_os, packet_by, pdu_by, first, acts as server_acts}
-use Rattle.rh_server.specs.Servers.{rules as server_rules}
-use Rattle.law_moves.specs.Moves.{EndMove, AreAllowedAtEnd, end_started, all_end_moved}
-use Rattle.law_moves.specs.Wires.{of_leg}
-use Rattle.law_role_server.specs.Order.{taker_of}
-use Rattle.law_node_history.proofs.Wired.{same_itself}
+use Rattle.law_moves.proofs.Vocabulary.{IsWindow, Receiver, Ack, by_test, same_number, Cookie, Named, Incoming, Line, admitted, released, settled as settled_line, moved_on, is_empty, due, after_admit, after_open_next, after_tell, after_told, front_length, LineFault, Window, Over, Leg, LegKind, ClientOut, OutServer, ClientIn, InServer, Which, Current, Next, Count, Due, Message, Text, Pdu, Packet, same_leg, Waiting, taken as taken_out, greeting as greeting_text, EndMove}
+use Rattle.law_moves.proofs.Vocabulary.{AreAllowedAtEnd, end_started, all_end_moved, of_leg}
+use Rattle.law_moves.proofs.Lemmas.{bytes_rise, all_append}
+use Rattle.law_role_client.proofs.Receiving.Windows.{IsBehind}
+use Rattle.law_role_server.proofs.Vocabulary.{Edge, InStage, InLeg, Leaving, OutLeg, Stage, Tells, Server, is_open, is_due, is_shut, is_fresh, is_waiting, stays, same_cookie, in_place, in_at, in_leg, set_at, removed_at, with_in, without_in, without_out, out_place, waits, Gate, lets, Done, took, refuse, unexpected, is_first, may_up_by, in_leg_up, up, up_by, opens, first_in, with_first_in, conn_b2_at, on_conn_a2, on_conn_b2, channel_at, admitted_by, admitted_on, on_ack_to}
+use Rattle.law_role_server.proofs.Vocabulary.{on_ack, on_ping_traffic, ended_if, opens_next, opens_leg, waiting_place, first_waiting, next_opened, becomes_current, moved_if, take, has_fresh_below, announced, in_r1_a2_by, in_r1_a2_at, on_in_r1_a2, leaves_by, hands_over, on_in_r1_a6, on_in_r2_a2, recycle, on_out_r1_a4, on_out_r1_a8, give, is_over_on, end_a2_on_leg, end_a2_waiting, end_a2_at, on_end_a2, settled, in_is_drawn, drawn_by, with_ack_dropped, lost_in, mark_by, Pick}
+use Rattle.law_role_server.proofs.Vocabulary.{or_else, put_in_greeting, told_by, was_current, put_tells_by, put_tells, put_b1_by, put_b1, put_ack_by, put_ack, next_in, put_in_by, out_greeting_at, put_out_greeting, gate_at, counts, was_put, waiting_by, waiting_at, put_waiting, may_go_at, pdu_by as put_pdu_by, put_pdu, is_end_due, may_end_at, put_end, put_pdu_or_end, next_out, settled_pick, put_open, put_out_at, put_out, put_by as put_by_kind, on_is, on_os, packet_by, first}
+use Rattle.law_role_server.proofs.Vocabulary.{acts as server_acts, rules as server_rules, taker_of}
+use Rattle.law_role_server.proofs.Counted.Openings.{is_conn_b3_due as is_conn_b3}
+use Rattle.law_node_history.proofs.Lemmas.{same_itself}
+use Rattle.law_role_server_rows.proofs.Refusing.Places.{found_passes}
+use Rattle.law_role_windows.proofs.Held.ServerLine.{told_admitted as admitted_told}
 use Rattle.law_role_windows.specs.Held.{Holds}
-use Rattle.law_world_windows.specs.Hops.{is_leg, pdu_bytes, edge_told, edge_in, greatest_edge, IsNoWindow, IsTrueAck, RefusesBehind, ReceivesWithin}
 use Rattle.law_world_windows.proofs.Legs.{on}
-use Rattle.law_world_windows.proofs.Counts.{bytes_rise, edges_within, all_later, all_append}
-use Rattle.law_world_windows.proofs.Places.{all_at, all_set, all_removed, all_weaken, found_passes}
-use Rattle.law_world_windows.proofs.Receiving.{Receives, came_more, put_within, admitted_told, admitted_size, received_more, IsBehind, refused_behind, IsDueAck, due_is}
+use Rattle.law_world_windows.proofs.Counts.{edges_within, all_later}
+use Rattle.law_world_windows.proofs.Places.{all_at, all_set, all_removed, all_weaken}
+use Rattle.law_world_windows.proofs.Receiving.{Receives, came_more, put_within, admitted_size, received_more, refused_behind, IsDueAck, due_is}
 use Rattle.law_world_windows.proofs.Steps.{RowKeeps, PutKeeps, StepsKeep, ActsKeep, end_moves_keep}
+use Rattle.law_world_windows.specs.Hops.{is_leg, pdu_bytes, edge_told, edge_in, greatest_edge, IsNoWindow, IsTrueAck, RefusesBehind, ReceivesWithin}
 
 -- ---- what is known of a server's legs
-
-abbrev is_conn_b3 : Tells → Bool
-is_conn_b3 tells.Nothing = false
-is_conn_b3 tells.ConnB3 = true
-is_conn_b3 tells.InR1B2 = false
 
 -- a leg on which IN_R1/A6 came is at most the current one, and CONN/B3 is due on the first alone
 record IsLegOf (current : ℕ) (leg : InLeg) : Type 0 where

@@ -1,63 +1,28 @@
 -- a server sends to an out proxy within its window
-use Rattle.std.proofs.Common.{◌≡◌, ℕ, ◌+◌, ◌≤◌, ◌<◌, ◌==◌, List, [], ◌∷◌, ◌++◌, length, Bool, true, false, true≢false, if◌then◌else◌, ◌&&◌, not, Some, None, Ok, Err, arith, refl, sym, ap, ◌∙◌, subst, rules}
-use Rattle.std.proofs.lemmas.Bool.{false≢true, and_parts}
-use Rattle.std.proofs.lemmas.List.{append-nil}
-use Rattle.std.specs.Prelude.{slice_get, slice_set, IfSome}
-use Rattle.std.specs.declared.option.Option.{Option}
-use Rattle.std.specs.declared.result.Result.{Result}
-use Rattle.rh_window.specs.Sides.{Sender}
-use Rattle.rh_window.specs.Sending.{unsent, may_send, ack_verdict, after_acked}
-use Rattle.rh_window.specs.declared.fault.BadAck.{BadAck}
-use Rattle.rh_window.specs.declared.recv_window.Ack.{Ack}
-use Rattle.rh_keep.specs.Meters.{may_put, started}
-use Rattle.law_order.proofs.ByNumber.{by_test, same_number, test_other, test_same}
-use Rattle.rh_rts.specs.declared.command.Cookie.{Cookie}
-use Rattle.rh_sig.specs.declared.named.Named.{Named}
+use Rattle.rh_keep.specs.Meters.{started}
+use Rattle.law_order.proofs.Vocabulary.{◌≡◌, ℕ, ◌+◌, ◌≤◌, ◌<◌, ◌==◌, List, [], ◌∷◌, ◌++◌, length, Bool, true, false, true≢false, if◌then◌else◌, ◌&&◌, not, Some, None, Ok, Err, arith, refl, sym, ap, ◌∙◌, subst, rules, false≢true, and_parts, append-nil, slice_get, slice_set, IfSome, Option, Result}
 use Rattle.rh_sig.specs.declared.named.Named.TheVariants as named
-use Rattle.rh_line.specs.Queue.{behind, front_length}
-use Rattle.rh_line.specs.declared.leg.Leg.{Leg}
-use Rattle.rh_line.specs.declared.leg.LegKind.{LegKind}
-use Rattle.rh_line.specs.declared.leg.LegKind.TheVariants.{ClientOut, OutServer, ClientIn, InServer}
-use Rattle.rh_shell.specs.declared.answers.Count.{Count}
 use Rattle.rh_shell.specs.declared.answers.Refused.TheVariants as refused
-use Rattle.rh_shell.specs.declared.due.Due.{Due}
-use Rattle.rh_shell.specs.Rules.{Message, Text, Pdu, Packet}
-use Rattle.rh_shell.specs.Hearing.{greeting as greeting_text}
-use Rattle.rh_shell.specs.NearEnds.{first_of}
-use Rattle.rh_shell.specs.Shells.{same_leg}
-use Rattle.rh_shell.specs.Waiting.{Waiting, taken as taken_out}
+use Rattle.rh_server.specs.Servers.{pdu_by}
 use Rattle.rh_server.specs.declared.state.Greeting.TheVariants as greetings
-use Rattle.rh_server.specs.declared.state.InLeg.{InLeg}
-use Rattle.rh_server.specs.declared.state.Leaving.{Leaving}
 use Rattle.rh_server.specs.declared.state.Leaving.TheVariants as leaving
-use Rattle.rh_server.specs.declared.state.Tells.{Tells}
 use Rattle.rh_server.specs.declared.state.Tells.TheVariants as tells
-use Rattle.rh_server.specs.declared.state.OutLeg.{OutLeg}
-use Rattle.rh_server.specs.declared.state.Stage.{Stage}
 use Rattle.rh_server.specs.declared.state.Stage.TheVariants as stages
-use Rattle.rh_server.specs.States.{Server, is_open, is_due, same_cookie, in_leg, out_place, out_at, out_cookie, removed_at, without_in, without_out}
 use Rattle.rh_server.specs.declared.out_line.Kind.TheVariants as kind
-use Rattle.rh_server.specs.OutLines.{Gate, lets, length_of, waits}
-use Rattle.rh_server.specs.OutLegs.{counted, may_go, went, acked_by}
-use Rattle.rh_server.specs.Opening.{Done, took, refuse, unexpected, is_first, may_up_by, has_room, out_leg_up, up, up_by, opens, first_out_at, with_first_out, conn_a2_at, on_conn_a2, on_conn_b2}
-use Rattle.rh_server.specs.Acknowledging.{acked_at, acked_in, acked_cookie, on_ack, on_ack_to, on_ping_traffic}
-use Rattle.rh_server.specs.InReplacement.{take, on_in_r1_a2, on_in_r1_a6, on_in_r2_a2}
-use Rattle.rh_server.specs.OutReplacement.{recycle, answered, answered_by, answered_on, handed, out_r1_a4_by, out_r1_a4_at, may_answer, on_out_r1_a4, on_out_r1_a8}
-use Rattle.rh_server.specs.Ending.{give, on_end_a2, settled, in_is_drawn, drawn_by, with_ack_dropped, lost_in, mark_by}
-use Rattle.rh_server.specs.Putting.{Pick, or_else, put_in_greeting, was_current, put_tells_by, put_tells, put_b1_by, put_b1, ack_due, put_ack_by, put_ack, put_in_by, put_in, out_greeting_at, put_out_greeting, gate_at, counts, counts_at, was_put, waiting_by, waiting_at, put_waiting, may_go_at, went_at, pdu_by as put_pdu_by, put_pdu, is_end_due, may_end_at, put_end, put_pdu_or_end, next_out, settled_pick, put_open, put_out_at}
-use Rattle.rh_server.specs.Putting.{put_by as put_by_kind}
-use Rattle.rh_server.specs.Servers.{on_is, on_os, packet_by, pdu_by, first, acts as server_acts}
-use Rattle.rh_server.specs.Servers.{rules as server_rules}
-use Rattle.law_moves.specs.Moves.{EndMove, AreAllowedAtEnd, end_started, all_end_moved}
-use Rattle.law_moves.specs.Wires.{of_leg}
+use Rattle.law_moves.proofs.Vocabulary.{Sender, unsent, may_send, ack_verdict, after_acked, BadAck, Ack, may_put, by_test, same_number, test_other, test_same, Cookie, Named, behind, front_length, Leg, LegKind, ClientOut, OutServer, ClientIn, InServer, Count, Due, Message, Text, Pdu, Packet, greeting as greeting_text, first_of, same_leg, Waiting, taken as taken_out, EndMove, AreAllowedAtEnd, end_started, all_end_moved, of_leg}
+use Rattle.law_moves.proofs.Lemmas.{bytes_append}
+use Rattle.law_role_server.proofs.Vocabulary.{InLeg, Leaving, Tells, OutLeg, Stage, Server, is_open, is_due, same_cookie, in_leg, out_place, out_at, out_cookie, removed_at, without_in, without_out, Gate, lets, length_of, waits, counted, may_go, went, acked_by, Done, took, refuse, unexpected, is_first, may_up_by, has_room, out_leg_up, up, up_by, opens, first_out_at, with_first_out, conn_a2_at, on_conn_a2, on_conn_b2, acked_at, acked_in, acked_cookie, on_ack, on_ack_to}
+use Rattle.law_role_server.proofs.Vocabulary.{on_ping_traffic, take, on_in_r1_a2, on_in_r1_a6, on_in_r2_a2, recycle, answered, answered_by, answered_on, handed, out_r1_a4_by, out_r1_a4_at, may_answer, on_out_r1_a4, on_out_r1_a8, give, on_end_a2, settled, in_is_drawn, drawn_by, with_ack_dropped, lost_in, mark_by, Pick, or_else, put_in_greeting, was_current, put_tells_by, put_tells, put_b1_by, put_b1, ack_due, put_ack_by, put_ack, put_in_by, put_in, out_greeting_at}
+use Rattle.law_role_server.proofs.Vocabulary.{put_out_greeting, gate_at, counts, counts_at, was_put, waiting_by, waiting_at, put_waiting, may_go_at, went_at, pdu_by as put_pdu_by, put_pdu, is_end_due, may_end_at, put_end, put_pdu_or_end, next_out, settled_pick, put_open, put_out_at, put_by as put_by_kind, on_is, on_os, packet_by, first, acts as server_acts, rules as server_rules}
 use Rattle.law_role_server.proofs.Numbered.{Absent, Once, absent_at, absent_push, absent_removed, absent_set, once_at, once_first, once_map, once_push, once_removed, once_set}
-use Rattle.law_node_history.proofs.Wired.{same_itself}
-use Rattle.law_world_windows.specs.Hops.{os_leg, pdu_bytes, edge_told, greatest_edge, RefusesFalseAcks, SendsWithin}
+use Rattle.law_node_history.proofs.Lemmas.{same_itself}
+use Rattle.law_role_server_rows.proofs.InTurn.Quiet.{is_opening}
+use Rattle.law_role_server_rows.proofs.Refusing.Places.{found_passes}
 use Rattle.law_world_windows.proofs.Legs.{on}
-use Rattle.law_world_windows.proofs.Counts.{bytes_append, edges_rise}
-use Rattle.law_world_windows.proofs.Places.{found_passes}
+use Rattle.law_world_windows.proofs.Counts.{edges_rise}
 use Rattle.law_world_windows.proofs.Sending.{Sends, unsent_sends, heard_more, put_more, opens_sends, acked_sends, refused_sends, sent_sends, sends_within, IsFalse, verdict_false}
 use Rattle.law_world_windows.proofs.Steps.{RowKeeps, PutKeeps, StepsKeep, ActsKeep, end_moves_keep}
+use Rattle.law_world_windows.specs.Hops.{os_leg, pdu_bytes, edge_told, greatest_edge, RefusesFalseAcks, SendsWithin}
 
 -- ---- what the facts are about
 
@@ -68,14 +33,6 @@ record Seen : Type 0 where
 
 abbrev seen : Server → Seen
 seen s = record { outs = s.outs; writing = s.writing; newest = s.newest_out }
-
--- the server is not open yet
-abbrev is_opening : Stage → Bool
-is_opening stages.Waits = true
-is_opening (stages.OutCame connection) = true
-is_opening (stages.InCame connection window timeout) = true
-is_opening (stages.Open connection) = false
-is_opening stages.Ended = false
 
 abbrev number_of : OutLeg → ℕ
 number_of leg = leg.number
@@ -94,12 +51,6 @@ record Kept (n : ℕ) (s : Server) (came put : List Message) : Type 0 where
 record Same (s t : Server) : Type 0 where
   same : seen t ≡ seen s
   stage : is_opening t.stage ≡ true → is_opening s.stage ≡ true
-
-same_then : (s t u : Server) → Same s t → Same t u → Same s u
-same_then s t u a b = record {
-  same = b.same ∙ a.same;
-  stage = λ e. a.stage (b.stage e);
-}
 
 quiet : (s t : Server) → seen t ≡ seen s → t.stage ≡ s.stage → Same s t
 quiet s t same stage = record {

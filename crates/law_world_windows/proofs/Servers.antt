@@ -1,56 +1,31 @@
 -- a server closes for no window and no acknowledgement of a hop
-use Rattle.std.proofs.Common.{◌≡◌, ℕ, ◌+◌, List, [], ◌∷◌, ◌++◌, length, sym, ap, ◌∙◌, subst}
-use Rattle.std.specs.Prelude.{Some}
-use Rattle.std.specs.List.{AllByRecursion}
-use Rattle.std.specs.declared.option.Option.{Option}
-use mathlib.Core.List.{IsPrefix}
-use Rattle.rh_text.specs.declared.ends.Dir.TheVariants.{U}
 use Rattle.rh_text.specs.declared.ends.Side.TheVariants as side
-use Rattle.rh_sig.specs.declared.name.Pipe.{Pipe}
-use Rattle.rh_line.specs.declared.cause.Cause.{Cause}
-use Rattle.rh_line.specs.declared.leg.Leg.{Leg}
-use Rattle.rh_record.specs.declared.answer.Who.{Who}
+use Rattle.law_order.proofs.Vocabulary.{◌≡◌, ℕ, ◌+◌, List, [], ◌∷◌, ◌++◌, length, sym, ap, ◌∙◌, subst, Some, AllByRecursion, Option, IsPrefix}
 use Rattle.rh_record.specs.declared.answer.Who.TheVariants as who
-use Rattle.law_order.proofs.Prefixes.{prefix_trans}
-use Rattle.rh_shell.specs.declared.answers.Refused.{Refused}
-use Rattle.law_moves.specs.Laws.{ClosedWith}
-use Rattle.law_moves.specs.Moves.{Passage}
-use Rattle.law_moves.specs.Moving.{after_end_events}
-use Rattle.rh_shell.specs.Shells.{Shell, bytes}
-use Rattle.law_moves.specs.Wires.{of_leg}
-use Rattle.law_moves.specs.Legible.Legible.{ReadsBack}
-use Rattle.rh_nodes.specs.declared.event.Event.TheVariants.{Comes}
-use Rattle.rh_nodes.specs.Legs as legs
-use Rattle.rh_nodes.specs.Opening.{Makers}
-use Rattle.rh_nodes.specs.Wires.{receiver, sender}
-use Rattle.rh_nodes.specs.World.{World, at}
-use Rattle.rh_client.specs.declared.state.ClientRole.{ClientRole}
-use Rattle.rh_inproxy.specs.State.{InProxy}
-use Rattle.rh_outproxy.specs.OutProxy.{OutProxy}
-use Rattle.law_role_server.specs.Legible as server_legible
 use Rattle.rh_server.specs.Servers as server
-use Rattle.rh_server.specs.States.{Server}
+use Rattle.rh_wires.specs.Legs as legs
+use Rattle.law_moves.proofs.Vocabulary.{U, prefix_trans, Pipe, Cause, Leg, Refused, Shell, bytes, ClosedWith, Passage, after_end_events, of_leg, ReadsBack, Begins, messages_read, ReadsWell}
+use Rattle.law_role_inproxy.proofs.Vocabulary.{InProxy}
+use Rattle.law_role_client.proofs.Vocabulary.{ClientRole}
+use Rattle.law_role_server.proofs.Vocabulary.{Server}
+use Rattle.law_role_server.specs.Legible as server_legible
+use Rattle.law_node_history.proofs.Vocabulary.{Who, receiver, sender, Comes, Makers, World, at, drawn_by, end_drawn_on, end_node, events_of, happened, heard_on, IsFed, MayChange, changed, History, told_to}
+use Rattle.law_node_history.proofs.Lemmas.{end_drawn_more}
 use Rattle.law_node_causes.specs.Closings.{ClosesWith}
-use Rattle.law_node_history.specs.Carried.{drawn_by, end_drawn_on, end_node, events_of, happened, heard_on}
-use Rattle.law_node_history.specs.Changes.{IsFed, MayChange, changed}
-use Rattle.law_node_history.specs.Histories.{History, told_to}
-use Rattle.law_node_history.proofs.Appended.{end_drawn_more}
-use Rattle.law_moves.specs.ReadBack.Reading.{Begins, messages_read}
-use Rattle.law_moves.specs.ReadBack.Well.{ReadsWell}
-use Rattle.law_node_streams.specs.Streams.{Seated}
+use Rattle.law_role_outproxy.proofs.Vocabulary.{OutProxy}
 use Rattle.law_node_streams.proofs.Streams.LegLogs.{on_leg}
+use Rattle.law_node_streams.specs.Streams.{Seated}
+use Rattle.law_node_traces.proofs.Vocabulary.{ByChanges, AreOurs, deeds, rules}
 use Rattle.law_peers_routes.specs.Downwards as down
-use Rattle.law_node_traces.specs.Traced.Cookies.{ByChanges}
-use Rattle.law_node_traces.specs.Traced.Ours.{AreOurs, deeds, rules}
-use Rattle.law_world_order.specs.Flows.{IsFlowing, numbers_of, read_on}
-use Rattle.law_world_honest.specs.Honesty.Honest.{well_on}
+use Rattle.law_world_order.proofs.Vocabulary.{IsFlowing, numbers_of, read_on}
 use Rattle.law_world_honest.proofs.Honesty.Fed.{strict_on}
-use Rattle.law_world_windows.specs.Refusing.{refused_by}
+use Rattle.law_world_honest.specs.Honesty.Honest.{well_on}
 use Rattle.law_world_windows.proofs.Fed.{piece, server_heard, server_behind}
 use Rattle.law_world_windows.proofs.Moment.{Laws, NodeLaws, now, known, behind, flowing_behind, well_behind, drawn_before, closes_at, one_behind}
 use Rattle.law_world_windows.proofs.OneByte.{AtByte}
 use Rattle.law_world_windows.proofs.Pieces.{FedFronts, fed_fronts}
 use Rattle.law_world_windows.proofs.Stopping.{Readings, StopsAt, Way, stops_at}
+use Rattle.law_world_windows.specs.Refusing.{refused_by}
 
 module _ {K : Type 0} (m : Makers K InProxy OutProxy)
     (w v : World K ClientRole Server InProxy OutProxy) (ours : AreOurs m w.company w.cast)

@@ -1,30 +1,14 @@
 -- a node that closes by a byte, between what was put at both ends of the leg
-use Rattle.std.proofs.Common.{◌≡◌, ℕ, List, [], ◌∷◌, ◌++◌, false, Some, None, Err, refl, sym, ◌∙◌, subst}
-use Rattle.std.specs.List.{AllByRecursion}
-use Rattle.std.specs.declared.option.Option.{Option}
-use mathlib.Core.List.{IsPrefix}
+use Rattle.law_order.proofs.Vocabulary.{◌≡◌, ℕ, List, [], ◌∷◌, ◌++◌, false, Some, None, Err, refl, sym, ◌∙◌, subst, AllByRecursion, Option, IsPrefix}
 use Rattle.rh_sig.specs.declared.fault.SigFault.TheVariants as sig
-use Rattle.rh_sig.specs.declared.name.Pipe.{Pipe}
-use Rattle.rh_line.specs.declared.cause.Cause.{Cause}
-use Rattle.rh_line.specs.declared.leg.Leg.{Leg}
-use Rattle.rh_shell.specs.declared.answers.Refused.{Refused}
-use Rattle.rh_shell.specs.declared.course.Course.{Course}
-use Rattle.rh_shell.specs.declared.course.Course.TheVariants.{Going}
 use Rattle.rh_shell.specs.declared.reading.PacketFault.TheVariants as unread
-use Rattle.law_moves.specs.Carrying.{spelled}
-use Rattle.law_moves.specs.Laws.{ClosedWith}
-use Rattle.rh_shell.specs.NearEnds.{NearEnd}
-use Rattle.rh_shell.specs.Rules.{Message, Rules}
-use Rattle.rh_shell.specs.Shells.{Shell, bytes, bytes_at, bytes_by, end_at}
-use Rattle.law_moves.specs.Legible.Legible.{ReadsBack}
-use Rattle.law_order.proofs.Prefixes.{prefix_trans}
-use Rattle.law_moves.specs.ReadBack.Reading.{Begins, all_read_of, begin, messages_from, messages_read, reading_after}
-use Rattle.law_moves.specs.ReadBack.Well.{Answers, ReadsWell, ReadsWellFrom}
+use Rattle.law_moves.proofs.Vocabulary.{prefix_trans, Pipe, Cause, Leg, Refused, Course, Going, NearEnd, Message, Rules, Shell, bytes, bytes_at, bytes_by, end_at, spelled, ClosedWith, ReadsBack, Begins, all_read_of, begin, messages_from, messages_read, reading_after, Answers, ReadsWell, ReadsWellFrom}
+use Rattle.law_moves.proofs.Lemmas.{leg_is}
+use Rattle.law_node_streams.proofs.Streams.Ends.{end_is, end_leg}
 use Rattle.law_node_streams.specs.Streams.{Seated}
-use Rattle.law_node_streams.proofs.Streams.Ends.{end_is, end_leg, leg_is}
-use Rattle.law_world_windows.specs.Refusing.{refused_by, RefusesMessage, RefusesNext}
 use Rattle.law_world_windows.proofs.Hop.{IsJoined}
 use Rattle.law_world_windows.proofs.NextRefused.{byte_refused}
+use Rattle.law_world_windows.specs.Refusing.{refused_by, RefusesMessage, RefusesNext}
 
 -- ---- the laws that this stands on
 
@@ -47,7 +31,7 @@ pub record Way (pipe : Option Pipe) (put : List Message) (heard : List ℕ) : Ty
   pub spells : IsPrefix drawn (spelled put)
   pub front : IsPrefix heard drawn
 
-way_read : Readings → (pipe : Option Pipe) (put : List Message) (heard : List ℕ)
+pub way_read : Readings → (pipe : Option Pipe) (put : List Message) (heard : List ℕ)
     → Way pipe put heard → IsPrefix (messages_read pipe heard) (all_read_of put)
 way_read law pipe put heard way =
     law.put pipe put way.drawn heard way.begins way.reads_back way.spells way.front

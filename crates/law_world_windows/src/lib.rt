@@ -4,6 +4,7 @@
 
 pub mod client_hops;
 pub mod in_proxy;
+pub mod kept_hops;
 pub mod out_proxy;
 pub mod server;
 pub mod windows;
@@ -11,6 +12,7 @@ pub mod worlds;
 
 pub use client_hops::no_hop_of_a_client_closes_a_node;
 pub use in_proxy::an_in_proxy_sends_within_the_servers_window;
+pub use kept_hops::{hops_of_a_recording_are_kept, hops_on_one_leg_are_kept};
 pub use out_proxy::an_out_proxy_receives_within_its_window;
 pub use server::{a_server_receives_within_its_window, a_server_sends_within_the_proxys_window};
 pub use windows::{

@@ -1,2 +1,4 @@
 pub mod Pipes
 pub mod Waiting
+pub mod Legs
+pub mod Given

@@ -1,7 +1,14 @@
 -- the legs of a script
-use Rattle.std.specs.Prelude.{◌≡◌, ℕ, List, [], ◌∷◌, ◌++◌, None, Some}
+use Rattle.std.specs.Prelude.{◌≡◌, ℕ, ◌==◌, Bool, false, List, [], ◌∷◌, ◌++◌, None, Some}
 use Rattle.std.specs.declared.option.Option.{Option}
 use Rattle.rh_net.specs.Backs.{Backs, BackSource, BackSink}
+use Rattle.rh_net.specs.declared.way.NetCall.{NetCall}
+use Rattle.rh_net.specs.declared.way.NetCall.TheVariants.{Connect, Accept}
+
+-- a call for which a script has no leg, where it has so many to connect
+abbrev pub lacks_leg : NetCall → ℕ → Bool
+lacks_leg (Connect to) legs = legs == 0
+lacks_leg Accept legs = false
 
 -- the leg of this source and sink was the last of the list, and is no longer in it
 abbrev pub GivesLast : {A B : Type 0} → List (A × B) → List (A × B) → A → Option B → Type 0

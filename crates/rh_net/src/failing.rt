@@ -19,6 +19,13 @@ impl FailingCalls {
         FailingCalls { numbers, calls: 0 }
     }
 
+    /// Whether the next call is to fail.
+    pub fn is_next(&self) -> bool
+        ensures { result ≡ fails_next self.now.numbers.items self.now.calls }
+    {
+        self.numbers.contains(&self.calls.saturating_add(1))
+    }
+
     /// Counts a call, and tells whether it is to fail.
     pub fn next_fails(&mut self) -> bool
         ensures fails { result ≡ fails_next self.old.numbers.items self.old.calls }

@@ -6,6 +6,7 @@ mod lane;
 mod leg_half;
 pub mod mem_net;
 pub mod pipe;
+mod two_ways;
 
 pub use board::Board;
 pub use callers::{Caller, Callers, Calling};

@@ -9,8 +9,10 @@ pub mod counts;
 pub mod failing;
 pub mod in_memory;
 pub mod net;
+pub mod ready;
 pub mod script;
 pub mod shut;
+pub mod way;
 
 pub use address::Address;
 pub use clock::{Clock, MemClock};
@@ -22,5 +24,7 @@ pub use in_memory::{
     PipeSource, Put, Side,
 };
 pub use net::{Net, NetFailed};
+pub use ready::Ready;
 pub use script::{ScriptNet, ScriptSink, ScriptSource, TakenBack};
 pub use shut::{ShutSink, ShutSource};
+pub use way::{MemWay, NetCall, Way};

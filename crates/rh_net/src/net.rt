@@ -9,6 +9,7 @@ ghost use Rattle.rh_net.specs.Calls.{sink_back, source_back};
 
 use crate::address::Address;
 use crate::shut::{ShutSink, ShutSource};
+use crate::way::Way;
 
 /// A call of a net that failed. The net's count of faults rose.
 #[derive(Clone, Copy, Debug, PartialEq, Eq)]
@@ -16,7 +17,9 @@ pub struct NetFailed;
 
 /// Where legs come from.
 ///
-/// A leg is a source and a sink over one connection. Counts never fall, and one that stands at
+/// A leg is a source and a sink over one connection. It is waited for on a way, of which each
+/// thread has its own, and is booked here; so no call waits, and a net can be shared under a lock.
+/// Counts never fall, and one that stands at
 /// 2^64 - 1 stays there. Who has used a leg hands its streams back, so that their own counts become
 /// the net's.
 pub trait Net {
@@ -24,8 +27,13 @@ pub trait Net {
 
     type Out: ShutSink + Drop;
 
-    /// Its counts: calls of `connect`, `listen` and `accept` that failed, legs given, streams taken
-    /// back that had failed, and sources taken back that had ended.
+    /// What comes on its ways: a leg, or why there is none.
+    type Came;
+
+    type Way: Way<Came = Self::Came> + Drop;
+
+    /// Its counts: calls of `way`, `gives` and `listen` that failed, legs given, streams taken back
+    /// that had failed, and sources taken back that had ended.
     ghost counts: { Self → NetCounts };
 
     /// The streams taken back, where it tells them.
@@ -51,10 +59,20 @@ pub trait Net {
         })) }
         ensures later { AreLater (counts self.old) (counts self.new) };
 
-    /// Makes a leg to an address. May wait.
+    /// A way for one thread, which waits for legs while others call this net.
     ///
-    /// Fails only where it counts a fault. Its streams were never used.
-    fn connect(&mut self, to: &Address) -> Result<(Self::In, Self::Out), NetFailed>
+    /// Fails only where it counts a fault.
+    fn way(&mut self) -> Result<Self::Way, NetFailed>
+        ensures ok { OnOk result (counts self.new ≡ counts self.old) }
+        ensures err { OnErr result (CountsFault (counts self.old) (counts self.new)) }
+        ensures later { AreLater (counts self.old) (counts self.new) }
+        ensures backs { backs self.new ≡ backs self.old };
+
+    /// Gives the leg that came on a way, and counts it. Doesn't wait.
+    ///
+    /// Fails where none came, and only where it counts a fault. The leg's streams were never used.
+    /// Where nobody came it may be a leg whose source is at its end.
+    fn gives(&mut self, came: Self::Came) -> Result<(Self::In, Self::Out), NetFailed>
         ensures leg { GivesLeg result
             (IsUnused Self.In.taken Self.In.faults Self.In.ends Self.Out.written Self.Out.faults)
             (counts self.old) (counts self.new) }
@@ -67,15 +85,5 @@ pub trait Net {
         ensures ok { OnOk result (counts self.new ≡ counts self.old) }
         ensures err { OnErr result (CountsFault (counts self.old) (counts self.new)) }
         ensures later { AreLater (counts self.old) (counts self.new) }
-        ensures backs { backs self.new ≡ backs self.old };
-
-    /// Takes the next leg of those who connect to the address listened at. May wait.
-    ///
-    /// Where nobody comes it may answer a leg whose source is at its end. Fails only where it
-    /// counts a fault. Its streams were never used.
-    fn accept(&mut self) -> Result<(Self::In, Self::Out), NetFailed>
-        ensures leg { GivesLeg result
-            (IsUnused Self.In.taken Self.In.faults Self.In.ends Self.Out.written Self.Out.faults)
-            (counts self.old) (counts self.new) }
         ensures backs { backs self.new ≡ backs self.old };
 }

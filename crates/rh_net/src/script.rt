@@ -1,20 +1,24 @@
 //! A net in memory that gives the legs of two lists, and keeps those that are handed back.
 
 ghost use Rattle.std.specs.Prelude.{◌≡◌, ◌+◌, ◌<◌, ◌≤◌, [], ◌∷◌, ◌++◌, None, Some, map, reverse, All, vec_len};
-ghost use Rattle.std.specs.Prelude.{vec_capacity, IfOk, OnOk, OnErr, MatchOption, MatchResult, is_err, ◌||◌, ◌==◌};
+ghost use Rattle.std.specs.Prelude.{vec_capacity, IsOk, IfOk, OnOk, OnErr, MatchOption, MatchResult, is_err, ◌||◌, ◌==◌, true};
 ghost use Rattle.std.specs.Option.{option_map};
 ghost use Rattle.rh_net.specs.Backs.{no_backs, TellsAtMost, with_source, with_sink};
 ghost use Rattle.rh_net.specs.Calls.{AreLater, CountsFault, GivesLeg, IsUnused};
 ghost use Rattle.rh_net.specs.Calls.{sink_back, source_back};
 ghost use Rattle.rh_net.specs.Counts.{one_more};
 ghost use Rattle.rh_net.specs.Failing.{fails_next};
-ghost use Rattle.rh_net.specs.Script.{GivesLast, GivesLastOrEnd, back_source, back_sink, backs_of};
+ghost use Rattle.rh_net.specs.Script.{GivesLast, GivesLastOrEnd, lacks_leg, back_source, back_sink, backs_of};
+ghost use Rattle.rh_net.specs.declared.way.NetCall.TheVariants.{Connect, Accept};
+ghost use Rattle.rh_io.specs.Bytes.{Stays};
 
 use crate::address::Address;
 use crate::counts::NetCounts;
 use crate::failing::FailingCalls;
 use crate::net::{Net, NetFailed};
+use crate::ready::Ready;
 use crate::shut::{ShutSink, ShutSource};
+use crate::way::{MemWay, NetCall};
 use rh_io::{MemSink, MemSource, NoMemory, Sink, SinkFailed, Source, SourceFailed};
 use std::alloc::Global;
 
@@ -78,6 +82,23 @@ impl Source for ScriptSource {
 
 impl ShutSource for ScriptSource {
     fn shut(&mut self) {}
+}
+
+impl Ready for ScriptSource {
+    /// No read in memory waits.
+    fn ready(&mut self, _most: u32) -> bool
+        ensures bytes { Stays (⟦<ScriptSource as Source>⟧.left self.old)
+            (⟦<ScriptSource as Source>⟧.left self.new)
+            (⟦<ScriptSource as Source>⟧.taken self.old)
+            (⟦<ScriptSource as Source>⟧.taken self.new) }
+        ensures counts { (self.new.faults ≡ self.old.faults) × (self.new.ends ≡ self.old.ends) }
+        ensures unfailing { ⟦<ScriptSource as Source>⟧.unfailing self.old
+            → ⟦<ScriptSource as Source>⟧.unfailing self.new }
+        ensures ready { result ≡ true }
+        ensures same { self.new ≡ self.old }
+    {
+        true
+    }
 }
 
 /// The sink of a leg of a script. It tells its bytes, and how often it failed.
@@ -204,11 +225,11 @@ impl TakenBack {
     }
 }
 
-/// A net that gives the legs of two lists, one for `connect` and one for `accept`, in order.
+/// A net that gives the legs of two lists, one to connect and one to accept, in order.
 ///
-/// Behind its list `connect` fails, and `accept` gives a leg whose source is at its end. It tells
-/// the streams that are handed back as long as no more sources, and no more sinks, come than both
-/// lists had legs together, and none from then on. It asks no address.
+/// Behind its list a call to connect fails, and one to accept gives a leg whose source is at its
+/// end. It tells the streams that are handed back as long as no more sources, and no more sinks,
+/// come than both lists had legs together, and none from then on. It asks no address.
 #[derive(Drop)]
 pub struct ScriptNet {
     alloc: Global,
@@ -227,8 +248,8 @@ pub struct ScriptNet {
 impl ScriptNet {
     /// A net that gives `connects` and `accepts`, each in its order.
     ///
-    /// `fails` has the numbers of the calls of `connect`, `listen` and `accept` that fail, counted
-    /// from 1 over all three.
+    /// `fails` has the numbers of the calls of `gives` and `listen` that fail, counted from 1 over
+    /// both.
     pub fn new(
         alloc: Global,
         connects: Vec<(MemSource, MemSink)>,
@@ -282,12 +303,71 @@ impl ScriptNet {
     {
         self.backs.as_ref()
     }
+
+    // Gives the next leg to connect, or fails where none is left.
+    fn connect(&mut self) -> Result<(ScriptSource, ScriptSink), NetFailed>
+        ensures leg { GivesLeg result (IsUnused ⟦<ScriptSource as Source>⟧.taken
+            ⟦<ScriptSource as Source>⟧.faults ⟦<ScriptSource as Source>⟧.ends
+            ⟦<ScriptSink as Sink>⟧.written ⟦<ScriptSink as Sink>⟧.faults)
+            self.old.counts self.new.counts }
+        ensures gives { MatchResult result
+            (λ leg. GivesLast self.old.connects.items self.new.connects.items
+            leg.0.source leg.1.sink)
+            (λ _. self.new.connects.items ≡ self.old.connects.items) }
+        ensures fails { is_err result
+            ≡ (fails_next self.old.fails.numbers.items self.old.fails.calls
+            || vec_len self.old.connects == 0) }
+        ensures next { (self.new.fails.calls ≡ one_more self.old.fails.calls)
+            × (self.new.fails.numbers ≡ self.old.fails.numbers)
+            × (self.new.accepts ≡ self.old.accepts) × (self.new.backs ≡ self.old.backs) }
+    {
+        if !self.fails.next_fails() {
+            if let Some((source, sink)) = self.connects.pop() {
+                self.counts.count_given();
+                return Ok((ScriptSource::new(source), ScriptSink::new(Some(sink))));
+            }
+        }
+        self.counts.count_fault();
+        Err(NetFailed)
+    }
+
+    // Gives the next leg to accept, and behind the last a leg that is at its end.
+    fn accept(&mut self) -> Result<(ScriptSource, ScriptSink), NetFailed>
+        ensures leg { GivesLeg result (IsUnused ⟦<ScriptSource as Source>⟧.taken
+            ⟦<ScriptSource as Source>⟧.faults ⟦<ScriptSource as Source>⟧.ends
+            ⟦<ScriptSink as Sink>⟧.written ⟦<ScriptSink as Sink>⟧.faults)
+            self.old.counts self.new.counts }
+        ensures gives { MatchResult result
+            (λ leg. GivesLastOrEnd self.old.accepts.items self.new.accepts.items
+            (⟦<ScriptSource as Source>⟧.left leg.0) leg.0.source leg.1.sink)
+            (λ _. self.new.accepts.items ≡ self.old.accepts.items) }
+        ensures fails { is_err result
+            ≡ fails_next self.old.fails.numbers.items self.old.fails.calls }
+        ensures next { (self.new.fails.calls ≡ one_more self.old.fails.calls)
+            × (self.new.fails.numbers ≡ self.old.fails.numbers)
+            × (self.new.connects ≡ self.old.connects) × (self.new.backs ≡ self.old.backs) }
+    {
+        if self.fails.next_fails() {
+            self.counts.count_fault();
+            return Err(NetFailed);
+        }
+        if let Some((source, sink)) = self.accepts.pop() {
+            self.counts.count_given();
+            return Ok((ScriptSource::new(source), ScriptSink::new(Some(sink))));
+        }
+        self.counts.count_given();
+        Ok(end_leg(self.alloc))
+    }
 }
 
 impl Net for ScriptNet {
     type In = ScriptSource;
 
     type Out = ScriptSink;
+
+    type Came = NetCall;
+
+    type Way = MemWay;
 
     ghost counts = { λ n. n.counts };
 
@@ -340,31 +420,43 @@ impl Net for ScriptNet {
         };
     }
 
-    fn connect(&mut self, _to: &Address) -> Result<(ScriptSource, ScriptSink), NetFailed>
+    fn way(&mut self) -> Result<MemWay, NetFailed>
+        ensures ok { OnOk result (self.new.counts ≡ self.old.counts) }
+        ensures err { OnErr result (CountsFault self.old.counts self.new.counts) }
+        ensures later { AreLater self.old.counts self.new.counts }
+        ensures backs { ⟦<ScriptNet as Net>⟧.backs self.new ≡ ⟦<ScriptNet as Net>⟧.backs self.old }
+        ensures same { IsOk result × (self.new ≡ self.old) }
+    {
+        Ok(MemWay)
+    }
+
+    fn gives(&mut self, came: NetCall) -> Result<(ScriptSource, ScriptSink), NetFailed>
         ensures leg { GivesLeg result (IsUnused ⟦<ScriptSource as Source>⟧.taken
             ⟦<ScriptSource as Source>⟧.faults ⟦<ScriptSource as Source>⟧.ends
             ⟦<ScriptSink as Sink>⟧.written ⟦<ScriptSink as Sink>⟧.faults)
             self.old.counts self.new.counts }
         ensures backs { ⟦<ScriptNet as Net>⟧.backs self.new ≡ ⟦<ScriptNet as Net>⟧.backs self.old }
-        ensures gives { MatchResult result
-            (λ leg. GivesLast self.old.connects.items self.new.connects.items
-            leg.0.source leg.1.sink)
-            (λ _. self.new.connects.items ≡ self.old.connects.items) }
+        ensures gives { elim came [
+          | Connect _ ↦ (self.new.accepts ≡ self.old.accepts) × MatchResult result
+              (λ leg. GivesLast self.old.connects.items self.new.connects.items
+              leg.0.source leg.1.sink)
+              (λ _. self.new.connects.items ≡ self.old.connects.items)
+          | Accept ↦ (self.new.connects ≡ self.old.connects) × MatchResult result
+              (λ leg. GivesLastOrEnd self.old.accepts.items self.new.accepts.items
+              (⟦<ScriptSource as Source>⟧.left leg.0) leg.0.source leg.1.sink)
+              (λ _. self.new.accepts.items ≡ self.old.accepts.items)
+        ] }
         ensures fails { is_err result
             ≡ (fails_next self.old.fails.numbers.items self.old.fails.calls
-            || vec_len self.old.connects == 0) }
+            || lacks_leg came (vec_len self.old.connects)) }
         ensures next { (self.new.fails.calls ≡ one_more self.old.fails.calls)
             × (self.new.fails.numbers ≡ self.old.fails.numbers)
-            × (self.new.accepts ≡ self.old.accepts) × (self.new.backs ≡ self.old.backs) }
+            × (self.new.backs ≡ self.old.backs) }
     {
-        if !self.fails.next_fails() {
-            if let Some((source, sink)) = self.connects.pop() {
-                self.counts.count_given();
-                return Ok((ScriptSource::new(source), ScriptSink::new(Some(sink))));
-            }
+        match came {
+            NetCall::Connect(_) => self.connect(),
+            NetCall::Accept => self.accept(),
         }
-        self.counts.count_fault();
-        Err(NetFailed)
     }
 
     fn listen(&mut self, _at: &Address) -> Result<(), NetFailed>
@@ -384,34 +476,6 @@ impl Net for ScriptNet {
             return Err(NetFailed);
         }
         Ok(())
-    }
-
-    fn accept(&mut self) -> Result<(ScriptSource, ScriptSink), NetFailed>
-        ensures leg { GivesLeg result (IsUnused ⟦<ScriptSource as Source>⟧.taken
-            ⟦<ScriptSource as Source>⟧.faults ⟦<ScriptSource as Source>⟧.ends
-            ⟦<ScriptSink as Sink>⟧.written ⟦<ScriptSink as Sink>⟧.faults)
-            self.old.counts self.new.counts }
-        ensures backs { ⟦<ScriptNet as Net>⟧.backs self.new ≡ ⟦<ScriptNet as Net>⟧.backs self.old }
-        ensures gives { MatchResult result
-            (λ leg. GivesLastOrEnd self.old.accepts.items self.new.accepts.items
-            (⟦<ScriptSource as Source>⟧.left leg.0) leg.0.source leg.1.sink)
-            (λ _. self.new.accepts.items ≡ self.old.accepts.items) }
-        ensures fails { is_err result
-            ≡ fails_next self.old.fails.numbers.items self.old.fails.calls }
-        ensures next { (self.new.fails.calls ≡ one_more self.old.fails.calls)
-            × (self.new.fails.numbers ≡ self.old.fails.numbers)
-            × (self.new.connects ≡ self.old.connects) × (self.new.backs ≡ self.old.backs) }
-    {
-        if self.fails.next_fails() {
-            self.counts.count_fault();
-            return Err(NetFailed);
-        }
-        if let Some((source, sink)) = self.accepts.pop() {
-            self.counts.count_given();
-            return Ok((ScriptSource::new(source), ScriptSink::new(Some(sink))));
-        }
-        self.counts.count_given();
-        Ok(end_leg(self.alloc))
     }
 }
 

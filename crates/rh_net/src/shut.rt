@@ -4,7 +4,8 @@ ghost use Rattle.std.specs.Prelude.{◌≡◌};
 ghost use Rattle.std.specs.Io.KnownBytes.{Keeps};
 ghost use Rattle.rh_io.specs.Bytes.{Stays};
 
-use rh_io::{Sink, Source};
+use rh_io::{MemSink, Sink, Source, WriterSink};
+use std::io::Write;
 
 /// A source that can be shut.
 pub trait ShutSource: Source {
@@ -26,4 +27,15 @@ pub trait ShutSink: Sink {
     fn shut(&mut self)
         ensures bytes { Keeps (Self.written self.old) (Self.written self.new) }
         ensures count { Self.faults self.new ≡ Self.faults self.old };
+}
+
+/// Its bytes are still told.
+impl ShutSink for MemSink {
+    fn shut(&mut self) {}
+}
+
+/// Each write was flushed, so nothing is left to do: what is behind the writer finds no byte behind
+/// those that were written.
+impl<W: Write> ShutSink for WriterSink<W> {
+    fn shut(&mut self) {}
 }

@@ -6,13 +6,13 @@ use Rattle.rh_line.specs.declared.leg.Leg.{Leg}
 use Rattle.rh_line.specs.declared.leg.LegKind.TheVariants.{OutServer, InServer}
 use Rattle.rh_record.specs.declared.answer.Who.TheVariants as who
 use Rattle.rh_shell.specs.Rules.{Rules}
-use Rattle.rh_nodes.specs.declared.event.Event.{Event}
-use Rattle.rh_nodes.specs.declared.place.Place.{Place}
-use Rattle.rh_nodes.specs.declared.place.Place.TheVariants.{Absent, Here, Gone}
-use Rattle.rh_nodes.specs.Numbered.{ask, act, act_by}
-use Rattle.rh_nodes.specs.Places as places
-use Rattle.rh_nodes.specs.Company as company
-use Rattle.rh_nodes.specs.Company.{Company, Rulebook, with_ins, with_outs}
+use Rattle.rh_wires.specs.Numbered.{ask, act, act_by}
+use Rattle.rh_company.specs.declared.event.Event.{Event}
+use Rattle.rh_company.specs.declared.place.Place.{Place}
+use Rattle.rh_company.specs.declared.place.Place.TheVariants.{Absent, Here, Gone}
+use Rattle.rh_company.specs.Places as places
+use Rattle.rh_company.specs.Company as company
+use Rattle.rh_company.specs.Company.{Company, Rulebook, with_ins, with_outs}
 use Rattle.rh_nodes.specs.Opening.{Makers, connect}
 use Rattle.rh_rts.specs.declared.command.TheConstants.{NO_COOKIE}
 use Rattle.rh_nodes.specs.Settling.{leg_at, open_next, opened}

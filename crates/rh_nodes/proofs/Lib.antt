@@ -1,6 +1,3 @@
-pub mod Rings
-pub mod Grown
-pub mod Appending
 pub mod Told
 pub mod Fours
 pub mod Lows
@@ -8,7 +5,6 @@ pub mod Idles
 pub mod NoBytes
 pub mod Opened
 pub mod Times
-pub mod Keeping
 pub mod Settles
 pub mod Pushed
 pub mod OtherLines

@@ -6,12 +6,12 @@ use Rattle.rh_text.specs.declared.ends.Side.TheVariants as side
 use Rattle.rh_text.specs.declared.ends.Dir.{Dir}
 use Rattle.rh_text.specs.declared.ends.Dir.TheVariants.{U, D}
 use Rattle.rh_line.specs.declared.leg.Leg.{Leg}
-use Rattle.rh_nodes.specs.declared.wire.Wire.{Wire}
-use Rattle.rh_nodes.specs.Wires as wires
-use Rattle.rh_nodes.specs.Wires.{blank, is_low, sender, receiver}
-use Rattle.rh_nodes.specs.Numbered.{ask}
-use Rattle.rh_nodes.specs.Legs as legs
-use Rattle.rh_nodes.specs.Company.{Rulebook}
+use Rattle.rh_wires.specs.declared.wire.Wire.{Wire}
+use Rattle.rh_wires.specs.Wires as wires
+use Rattle.rh_wires.specs.Wires.{blank, is_low, sender, receiver}
+use Rattle.rh_wires.specs.Numbered.{ask}
+use Rattle.rh_wires.specs.Legs as legs
+use Rattle.rh_company.specs.Company.{Rulebook}
 use Rattle.rh_nodes.specs.World.{World, at}
 use Rattle.rh_nodes.specs.Carrying.{feed, sent, fed, draw_into}
 use Rattle.rh_nodes.specs.Reports.{and_then}

@@ -21,21 +21,21 @@ use Rattle.rh_shell.specs.NearEnds.{NearEnd}
 use Rattle.rh_shell.specs.Rules.{Rules}
 use Rattle.rh_shell.specs.Shells as shell
 use Rattle.rh_shell.specs.Shells.{Shell, state_of, verdict_by, bytes_at, bytes_by, end_at}
-use Rattle.rh_nodes.specs.declared.event.Event.TheVariants.{Comes}
-use Rattle.rh_nodes.specs.declared.legs.Legs.{Legs}
-use Rattle.rh_nodes.specs.declared.place.Place.{Place}
-use Rattle.rh_nodes.specs.declared.place.Place.TheVariants.{Absent, Here, Gone}
-use Rattle.rh_nodes.specs.declared.wire.Wire.{Wire}
+use Rattle.rh_wires.specs.declared.legs.Legs.{Legs}
+use Rattle.rh_wires.specs.declared.wire.Wire.{Wire}
+use Rattle.rh_wires.specs.Legs as legs
+use Rattle.rh_wires.specs.Numbered.{ask, act, change, change_by}
+use Rattle.rh_wires.specs.Wires as wires
+use Rattle.rh_wires.specs.Wires.{blank, in_flight, with_flight, receiver}
+use Rattle.rh_company.specs.declared.event.Event.TheVariants.{Comes}
+use Rattle.rh_company.specs.declared.place.Place.{Place}
+use Rattle.rh_company.specs.declared.place.Place.TheVariants.{Absent, Here, Gone}
+use Rattle.rh_company.specs.Company as company
+use Rattle.rh_company.specs.Company.{Company, Rulebook, with_client, with_server, with_ins, with_outs}
+use Rattle.rh_company.specs.Places as places
+use Rattle.rh_company.specs.Telling as telling
 use Rattle.rh_nodes.specs.Carrying.{put_drawn, send, feed, fed}
-use Rattle.rh_nodes.specs.Company as company
-use Rattle.rh_nodes.specs.Company.{Company, Rulebook, with_client, with_server, with_ins, with_outs}
-use Rattle.rh_nodes.specs.Legs as legs
-use Rattle.rh_nodes.specs.Numbered.{ask, act, change, change_by}
-use Rattle.rh_nodes.specs.Places as places
 use Rattle.rh_nodes.specs.Settling.{carry, carried, most_bytes}
-use Rattle.rh_nodes.specs.Telling as telling
-use Rattle.rh_nodes.specs.Wires as wires
-use Rattle.rh_nodes.specs.Wires.{blank, in_flight, with_flight, receiver}
 use Rattle.rh_nodes.specs.World.{World, at, tell, was_told}
 use Rattle.rh_nodes.proofs.Idles.{act_kept}
 

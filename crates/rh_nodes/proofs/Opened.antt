@@ -4,8 +4,8 @@ use Rattle.rh_line.specs.declared.leg.Leg.{Leg}
 use Rattle.rh_shell.specs.Shells as shell
 use Rattle.rh_shell.specs.Shells.{Shell}
 use Rattle.rh_record.specs.declared.answer.Who.TheVariants as who
-use Rattle.rh_nodes.specs.Company as company
-use Rattle.rh_nodes.specs.Company.{Rulebook}
+use Rattle.rh_company.specs.Company as company
+use Rattle.rh_company.specs.Company.{Rulebook}
 use Rattle.rh_nodes.specs.Opening.{at_moment, connect_client, is_client_in, may_make, may_open_same, open_client_in, open_client_out, open_in_to, open_out_to, open_same, read_on, with_in, with_out}
 use Rattle.rh_nodes.specs.World.{World}
 

@@ -7,8 +7,8 @@ use Rattle.rh_text.specs.declared.ends.Dir.{Dir}
 use Rattle.rh_line.specs.declared.leg.Leg.{Leg}
 use Rattle.rh_record.specs.declared.answer.Answer.{Answer}
 use Rattle.rh_record.specs.declared.answer.Answer.TheVariants.{EndLeg, Move}
+use Rattle.rh_company.specs.Company.{Rulebook}
 use Rattle.rh_nodes.specs.Breaking.{end_leg}
-use Rattle.rh_nodes.specs.Company.{Rulebook}
 use Rattle.rh_nodes.specs.Reports.{Tells}
 use Rattle.rh_nodes.specs.Settling.{carry, carried, end_one, end_where, ended, ends_now}
 use Rattle.rh_nodes.specs.World.{World}

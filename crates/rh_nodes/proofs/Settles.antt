@@ -6,9 +6,9 @@ use Rattle.std.specs.declared.result.Result.{Result}
 use Rattle.rh_text.specs.Writing.{Writes}
 use Rattle.rh_record.specs.declared.answer.Answer.{Answer}
 use Rattle.rh_record.specs.declared.answer.Answer.TheVariants.{Quiet, Spent}
+use Rattle.rh_company.proofs.Appending.{writes_both, writes_one}
 use Rattle.rh_nodes.specs.Reports.{and_then, Tells}
 use Rattle.rh_nodes.specs.Settling.{behind_round, rounds_from}
-use Rattle.rh_nodes.proofs.Appending.{writes_both, writes_one}
 
 -- ---- what comes next
 

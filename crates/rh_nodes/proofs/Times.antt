@@ -2,9 +2,9 @@
 use Rattle.std.proofs.Common.{◌≡◌, ℕ, zero, suc, ◌+◌, ◌<◌, ◌≤◌, true, false, if◌then◌else◌, refl, sym, ap, ◌∙◌, arith, add-one}
 use Rattle.std.proofs.lemmas.Bool.{le-leb}
 use Rattle.rh_record.specs.declared.answer.Who.TheVariants as who
-use Rattle.rh_nodes.specs.declared.event.Event.{Event}
-use Rattle.rh_nodes.specs.declared.event.Event.TheVariants.{Passes}
-use Rattle.rh_nodes.specs.Company.{Rulebook}
+use Rattle.rh_company.specs.declared.event.Event.{Event}
+use Rattle.rh_company.specs.declared.event.Event.TheVariants.{Passes}
+use Rattle.rh_company.specs.Company.{Rulebook}
 use Rattle.rh_nodes.specs.World.{World, tell}
 use Rattle.rh_nodes.specs.Time.{for_each, at_moment, tick, tick_all, tick_ins, tick_outs}
 

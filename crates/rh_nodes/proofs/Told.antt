@@ -5,8 +5,8 @@ use Rattle.std.proofs.lemmas.List.{append-nil}
 use Rattle.std.specs.declared.result.Result.{Result}
 use Rattle.rh_text.specs.Writing.{Writes}
 use Rattle.rh_record.specs.declared.answer.Answer.{Answer}
+use Rattle.rh_company.proofs.Appending.{writes_both, writes_one}
 use Rattle.rh_nodes.specs.Reports.{and_then, each, Tells}
-use Rattle.rh_nodes.proofs.Appending.{writes_both, writes_one}
 
 -- nothing was done
 pub tells_none : {W E : Type 0} (w : W) (report : List Answer)

@@ -5,12 +5,12 @@ use Rattle.rh_text.specs.declared.ends.Side.{Side}
 use Rattle.rh_text.specs.declared.ends.Side.TheVariants as side
 use Rattle.rh_line.specs.declared.leg.Leg.{Leg}
 use Rattle.rh_record.specs.declared.answer.Who.{Who}
-use Rattle.rh_nodes.specs.declared.event.Event.{Event}
-use Rattle.rh_nodes.specs.declared.event.Event.TheVariants.{Breaks, Ends}
-use Rattle.rh_nodes.specs.Company as company
-use Rattle.rh_nodes.specs.Company.{Rulebook}
-use Rattle.rh_nodes.specs.Legs as legs
-use Rattle.rh_nodes.specs.Wires.{sender, receiver}
+use Rattle.rh_wires.specs.Legs as legs
+use Rattle.rh_wires.specs.Wires.{sender, receiver}
+use Rattle.rh_company.specs.declared.event.Event.{Event}
+use Rattle.rh_company.specs.declared.event.Event.TheVariants.{Breaks, Ends}
+use Rattle.rh_company.specs.Company as company
+use Rattle.rh_company.specs.Company.{Rulebook}
 use Rattle.rh_nodes.specs.World.{World, at, tell}
 
 -- ---- one end

@@ -5,12 +5,12 @@ use Rattle.std.specs.declared.option.Option.{Option}
 use Rattle.rh_text.specs.declared.ends.Dir.{Dir}
 use Rattle.rh_line.specs.declared.leg.Leg.{Leg}
 use Rattle.rh_record.specs.declared.answer.Who.{Who}
-use Rattle.rh_nodes.specs.declared.event.Event.TheVariants.{Comes}
-use Rattle.rh_nodes.specs.declared.legs.Legs.{Legs}
-use Rattle.rh_nodes.specs.Company as company
-use Rattle.rh_nodes.specs.Company.{Company, Rulebook}
-use Rattle.rh_nodes.specs.Legs as legs
-use Rattle.rh_nodes.specs.Wires.{sender, receiver}
+use Rattle.rh_wires.specs.declared.legs.Legs.{Legs}
+use Rattle.rh_wires.specs.Legs as legs
+use Rattle.rh_wires.specs.Wires.{sender, receiver}
+use Rattle.rh_company.specs.declared.event.Event.TheVariants.{Comes}
+use Rattle.rh_company.specs.Company as company
+use Rattle.rh_company.specs.Company.{Company, Rulebook}
 use Rattle.rh_nodes.specs.World.{World, at, tell}
 
 -- ---- drawn into flight

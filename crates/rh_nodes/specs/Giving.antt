@@ -14,8 +14,8 @@ use Rattle.rh_record.specs.declared.answer.TakeAnswer.TheVariants.{Pdu, Empty, E
 use Rattle.rh_shell.specs.Rules.{Rules, Acts}
 use Rattle.rh_shell.specs.Shells.{Shell}
 use Rattle.rh_shell.specs.Ends as ends
-use Rattle.rh_nodes.specs.declared.counts.Counts.{Counts}
-use Rattle.rh_nodes.specs.Counts as counts
+use Rattle.rh_wires.specs.declared.counts.Counts.{Counts}
+use Rattle.rh_wires.specs.Counts as counts
 use Rattle.rh_nodes.specs.World.{World}
 
 -- what each end does besides

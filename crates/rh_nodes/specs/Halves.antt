@@ -9,17 +9,17 @@ use Rattle.rh_line.specs.declared.leg.LegKind.{LegKind}
 use Rattle.rh_line.specs.declared.leg.LegKind.TheVariants.{ClientOut, OutServer, ClientIn, InServer}
 use Rattle.rh_record.specs.declared.answer.Who.{Who}
 use Rattle.rh_record.specs.declared.answer.Who.TheVariants.{Client, Server, In, Out}
-use Rattle.rh_nodes.specs.declared.event.Event.TheVariants.{Breaks, Ends, Passes}
+use Rattle.rh_wires.specs.Legs as legs
+use Rattle.rh_wires.specs.Numbered.{ask}
+use Rattle.rh_company.specs.declared.event.Event.TheVariants.{Breaks, Ends, Passes}
+use Rattle.rh_company.specs.Company as company
+use Rattle.rh_company.specs.Company.{Rulebook}
+use Rattle.rh_company.specs.Cookies.{was_had, with_other}
+use Rattle.rh_company.specs.Places.{is_absent}
 use Rattle.rh_nodes.specs.declared.half.Half.{Half}
 use Rattle.rh_nodes.specs.declared.half.Half.TheVariants as halves
 use Rattle.rh_nodes.specs.Breaking.{lose}
-use Rattle.rh_nodes.specs.Company as company
-use Rattle.rh_nodes.specs.Company.{Rulebook}
-use Rattle.rh_nodes.specs.Cookies.{was_had, with_other}
-use Rattle.rh_nodes.specs.Legs as legs
-use Rattle.rh_nodes.specs.Numbered.{ask}
 use Rattle.rh_nodes.specs.Opening.{Makers, at_moment, with_in, with_out}
-use Rattle.rh_nodes.specs.Places.{is_absent}
 use Rattle.rh_nodes.specs.World.{World, at, tell}
 
 -- ---- where a node stands

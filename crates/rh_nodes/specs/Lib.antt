@@ -1,15 +1,4 @@
 pub mod Reports
-pub mod Numbered
-pub mod Flights
-pub mod Counts
-pub mod Cookies
-pub mod Telling
-pub mod Places
-pub mod Wires
-pub mod Legs
-pub mod Readers
-pub mod Closings
-pub mod Company
 pub mod World
 pub mod Giving
 pub mod Carrying

@@ -10,16 +10,16 @@ use Rattle.rh_record.specs.declared.answer.Who.TheVariants as who
 use Rattle.rh_shell.specs.Rules.{Rules}
 use Rattle.rh_shell.specs.Shells as shell
 use Rattle.rh_shell.specs.Shells.{Shell}
-use Rattle.rh_nodes.specs.declared.place.Place.{Place}
-use Rattle.rh_nodes.specs.declared.place.Place.TheVariants.{Absent, Here}
+use Rattle.rh_company.specs.declared.place.Place.{Place}
+use Rattle.rh_company.specs.declared.place.Place.TheVariants.{Absent, Here}
 use Rattle.rh_rts.specs.declared.command.TheConstants.{NO_COOKIE}
-use Rattle.rh_nodes.specs.Numbered.{ask, put_at}
-use Rattle.rh_nodes.specs.Places.{is_absent}
-use Rattle.rh_nodes.specs.Company as company
-use Rattle.rh_nodes.specs.Company.{Company, Rulebook}
-use Rattle.rh_nodes.specs.Cookies.{Cookies, draw}
-use Rattle.rh_nodes.specs.Legs as legs
-use Rattle.rh_nodes.specs.Readers.{reader_of, with_reader}
+use Rattle.rh_wires.specs.Numbered.{ask, put_at}
+use Rattle.rh_wires.specs.Legs as legs
+use Rattle.rh_wires.specs.Readers.{reader_of, with_reader}
+use Rattle.rh_company.specs.Places.{is_absent}
+use Rattle.rh_company.specs.Company as company
+use Rattle.rh_company.specs.Company.{Company, Rulebook}
+use Rattle.rh_company.specs.Cookies.{Cookies, draw}
 use Rattle.rh_nodes.specs.World.{World, at}
 
 -- how proxies are made

@@ -13,16 +13,16 @@ use Rattle.rh_record.specs.declared.answer.Answer.{Answer}
 use Rattle.rh_record.specs.declared.answer.Answer.TheVariants as answer
 use Rattle.rh_record.specs.declared.answer.TakeAnswer.{TakeAnswer}
 use Rattle.rh_record.specs.declared.answer.TakeAnswer.TheVariants as takes
+use Rattle.rh_wires.specs.Legs as legs
+use Rattle.rh_wires.specs.Wires.{sender}
+use Rattle.rh_company.specs.Company as company
+use Rattle.rh_company.specs.Company.{Rulebook}
 use Rattle.rh_nodes.specs.declared.settling.TheConstants.{MOST_BYTES}
 use Rattle.rh_nodes.specs.Breaking.{is_up, end_leg}
 use Rattle.rh_nodes.specs.Carrying.{send, feed}
-use Rattle.rh_nodes.specs.Company as company
-use Rattle.rh_nodes.specs.Company.{Rulebook}
 use Rattle.rh_nodes.specs.Giving.{Deeds, take, has_ended}
-use Rattle.rh_nodes.specs.Legs as legs
 use Rattle.rh_nodes.specs.Opening.{Makers, open_leg, open_same, may_open_same}
 use Rattle.rh_nodes.specs.Reports.{and_then, each}
-use Rattle.rh_nodes.specs.Wires.{sender}
 use Rattle.rh_nodes.specs.World.{World, at}
 
 -- the leg of a kind and a number

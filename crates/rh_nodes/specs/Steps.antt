@@ -9,10 +9,10 @@ use Rattle.rh_record.specs.declared.answer.Answer.TheVariants as answer
 use Rattle.rh_record.specs.declared.line.Line.{Line}
 use Rattle.rh_record.specs.declared.line.Line.TheVariants as line
 use Rattle.rh_shell.specs.Shells.{state_of}
+use Rattle.rh_company.specs.Closings.{lines}
+use Rattle.rh_company.specs.Company.{Rulebook}
 use Rattle.rh_nodes.specs.Breaking.{break_leg, end_leg}
 use Rattle.rh_nodes.specs.Carrying.{send, feed}
-use Rattle.rh_nodes.specs.Closings.{lines}
-use Rattle.rh_nodes.specs.Company.{Rulebook}
 use Rattle.rh_nodes.specs.Giving.{Deeds, give, take, close, recycle_in, recycle_out}
 use Rattle.rh_nodes.specs.Opening.{Makers, open_leg, open_same}
 use Rattle.rh_nodes.specs.Reports.{and_then}

@@ -1,9 +1,9 @@
 -- the line that says the moment (profile)
 use Rattle.std.specs.Prelude.{ℕ, zero, suc, Bool, true, false, nat_le, if◌then◌else◌, length}
 use Rattle.rh_record.specs.declared.answer.Who.TheVariants as who
-use Rattle.rh_nodes.specs.declared.event.Event.{Event}
-use Rattle.rh_nodes.specs.declared.event.Event.TheVariants.{Passes}
-use Rattle.rh_nodes.specs.Company.{Rulebook}
+use Rattle.rh_company.specs.declared.event.Event.{Event}
+use Rattle.rh_company.specs.declared.event.Event.TheVariants.{Passes}
+use Rattle.rh_company.specs.Company.{Rulebook}
 use Rattle.rh_nodes.specs.World.{World, tell}
 
 -- something is done for each number below one, the lower first

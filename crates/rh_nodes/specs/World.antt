@@ -11,17 +11,17 @@ use Rattle.rh_line.specs.declared.leg.LegKind.TheVariants.{ClientOut, OutServer,
 use Rattle.rh_record.specs.declared.answer.Who.{Who}
 use Rattle.rh_record.specs.declared.answer.Who.TheVariants as who
 use Rattle.rh_shell.specs.Shells.{Shell}
-use Rattle.rh_nodes.specs.declared.closing.Closing.{Closing}
-use Rattle.rh_nodes.specs.declared.counts.Counts.{Counts}
-use Rattle.rh_nodes.specs.declared.event.Event.{Event}
-use Rattle.rh_nodes.specs.declared.legs.Legs.{Legs}
-use Rattle.rh_nodes.specs.Closings.{noted}
-use Rattle.rh_nodes.specs.Company as company
-use Rattle.rh_nodes.specs.Company.{Company, Rulebook}
-use Rattle.rh_nodes.specs.Cookies.{Cookies, cookie_of, from}
-use Rattle.rh_nodes.specs.Counts as counts
-use Rattle.rh_nodes.specs.Legs as legs
-use Rattle.rh_nodes.specs.Readers.{reader_of}
+use Rattle.rh_wires.specs.declared.counts.Counts.{Counts}
+use Rattle.rh_wires.specs.declared.legs.Legs.{Legs}
+use Rattle.rh_wires.specs.Counts as counts
+use Rattle.rh_wires.specs.Legs as legs
+use Rattle.rh_wires.specs.Readers.{reader_of}
+use Rattle.rh_company.specs.declared.closing.Closing.{Closing}
+use Rattle.rh_company.specs.declared.event.Event.{Event}
+use Rattle.rh_company.specs.Closings.{noted}
+use Rattle.rh_company.specs.Company as company
+use Rattle.rh_company.specs.Company.{Company, Rulebook}
+use Rattle.rh_company.specs.Cookies.{Cookies, cookie_of, from}
 
 -- K makes the nodes, and C, S, I and O are the states of the roles
 pub record World (K C S I O : Type 0) : Type 0 where

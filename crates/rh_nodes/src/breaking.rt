@@ -1,15 +1,14 @@
 //! The lines by which a leg is lost.
 
 ghost use Rattle.std.specs.Prelude.{◌≡◌, IfOk, OnOk};
-ghost use Rattle.rh_nodes.specs.Company.{rules_of};
+ghost use Rattle.rh_company.specs.Company.{rules_of};
 ghost use Rattle.rh_nodes.specs.Breaking as seen;
 
-use crate::cast::Cast;
-use crate::event::Event;
 use crate::nodes::Nodes;
-use crate::wire::{receiver, sender};
+use rh_company::{Cast, Event};
 use rh_line::Leg;
 use rh_record::{Dir, Side};
+use rh_wires::{receiver, sender};
 use std::alloc::AllocError;
 
 impl<K: Cast> Nodes<K> {

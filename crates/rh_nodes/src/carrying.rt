@@ -1,18 +1,15 @@
 //! The lines that carry bytes: drawn into flight at one end of a leg, and fed at the other.
 
 ghost use Rattle.std.specs.Prelude.{◌≡◌, ◌≤◌, ◌<◌, ◌^◌, IfOk, OnOk, length, vec_len};
-ghost use Rattle.rh_nodes.specs.Company.{rules_of};
+ghost use Rattle.rh_company.specs.Company.{rules_of};
 ghost use Rattle.rh_nodes.specs.Carrying as seen;
 
-use crate::cast::Cast;
-use crate::company::Company;
-use crate::event::Event;
-use crate::legs::Legs;
 use crate::nodes::Nodes;
-use crate::wire::{receiver, sender};
+use rh_company::{Cast, Company, Event};
 use rh_line::Leg;
 use rh_record::{Dir, Who};
 use rh_text::Bytes;
+use rh_wires::{Legs, receiver, sender};
 use std::alloc::{AllocError, Global};
 
 /// Makes a room of `count` bytes at least.

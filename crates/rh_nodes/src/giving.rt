@@ -4,13 +4,14 @@ ghost use Rattle.std.specs.Prelude.{◌≡◌, ◌≤◌, ◌-◌, IfOk, length,
 ghost use Rattle.rh_line.specs.Queue.{put_first};
 ghost use Rattle.rh_nodes.specs.Giving as seen;
 
-use crate::cast::Cast;
 use crate::nodes::Nodes;
+use rh_company::Cast;
 use rh_line::{GiveFault, Take};
 use rh_pdu::header::GREATEST_FRAG;
 use rh_record::{Answer, Side, TakeAnswer};
 use rh_shell::{EndRole, Shell};
 use rh_text::Bytes;
+use rh_wires::Counts;
 use std::alloc::{AllocError, Global};
 
 /// The length of a PDU that was accepted, which is at most 8,192.
@@ -55,6 +56,36 @@ fn take_from<R: EndRole>(
     }
 }
 
+/// One more was given, where the PDU was accepted.
+fn count_given(counts: &mut Counts, given: &Result<(), GiveFault>)
+    ensures { counts.new ≡ seen.count_given counts.old given.now }
+{
+    match given {
+        Ok(()) => counts.give(),
+        Err(_) => {}
+    }
+}
+
+/// One more was taken, where there was a PDU.
+fn count_taken(counts: &mut Counts, answer: &TakeAnswer)
+    ensures { counts.new ≡ seen.count_taken counts.old answer.now }
+{
+    match answer {
+        TakeAnswer::Pdu(_) => counts.take(),
+        TakeAnswer::Empty | TakeAnswer::Ended | TakeAnswer::Closed(_) => {}
+    }
+}
+
+/// Whether a take was answered Ended, by this answer or before.
+fn ended_by(ended: bool, answer: &TakeAnswer) -> bool
+    ensures { result ≡ seen.ended_by ended answer.now }
+{
+    match answer {
+        TakeAnswer::Ended => true,
+        TakeAnswer::Pdu(_) | TakeAnswer::Empty | TakeAnswer::Closed(_) => ended,
+    }
+}
+
 impl<K: Cast> Nodes<K> {
     ghost use Rattle.rh_record.specs.declared.answer.Answer.TheVariants as answers;
     ghost use Rattle.rh_nodes.specs.Giving.{deeds_of};
@@ -63,9 +94,7 @@ impl<K: Cast> Nodes<K> {
         ensures { (self.new, result) ≡ seen.give_client K.Client.acts self.old pdu.now }
     {
         let given = self.company.client.give(pdu);
-        if given.is_ok() {
-            self.up.give();
-        }
+        count_given(&mut self.up, &given);
         give_answer(pdu, given)
     }
 
@@ -73,9 +102,7 @@ impl<K: Cast> Nodes<K> {
         ensures { (self.new, result) ≡ seen.give_server K.Server.acts self.old pdu.now }
     {
         let given = self.company.server.give(pdu);
-        if given.is_ok() {
-            self.down.give();
-        }
+        count_given(&mut self.down, &given);
         give_answer(pdu, given)
     }
 
@@ -96,11 +123,8 @@ impl<K: Cast> Nodes<K> {
             (self.new, answer) ≡ seen.take_client K.Client.acts self.old) }
     {
         let answer = take_from(alloc, &mut self.company.client, &mut self.taken)?;
-        match &answer {
-            TakeAnswer::Pdu(_) => self.down.take(),
-            TakeAnswer::Ended => self.client_ended = true,
-            TakeAnswer::Empty | TakeAnswer::Closed(_) => {}
-        }
+        count_taken(&mut self.down, &answer);
+        self.client_ended = ended_by(self.client_ended, &answer);
         Ok(answer)
     }
 
@@ -109,11 +133,8 @@ impl<K: Cast> Nodes<K> {
             (self.new, answer) ≡ seen.take_server K.Server.acts self.old) }
     {
         let answer = take_from(alloc, &mut self.company.server, &mut self.taken)?;
-        match &answer {
-            TakeAnswer::Pdu(_) => self.up.take(),
-            TakeAnswer::Ended => self.server_ended = true,
-            TakeAnswer::Empty | TakeAnswer::Closed(_) => {}
-        }
+        count_taken(&mut self.up, &answer);
+        self.server_ended = ended_by(self.server_ended, &answer);
         Ok(answer)
     }
 

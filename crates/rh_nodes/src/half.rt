@@ -1,13 +1,12 @@
 //! Half steps: one node alone is told something, as it may be where roles run apart.
 
 ghost use Rattle.std.specs.Prelude.{◌≡◌, IfOk, OnOk};
-ghost use Rattle.rh_nodes.specs.Company.{rules_of};
+ghost use Rattle.rh_company.specs.Company.{rules_of};
 ghost use Rattle.rh_nodes.specs.Halves as seen;
 ghost use Rattle.rh_nodes.specs.Opening.{makers_of};
 
-use crate::cast::Cast;
-use crate::event::Event;
 use crate::nodes::Nodes;
+use rh_company::{Cast, Event};
 use rh_line::{Leg, LegKind};
 use rh_record::{Side, Who};
 use rh_rts::Cookie;
@@ -54,6 +53,32 @@ impl<K: Cast> Nodes<K> {
         }
     }
 
+    /// The out proxy of a leg of the client is made, where none was.
+    fn make_new_out(&mut self, alloc: Global, number: u32) -> Result<(), AllocError>
+        ensures { OnOk result (self.new ≡ seen.make_out
+            (rules_of K.Client.rules K.Server.rules K.InProxy.rules K.OutProxy.rules)
+            (makers_of K.in_proxy K.out_proxy) self.old number) }
+    {
+        if number > 0 && self.company.outs.is_absent(number) {
+            let node = self.new_out(alloc, number)?;
+            self.make_out(number, node)?;
+        }
+        Ok(())
+    }
+
+    /// The in proxy of a leg of the client is made, where none was.
+    fn make_new_in(&mut self, alloc: Global, number: u32) -> Result<(), AllocError>
+        ensures { OnOk result (self.new ≡ seen.make_in
+            (rules_of K.Client.rules K.Server.rules K.InProxy.rules K.OutProxy.rules)
+            (makers_of K.in_proxy K.out_proxy) self.old number) }
+    {
+        if number > 0 && self.company.ins.is_absent(number) {
+            let node = self.new_in(alloc, number)?;
+            self.make_in(number, node)?;
+        }
+        Ok(())
+    }
+
     /// A proxy is made for a leg of the client, where none was.
     fn make_proxy(&mut self, alloc: Global, leg: Leg) -> Result<(), AllocError>
         ensures { OnOk result (self.new ≡ seen.make_proxy
@@ -61,21 +86,10 @@ impl<K: Cast> Nodes<K> {
             (makers_of K.in_proxy K.out_proxy) self.old leg) }
     {
         match leg.kind {
-            LegKind::ClientOut => {
-                if leg.number > 0 && self.company.outs.is_absent(leg.number) {
-                    let node = self.new_out(alloc, leg.number)?;
-                    self.make_out(leg.number, node)?;
-                }
-            }
-            LegKind::ClientIn => {
-                if leg.number > 0 && self.company.ins.is_absent(leg.number) {
-                    let node = self.new_in(alloc, leg.number)?;
-                    self.make_in(leg.number, node)?;
-                }
-            }
-            LegKind::OutServer | LegKind::InServer => {}
+            LegKind::ClientOut => self.make_new_out(alloc, leg.number),
+            LegKind::ClientIn => self.make_new_in(alloc, leg.number),
+            LegKind::OutServer | LegKind::InServer => Ok(()),
         }
-        Ok(())
     }
 
     /// The client alone is told that a leg is up.

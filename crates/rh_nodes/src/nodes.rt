@@ -17,21 +17,14 @@
 //! closed is let go with its last leg, and neither is looked for again.
 
 ghost use Rattle.std.specs.Prelude.{◌≡◌, ◌≤◌, ◌+◌, ◌<◌, ◌^◌, IfOk, OnOk};
-ghost use Rattle.rh_nodes.specs.Company.{rules_of};
+ghost use Rattle.rh_company.specs.Company.{rules_of};
 ghost use Rattle.rh_nodes.specs.World as seen;
 
-use crate::cast::Cast;
-use crate::closing::Closings;
-use crate::company::Company;
-use crate::cookies::{Cookies, cookie_of};
-use crate::counts::Counts;
-use crate::event::Event;
-use crate::legs::Legs;
-use crate::places::Places;
-use crate::readers::Readers;
+use rh_company::{Cast, Closings, Company, Cookies, Event, Places, cookie_of};
 use rh_line::{Leg, LegKind};
 use rh_pdu::header::GREATEST_FRAG;
 use rh_record::{Side, Who};
+use rh_wires::{Counts, Legs, Readers};
 use std::alloc::{AllocError, Global};
 use std::marker::Model;
 

@@ -1,12 +1,12 @@
 //! The lines that connect a leg.
 
 ghost use Rattle.std.specs.Prelude.{◌≡◌, ◌<◌, IfOk, OnOk};
-ghost use Rattle.rh_nodes.specs.Company.{rules_of};
+ghost use Rattle.rh_company.specs.Company.{rules_of};
 ghost use Rattle.rh_nodes.specs.Opening as seen;
 ghost use Rattle.rh_nodes.specs.Opening.{makers_of};
 
-use crate::cast::Cast;
 use crate::nodes::Nodes;
+use rh_company::Cast;
 use rh_line::{Leg, LegKind};
 use rh_record::{Side, Who};
 use rh_rts::{Cookie, NO_COOKIE};

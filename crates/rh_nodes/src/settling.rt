@@ -1,18 +1,18 @@
 //! The line that lets all that can go on do so, in rounds.
 
 ghost use Rattle.std.specs.Prelude.{◌≡◌, ◌≤◌, ◌<◌, ◌^◌, IfOk, OnOk, IsTrue, length};
-ghost use Rattle.rh_nodes.specs.Company.{rules_of};
+ghost use Rattle.rh_company.specs.Company.{rules_of};
 ghost use Rattle.rh_nodes.specs.Giving.{deeds_of};
 ghost use Rattle.rh_nodes.specs.Opening.{makers_of};
 ghost use Rattle.rh_nodes.specs.Reports.{Tells};
 ghost use Rattle.rh_nodes.specs.Settling as seen;
 
-use crate::cast::Cast;
 use crate::nodes::Nodes;
-use crate::wire::sender;
+use rh_company::Cast;
 use rh_line::{LAST_NUMBER, Leg, LegKind};
 use rh_record::{Answer, Dir, Report, Side, TakeAnswer};
 use rh_text::Bytes;
+use rh_wires::sender;
 use std::alloc::{AllocError, Global};
 
 // What is done to a leg, here and where bytes are carried, is inlined into the loops over the legs

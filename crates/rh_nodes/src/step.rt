@@ -2,14 +2,14 @@
 
 ghost use Rattle.std.specs.Prelude.{◌≡◌};
 ghost use Rattle.rh_text.specs.Writing.{Writes};
-ghost use Rattle.rh_nodes.specs.Company.{rules_of};
+ghost use Rattle.rh_company.specs.Company.{rules_of};
 ghost use Rattle.rh_nodes.specs.Giving.{deeds_of};
 ghost use Rattle.rh_nodes.specs.Opening.{makers_of};
 ghost use Rattle.rh_nodes.specs.Reports.{Tells};
 ghost use Rattle.rh_nodes.specs.Steps as seen;
 
-use crate::cast::Cast;
 use crate::nodes::Nodes;
+use rh_company::Cast;
 use rh_record::{Answer, Line, Report, Side};
 use std::alloc::{AllocError, Global};
 

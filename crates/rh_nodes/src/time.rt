@@ -1,12 +1,11 @@
 //! The line that says the moment.
 
 ghost use Rattle.std.specs.Prelude.{◌≡◌, IfOk, OnOk};
-ghost use Rattle.rh_nodes.specs.Company.{rules_of};
+ghost use Rattle.rh_company.specs.Company.{rules_of};
 ghost use Rattle.rh_nodes.specs.Time as seen;
 
-use crate::cast::Cast;
-use crate::event::Event;
 use crate::nodes::Nodes;
+use rh_company::{Cast, Event};
 use rh_record::Who;
 use std::alloc::AllocError;
 

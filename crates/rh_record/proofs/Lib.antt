@@ -1,3 +1,4 @@
 pub mod LineLaws
 pub mod Reports
 mod Judging
+mod WordTables

@@ -19,6 +19,20 @@ fn is_within(least: u32, most: u32, value: u64) -> bool
     u64::from(least) <= value && value <= u64::from(most)
 }
 
+/// All keys.
+const KEYS: [Key; 10] = [
+    Key::Cwin,
+    Key::Iwin,
+    Key::Owin,
+    Key::Swin,
+    Key::Ilife,
+    Key::Olife,
+    Key::Itime,
+    Key::Otime,
+    Key::Keep,
+    Key::Same,
+];
+
 impl Key {
     ghost use Rattle.rh_record.specs.declared.line.Key.{Key};
     ghost use Rattle.rh_record.specs.Words.{key_word, takes};
@@ -46,19 +60,12 @@ impl Key {
         ensures { MatchOption result ((key : Key) → ¬ (word.now ≡ key_word key))
             (λ key. word.now ≡ key_word key) }
     {
-        match word {
-            b"cwin" => Some(Key::Cwin),
-            b"iwin" => Some(Key::Iwin),
-            b"owin" => Some(Key::Owin),
-            b"swin" => Some(Key::Swin),
-            b"ilife" => Some(Key::Ilife),
-            b"olife" => Some(Key::Olife),
-            b"itime" => Some(Key::Itime),
-            b"otime" => Some(Key::Otime),
-            b"keep" => Some(Key::Keep),
-            b"same" => Some(Key::Same),
-            _ => None,
+        'keys: for at in 0..KEYS.len() {
+            if word == KEYS[at].word().as_bytes() {
+                return Some(KEYS[at]);
+            }
         }
+        None
     }
 
     /// Whether the number is a value of the key.

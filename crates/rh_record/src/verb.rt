@@ -20,6 +20,23 @@ pub(crate) enum Verb {
     Settle,
 }
 
+/// All verbs, those of most lines first.
+const VERBS: [Verb; 13] = [
+    Verb::Move,
+    Verb::Send,
+    Verb::Take,
+    Verb::Give,
+    Verb::Rh,
+    Verb::Set,
+    Verb::Close,
+    Verb::Open,
+    Verb::Break,
+    Verb::End,
+    Verb::Tick,
+    Verb::Recycle,
+    Verb::Settle,
+];
+
 impl Verb {
     ghost use Rattle.std.specs.Prelude.{◌≡◌, ◌++◌, ◌∷◌, ℕ, List, MatchOption, IfSome};
     ghost use Rattle.rh_record.specs.declared.verb.Verb.{Verb};
@@ -27,27 +44,38 @@ impl Verb {
     ghost use Rattle.rh_record.specs.Verbs.{verb_word};
     ghost use Rattle.rh_record.specs.Words.{Cut};
 
+    /// The word for the verb.
+    fn word(self) -> &'static [u8]
+        ensures { result.now ≡ verb_word self }
+    {
+        match self {
+            Verb::Rh => b"rh",
+            Verb::Set => b"set",
+            Verb::Give => b"give",
+            Verb::Take => b"take",
+            Verb::Close => b"close",
+            Verb::Send => b"send",
+            Verb::Move => b"move",
+            Verb::Open => b"open",
+            Verb::Break => b"break",
+            Verb::End => b"end",
+            Verb::Tick => b"tick",
+            Verb::Recycle => b"recycle",
+            Verb::Settle => b"settle",
+        }
+    }
+
     /// The verb that the word is; `None` where it is none. Those of most lines are tried first.
     pub(crate) fn of_word(word: &[u8]) -> Option<Verb>
         ensures { MatchOption result ((verb : Verb) → ¬ (word.now ≡ verb_word verb))
             (λ verb. word.now ≡ verb_word verb) }
     {
-        match word {
-            b"move" => Some(Verb::Move),
-            b"send" => Some(Verb::Send),
-            b"take" => Some(Verb::Take),
-            b"give" => Some(Verb::Give),
-            b"rh" => Some(Verb::Rh),
-            b"set" => Some(Verb::Set),
-            b"close" => Some(Verb::Close),
-            b"open" => Some(Verb::Open),
-            b"break" => Some(Verb::Break),
-            b"end" => Some(Verb::End),
-            b"tick" => Some(Verb::Tick),
-            b"recycle" => Some(Verb::Recycle),
-            b"settle" => Some(Verb::Settle),
-            _ => None,
+        'verbs: for at in 0..VERBS.len() {
+            if word == VERBS[at].word() {
+                return Some(VERBS[at]);
+            }
         }
+        None
     }
 
     /// The verb that begins a text, and the words behind it; `None` where none does.

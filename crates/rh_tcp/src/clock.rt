@@ -1,9 +1,11 @@
 //! The system's clock.
 
 ghost use Rattle.std.specs.Prelude.{◌≡◌, IfOk};
+ghost use Rattle.std.specs.Duration.{as_nanos};
+ghost use Rattle.rh_tcp.specs.Moments.{millis};
 
 use std::io;
-use std::time::{self, Instant};
+use std::time::{self, Duration, Instant};
 
 /// The system's monotonic clock, in milliseconds since it was made.
 #[derive(Clone, Copy)]
@@ -32,9 +34,16 @@ impl<R: time::Clock + Copy> rh_net::Clock for SystemClock<R> {
     /// Where the system's clock can't be read, or went back, this is the moment before.
     fn now(&mut self) -> u64 {
         if let Ok(elapsed) = self.start.elapsed(&self.rt) {
-            let moment = u64::try_from(elapsed.as_millis()).unwrap_or(u64::MAX);
+            let moment = millis(elapsed);
             self.last = self.last.max(moment);
         }
         self.last
     }
+}
+
+// The milliseconds of a time, of which 2^64 - 1 are the most.
+fn millis(elapsed: Duration) -> u64
+    ensures { result ≡ millis (as_nanos elapsed) }
+{
+    u64::try_from(elapsed.as_millis()).unwrap_or(u64::MAX)
 }

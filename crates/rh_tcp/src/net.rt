@@ -1,35 +1,48 @@
-//! Legs over TCP.
+//! The books of a net over TCP.
 
 ghost use Rattle.std.specs.Prelude.{◌≡◌, ◌↔◌, None, IfOk, IsOk, IsSome, OnOk, OnErr};
-ghost use Rattle.rh_net.specs.Calls.{AreLater, CountsFault, GivesLeg};
-ghost use Rattle.rh_tcp.specs.Legs.{IsNewLeg};
+ghost use Rattle.rh_net.specs.Calls.{AreLater, CountsFault};
 
-use crate::leg::{TcpSink, TcpSource, WAIT_SECONDS};
+use crate::leg::{TcpSink, TcpSource};
+use crate::way::{TcpCame, TcpWay, listening};
 use rh_net::{Address, Net, NetCounts, NetFailed, ShutSink, ShutSource};
-use std::io::{self, ErrorKind};
 use std::net::{self as sockets, TcpListener, TcpStream};
-use std::os::fd::OwnedFd;
-use std::time::Duration;
+
+/// After how long a write that makes no progress fails, in milliseconds.
+pub const WRITE_WAIT: u32 = 60_000;
 
 /// A net over TCP. It tells no streams taken back.
 ///
-/// A host is a name or an IPv4 address, which the system resolves. `accept` waits a second at most;
-/// where nobody came, it gives a leg whose source is at its end.
+/// A leg is given only where it came: where nobody connects, a way answers that nobody came.
 #[derive(Drop)]
 pub struct TcpNet<R: sockets::Net<Listener = TcpListener, Stream = TcpStream> + Copy> {
     rt: R,
     listener: Option<TcpListener>,
+    write_wait: u32,
     counts: NetCounts,
 }
 
 impl<R: sockets::Net<Listener = TcpListener, Stream = TcpStream> + Copy> TcpNet<R> {
-    /// A net of the system's sockets, which listens nowhere.
+    /// A net of the system's sockets, which listens nowhere. A write on its legs fails once it made
+    /// no progress for `WRITE_WAIT`.
     pub fn new(rt: R) -> TcpNet<R>
-        ensures { result.counts ≡ record { faults = 0; given = 0; leg_faults = 0; leg_ends = 0 } }
+        ensures counts { result.counts
+            ≡ record { faults = 0; given = 0; leg_faults = 0; leg_ends = 0 } }
+        ensures waits { result.write_wait ≡ 60000 }
+    {
+        TcpNet::with_write_wait(rt, WRITE_WAIT)
+    }
+
+    /// The same net, with another wait of its writes, in milliseconds.
+    pub fn with_write_wait(rt: R, write_wait: u32) -> TcpNet<R>
+        ensures counts { result.counts
+            ≡ record { faults = 0; given = 0; leg_faults = 0; leg_ends = 0 } }
+        ensures waits { result.write_wait ≡ write_wait }
     {
         TcpNet {
             rt,
             listener: None,
+            write_wait,
             counts: NetCounts::new(),
         }
     }
@@ -39,26 +52,6 @@ impl<R: sockets::Net<Listener = TcpListener, Stream = TcpStream> + Copy> TcpNet<
         ensures { ⟦<TcpNet<R> as Net>⟧.counts self.now ≡ result }
     {
         self.counts
-    }
-
-    // Counts a leg that is given, or a call that failed.
-    fn count_leg(
-        &mut self,
-        leg: io::Result<(TcpSource, TcpSink)>,
-    ) -> Result<(TcpSource, TcpSink), NetFailed>
-        requires { IfOk leg IsNewLeg }
-        ensures leg { GivesLeg result IsNewLeg self.old.counts self.new.counts }
-    {
-        match leg {
-            Ok(leg) => {
-                self.counts.count_given();
-                Ok(leg)
-            }
-            Err(_) => {
-                self.counts.count_fault();
-                Err(NetFailed)
-            }
-        }
     }
 
     /// The port listened at, where there is one: of use after `listen` at port 0, for which the
@@ -73,6 +66,10 @@ impl<R: sockets::Net<Listener = TcpListener, Stream = TcpStream> + Copy> Net for
     type In = TcpSource;
 
     type Out = TcpSink;
+
+    type Came = TcpCame;
+
+    type Way = TcpWay<R>;
 
     ghost counts = { λ n. n.counts };
 
@@ -90,9 +87,33 @@ impl<R: sockets::Net<Listener = TcpListener, Stream = TcpStream> + Copy> Net for
         sink.shut();
     }
 
-    fn connect(&mut self, to: &Address) -> Result<(TcpSource, TcpSink), NetFailed> {
-        let leg = connected(&self.rt, to);
-        self.count_leg(leg)
+    fn way(&mut self) -> Result<TcpWay<R>, NetFailed> {
+        let Some(listener) = &self.listener else {
+            return Ok(TcpWay::new(self.rt, None, self.write_wait));
+        };
+        match listener.try_clone() {
+            Ok(listener) => Ok(TcpWay::new(self.rt, Some(listener), self.write_wait)),
+            Err(_) => {
+                self.counts.count_fault();
+                Err(NetFailed)
+            }
+        }
+    }
+
+    fn gives(&mut self, came: TcpCame) -> Result<(TcpSource, TcpSink), NetFailed> {
+        match came.leg {
+            Ok(handles) => {
+                self.counts.count_given();
+                Ok((
+                    TcpSource::over(handles.reads),
+                    TcpSink::over(handles.writes),
+                ))
+            }
+            Err(_) => {
+                self.counts.count_fault();
+                Err(NetFailed)
+            }
+        }
     }
 
     fn listen(&mut self, at: &Address) -> Result<(), NetFailed>
@@ -114,74 +135,4 @@ impl<R: sockets::Net<Listener = TcpListener, Stream = TcpStream> + Copy> Net for
             }
         }
     }
-
-    fn accept(&mut self) -> Result<(TcpSource, TcpSink), NetFailed> {
-        let leg = accepted(&self.listener);
-        self.count_leg(leg)
-    }
-}
-
-// The host as text. Bytes that are no text name none.
-fn host_of(address: &Address) -> io::Result<&str> {
-    match str::from_utf8(address.host()) {
-        Ok(host) => Ok(host),
-        Err(_) => Err(io::Error::from(ErrorKind::InvalidInput)),
-    }
-}
-
-fn connected<R: sockets::Net<Listener = TcpListener, Stream = TcpStream>>(
-    rt: &R,
-    to: &Address,
-) -> io::Result<(TcpSource, TcpSink)>
-    ensures { IfOk result IsNewLeg }
-{
-    leg_over(TcpStream::connect(rt, (host_of(to)?, to.port))?)
-}
-
-// A listener whose `accept` waits no longer than `WAIT_SECONDS`.
-fn listening<R: sockets::Net<Listener = TcpListener, Stream = TcpStream>>(
-    rt: &R,
-    at: &Address,
-) -> io::Result<TcpListener> {
-    let listener = TcpListener::bind(rt, (host_of(at)?, at.port))?;
-    // A listener of std has no timeout of its own, and is a socket as a stream is: the same handle
-    // as a stream takes the read timeout, which the system keeps for `accept` too.
-    let socket = TcpStream::from(OwnedFd::from(listener));
-    socket.set_read_timeout(Some(Duration::from_secs(WAIT_SECONDS)))?;
-    Ok(TcpListener::from(OwnedFd::from(socket)))
-}
-
-// The leg of who came, or one at its end where nobody did, or who came had gone again.
-fn accepted(listener: &Option<TcpListener>) -> io::Result<(TcpSource, TcpSink)>
-    ensures { IfOk result IsNewLeg }
-{
-    let Some(listener) = listener else {
-        return Err(io::Error::from(ErrorKind::NotConnected));
-    };
-    match listener.accept() {
-        Ok((stream, _)) => leg_over(stream),
-        Err(error)
-            if matches!(
-                error.kind(),
-                ErrorKind::WouldBlock | ErrorKind::ConnectionAborted
-            ) => { Ok(end_leg()) }
-        Err(error) => Err(error),
-    }
-}
-
-// The streams of a leg over a socket. Small pieces go out at once (TCP_NODELAY).
-fn leg_over(stream: TcpStream) -> io::Result<(TcpSource, TcpSink)>
-    ensures { IfOk result IsNewLeg }
-{
-    stream.set_nodelay(true)?;
-    stream.set_read_timeout(Some(Duration::from_secs(WAIT_SECONDS)))?;
-    let other = stream.try_clone()?;
-    Ok((TcpSource::over(Some(stream)), TcpSink::over(Some(other))))
-}
-
-// A leg whose source is at its end and whose sink takes no byte.
-fn end_leg() -> (TcpSource, TcpSink)
-    ensures { IsNewLeg result }
-{
-    (TcpSource::over(None), TcpSink::over(None))
 }

@@ -7,9 +7,10 @@ use Rattle.std.specs.Io.KnownBytes.{Appends}
 use Rattle.rh_text.specs.Lines.{Rules, IsText}
 use Rattle.rh_record.specs.Places.{recording}
 use Rattle.rh_show.specs.Lines.{packets}
+use Rattle.rh_script.specs.Scripts.{script}
 use Rattle.rh_words.specs.Generated.Summaries.{summary, summary_text}
 use Rattle.rh_words.specs.declared.form.Form.{Form}
-use Rattle.rh_words.specs.declared.form.Form.TheVariants.{Replay, Show, Make, Help, Version}
+use Rattle.rh_words.specs.declared.form.Form.TheVariants.{Replay, Show, Play, Make, Help, Version}
 use Rattle.rh_words.specs.declared.status.Status.{Status}
 use Rattle.rh_words.specs.declared.status.Status.TheVariants as statuses
 use Rattle.rh_words.specs.declared.word.Ended.{Ended}
@@ -18,6 +19,7 @@ use Rattle.rh_words.specs.Words.{most_input}
 use Rattle.rh_words.specs.Statuses.{status_of}
 use Rattle.rh_words.specs.Replay.{IsReplayed}
 use Rattle.rh_words.specs.Show.{IsShown}
+use Rattle.rh_words.specs.Play.{IsPlayed}
 use Rattle.rh_words.specs.Forms.{Outside, Reads, Tells, Ran}
 use Rattle.rh_words.specs.Memory.{IsRoomFor, NoneFailed, RanInMemory}
 use Rattle.rh_words.proofs.Coming.{all_came}
@@ -110,6 +112,13 @@ ran_in_memory help version Unfailing Show status before after text (
   reads,
 ) sure left none room =
     let s = spared packets IsShown Unfailing before after text ended reads sure left none room in
+    rw is (record { none_failed = s.none_failed; whole = s.whole; done = s.done })
+ran_in_memory help version Unfailing Play status before after text (
+  ended,
+  is,
+  reads,
+) sure left none room =
+    let s = spared script IsPlayed Unfailing before after text ended reads sure left none room in
     rw is (record { none_failed = s.none_failed; whole = s.whole; done = s.done })
 ran_in_memory help version Unfailing (Make count) status before after text (
     inl h

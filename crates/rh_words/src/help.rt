@@ -5,10 +5,12 @@ use crate::status::statuses;
 macro_rules! help {
     ($($status:ident $number:literal $name:literal $more:literal;)*) => {
         concat!(
-            "rh_cli replays recordings of RPC over HTTP version 2 (MS-RPCH), and shows its packets.
+            "rh_cli replays recordings of RPC over HTTP version 2 (MS-RPCH), shows its packets, and plays one of
+its roles alone.
 
   rh_cli replay       reads a recording from standard input, writes its report to standard output
   rh_cli show         reads lines of hex, one packet each, and writes one line for each packet
+  rh_cli play         reads a script that tells one role what comes to it, and writes the answers
   rh_cli make <n>     runs a generated recording of n PDUs (1 to 10,000), writes its report's last
                       lines, the bytes that moved and the rounds of its settlings
   rh_cli --help       writes this page

@@ -8,6 +8,7 @@ pub mod generating;
 pub mod help;
 pub mod in_memory;
 pub mod output;
+pub mod play;
 pub mod program;
 pub mod replay;
 pub mod running;
@@ -24,6 +25,7 @@ pub use generating::{
 };
 pub use help::HELP;
 pub use in_memory::run_in_memory;
+pub use play::Play;
 pub use program::run_program;
 pub use replay::Replay;
 pub use running::{VERSION, run};

@@ -17,7 +17,7 @@ use Rattle.rh_outproxy.specs.declared.out_proxy.TheConstants as outs
 use Rattle.rh_outproxy.specs.declared.state.OutProxyConfig.{OutProxyConfig}
 use Rattle.rh_outproxy.specs.OutProxy as proxies
 use Rattle.rh_outproxy.specs.Machine as out_proxies
-use Rattle.rh_nodes.specs.Company.{Rulebook, rules_of}
+use Rattle.rh_company.specs.Company.{Rulebook, rules_of}
 use Rattle.rh_nodes.specs.Giving.{Deeds, deeds_of}
 use Rattle.rh_nodes.specs.Opening.{Makers, makers_of}
 use Rattle.rh_nodes.specs.declared.half.Half.{Half}

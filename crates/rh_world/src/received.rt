@@ -3,8 +3,8 @@
 ghost use Rattle.std.specs.Prelude.{◌≡◌, ◌+◌, ◌-◌, ◌≤◌, ◌<◌, ◌^◌, ◌++◌, [], ◌∷◌, IfOk, OnOk, OnErr, MatchOption, length};
 
 use circular_buffer::HeapCircularBuffer;
-use rh_nodes::ring::{make_room, take_front};
 use rh_text::Bytes;
+use rh_wires::ring::{make_room, take_front};
 use std::alloc::{AllocError, Global};
 use std::marker::Model;
 

@@ -7,9 +7,9 @@ ghost use Rattle.rh_world.specs.Hosts as hosts;
 
 use crate::config::WorldConfig;
 use rh_client::{ClientConfig, ClientRole};
+use rh_company::Cast;
 use rh_http::Host;
 use rh_inproxy::{InProxyConfig, InProxyRole};
-use rh_nodes::Cast;
 use rh_outproxy::{OutProxyConfig, OutProxyRole};
 use rh_record::Key;
 use rh_rts::Cookie;

@@ -12,11 +12,11 @@ ghost use Rattle.rh_world.specs.Direct as seen;
 use crate::received::Received;
 use circular_buffer::HeapCircularBuffer;
 use rh_line::{BegunPdu, GiveFault, SendLine, draw};
-use rh_nodes::ring::{make_room, take_front};
 use rh_pdu::header::HEADER_LEN;
 use rh_pdu::{Feed, Framer, check};
 use rh_record::TakeAnswer;
 use rh_text::Bytes;
+use rh_wires::ring::{make_room, take_front};
 use std::alloc::{AllocError, Global};
 use std::marker::Model;
 

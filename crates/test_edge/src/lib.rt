@@ -11,6 +11,8 @@ mod jobs;
 #[cfg(test)]
 mod net;
 #[cfg(test)]
+mod steps;
+#[cfg(test)]
 mod tcp;
 #[cfg(test)]
 mod turn;

@@ -1,18 +1,13 @@
-//! Tests of worlds, of generated recordings and of the program's words. They stand here so that
-//! such a crate is proved once, and not once more with its tests.
+//! Tests of what only memory can do to the program's words and worlds: calls that fail by plan,
+//! outputs that take one byte, and PDUs that are made. What words write of texts is data, in
+//! `tools/word_cases.py`.
 #![tactic(auto)]
 
 #[cfg(test)]
-mod answering;
+mod failing;
 #[cfg(test)]
-mod forms;
+mod made;
 #[cfg(test)]
-mod make;
-#[cfg(test)]
-mod replay;
-#[cfg(test)]
-mod show;
-#[cfg(test)]
-mod texts;
+mod memory;
 #[cfg(test)]
 mod world;

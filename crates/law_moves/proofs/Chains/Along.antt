@@ -1,14 +1,9 @@
 -- where each proxy puts no more than came to it, no more comes at the end of a way than was put at
 -- its beginning
-use Rattle.std.proofs.Common.{◌≡◌, ℕ, zero, suc, ◌+◌, ◌≤◌, ◌==◌, nat_lt, Bool, true, false, if◌then◌else◌, List, arith, refl, sym, subst}
-use Rattle.std.proofs.lemmas.Bool.Decides.{nat_tests}
-use Rattle.rh_sig.specs.declared.named.Named.{Named}
-use Rattle.rh_line.specs.declared.leg.LegKind.{LegKind}
-use Rattle.rh_line.specs.declared.leg.LegKind.TheVariants.{ClientIn, InServer}
-use Rattle.law_moves.specs.Moves.{OnLeg}
-use Rattle.law_moves.specs.Chains.Sums.{sum_below, count_on}
-use Rattle.law_moves.specs.Chains.Ways.{total}
+use Rattle.law_order.proofs.Vocabulary.{◌≡◌, ℕ, zero, suc, ◌+◌, ◌≤◌, ◌==◌, nat_lt, Bool, true, false, if◌then◌else◌, List, arith, refl, sym, subst, nat_tests}
+use Rattle.law_moves.proofs.Vocabulary.{Named, LegKind, ClientIn, InServer, OnLeg, sum_below, count_on}
 use Rattle.law_moves.proofs.Chains.Summing.{sum_rises, some_legs, all_legs}
+use Rattle.law_moves.specs.Chains.Ways.{total}
 
 -- ---- by proxies of one leg to each side
 
@@ -41,12 +36,12 @@ one_reader reader f zero n = omega arith
 one_reader reader f (suc m) n =
     let rest = one_reader reader f m n in grind (arith, nat_tests, rest)
 
-sum_plus : (f g : ℕ → ℕ) (n : ℕ)
+pub sum_plus : (f g : ℕ → ℕ) (n : ℕ)
     → sum_below (λ k. f k + g k) n ≡ sum_below f n + sum_below g n
 sum_plus f g zero = omega arith
 sum_plus f g (suc n) = let rest = sum_plus f g n in omega (arith, rest)
 
-zeros : (n : ℕ) → sum_below (λ k. 0) n ≡ 0
+pub zeros : (n : ℕ) → sum_below (λ k. 0) n ≡ 0
 zeros zero = omega arith
 zeros (suc n) = let rest = zeros n in omega (arith, rest)
 

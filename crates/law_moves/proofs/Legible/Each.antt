@@ -1,6 +1,5 @@
 -- what holds of each element of a list
-use Rattle.std.proofs.Common.{List, [], ◌∷◌, ◌++◌}
-use Rattle.std.specs.List.{AllByRecursion}
+use Rattle.law_order.proofs.Vocabulary.{List, [], ◌∷◌, ◌++◌, AllByRecursion}
 
 -- what holds of all holds of the first ones and of the last
 pub each_parted : {X : Type 0} (P : X → Type 0) (xs : List X) (x : X)

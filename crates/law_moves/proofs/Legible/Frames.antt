@@ -1,12 +1,6 @@
 -- the bytes of a packet are a frame of the type of RTS PDUs
-use Rattle.std.proofs.Common.{◌≡◌, ℕ, ◌<◌, ◌≤◌, List, ◌++◌, length, arith, refl, sym, ◌∙◌, slice_index}
-use Rattle.std.specs.Prelude.{None}
-use Rattle.std.proofs.lemmas.Bool.{le-ltb}
-use Rattle.rh_pdu.specs.Header.{frag_of, head_fault}
-use Rattle.rh_pdu.specs.Frames.{IsFrame}
-use Rattle.rh_rts.specs.Commands.{spellings}
-use Rattle.rh_rts.specs.Packets.{Parts, header_bytes, packet_bytes, packet_length}
-use Rattle.rh_rts.proofs.OneReading.{sized}
+use Rattle.law_order.proofs.Vocabulary.{◌≡◌, ℕ, ◌<◌, ◌≤◌, List, ◌++◌, length, arith, refl, sym, ◌∙◌, slice_index, None, le-ltb}
+use Rattle.law_moves.proofs.Vocabulary.{frag_of, head_fault, IsFrame, sized, spellings, Parts, header_bytes, packet_bytes, packet_length}
 
 -- two bytes, the least first, are the number
 frag_is : (n flags count : ℕ) (rest : List ℕ) → n < 65536

@@ -1,12 +1,8 @@
 -- named packets that were read, and that may be put
-use Rattle.std.proofs.Common.{List, [], ◌∷◌}
-use Rattle.rh_rts.specs.declared.command.Command.{Command}
+use Rattle.law_order.proofs.Vocabulary.{List, [], ◌∷◌}
 use Rattle.rh_rts.specs.declared.command.Command.TheVariants as commands
-use Rattle.rh_rts.specs.Commands.{AreCommands, HaveSizes, HasSize, IsCommand}
-use Rattle.rh_sig.specs.declared.named.Named.{Named}
 use Rattle.rh_sig.specs.declared.named.Named.TheVariants as named
-use Rattle.rh_sig.specs.Names.{unpadded}
-use Rattle.rh_sig.specs.Values.{MayBeWritten, commands_of}
+use Rattle.law_moves.proofs.Vocabulary.{Command, AreCommands, HaveSizes, HasSize, IsCommand, Named, unpadded, MayBeWritten, commands_of}
 
 -- the commands without their padding are commands too
 pub unpadded_are : (cs : List Command) → AreCommands cs → AreCommands (unpadded cs)

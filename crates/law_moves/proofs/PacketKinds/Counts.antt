@@ -1,22 +1,11 @@
 -- how many packets pass a test, with a message more in a log
-use Rattle.std.proofs.Common.{◌≡◌, ℕ, suc, ◌+◌, ◌≤◌, ◌==◌, Bool, true, false, if◌then◌else◌, List, [], ◌∷◌, ◌++◌, refl, ap, ◌∙◌, arith}
-use Rattle.std.proofs.lemmas.Bool.{and_parts, eqb-true}
-use Rattle.std.proofs.lemmas.Bool.Decides.{nat_tests}
-use Rattle.std.proofs.lemmas.List.{append-nil}
-use Rattle.rh_sig.specs.declared.named.Named.{Named}
-use Rattle.rh_line.specs.declared.leg.Leg.{Leg}
-use Rattle.rh_line.specs.declared.leg.LegKind.{LegKind}
-use Rattle.rh_line.specs.declared.leg.LegKind.TheVariants.{ClientOut, OutServer, ClientIn, InServer}
-use Rattle.rh_shell.specs.Rules.{Message, Text, Pdu, Packet}
-use Rattle.rh_shell.specs.Shells.{kind_number, is_of, same_leg, one_if}
-use Rattle.law_moves.specs.Moves.{OnLeg}
-use Rattle.law_moves.specs.Wires.{of_leg}
-use Rattle.law_moves.specs.Passages.Passing.{count_of, of_kind}
+use Rattle.law_order.proofs.Vocabulary.{◌≡◌, ℕ, suc, ◌+◌, ◌≤◌, ◌==◌, Bool, true, false, if◌then◌else◌, List, [], ◌∷◌, ◌++◌, refl, ap, ◌∙◌, arith, and_parts, eqb-true, nat_tests, append-nil}
+use Rattle.law_moves.proofs.Vocabulary.{Named, Leg, LegKind, ClientOut, OutServer, ClientIn, InServer, Message, Text, Pdu, Packet, kind_number, is_of, same_leg, one_if, OnLeg, of_leg, count_of, of_kind}
 use Rattle.law_moves.proofs.Passages.Messages.{leg_more, kind_more, count_append, count_rises}
 
 -- ---- which leg it is
 
-kind_is : (a b : LegKind) → (kind_number a == kind_number b) ≡ true → a ≡ b
+pub kind_is : (a b : LegKind) → (kind_number a == kind_number b) ≡ true → a ≡ b
 kind_is ClientOut ClientOut h = refl
 kind_is OutServer OutServer h = refl
 kind_is ClientIn ClientIn h = refl
@@ -42,7 +31,7 @@ leg_is a b h =
     ap (λ (k : LegKind). record a { kind = k }) kinds
     ∙ ap (λ (n : ℕ). record b { number = n }) numbers
 
-itself : (leg : Leg) → same_leg leg leg ≡ true
+pub itself : (leg : Leg) → same_leg leg leg ≡ true
 itself leg = grind (arith, nat_tests)
 
 -- ---- a message more

@@ -1,16 +1,7 @@
 -- a role that puts no more packets of some kind than came of another: what it owes is paid by what
 -- came, and what it puts pays it
-use Rattle.std.proofs.Common.{ℕ, ◌+◌, ◌≤◌, Bool, IsTrue, List, [], ◌∷◌, ◌++◌, Some, None, Ok, Err, arith}
-use Rattle.std.specs.Prelude.{IfSome}
-use Rattle.std.specs.declared.option.Option.{Option}
-use Rattle.rh_rts.specs.declared.command.Cookie.{Cookie}
-use Rattle.rh_sig.specs.declared.named.Named.{Named}
-use Rattle.rh_line.specs.declared.leg.Leg.{Leg}
-use Rattle.rh_shell.specs.declared.answers.Count.{Count}
-use Rattle.rh_shell.specs.Rules.{Rules, Row, Message, Pdu, Packet}
-use Rattle.law_moves.specs.Moves.{OnLeg, Move, Up, HeadCame, PduCame, PacketCame, Puts, IsDrawn, Marks, Pings, Passage, MayMove, AreAllowed, moved, all_moved, taken_by, put_by}
-use Rattle.law_moves.specs.Wires.{of_leg}
-use Rattle.law_moves.specs.Passages.Passing.{count_of}
+use Rattle.law_order.proofs.Vocabulary.{ℕ, ◌+◌, ◌≤◌, Bool, IsTrue, List, [], ◌∷◌, ◌++◌, Some, None, Ok, Err, arith, IfSome, Option}
+use Rattle.law_moves.proofs.Vocabulary.{Cookie, Named, Leg, Count, Rules, Row, Message, Pdu, Packet, OnLeg, Move, Up, HeadCame, PduCame, PacketCame, Puts, IsDrawn, Marks, Pings, Passage, MayMove, AreAllowed, moved, all_moved, taken_by, put_by, of_leg, count_of}
 use Rattle.law_moves.proofs.PacketKinds.Counts.{leg_at_most}
 
 -- ---- steps

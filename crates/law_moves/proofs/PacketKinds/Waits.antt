@@ -1,15 +1,6 @@
 -- how many of the packets that wait pass a test
-use Rattle.std.proofs.Common.{◌≡◌, ℕ, ◌+◌, ◌≤◌, nat_lt, Bool, true, false, true≢false, List, [], ◌∷◌, ◌++◌, Some, None, refl, sym, ap, ◌∙◌, arith}
-use Rattle.std.specs.List.{list_any}
-use Rattle.std.specs.declared.option.Option.{Option}
-use Rattle.law_order.proofs.ByNumber.{by_test}
-use Rattle.rh_rts.specs.declared.command.Cookie.{Cookie}
-use Rattle.rh_sig.specs.declared.named.Named.{Named}
-use Rattle.rh_sig.specs.declared.named.Named.TheVariants.{AckTo}
-use Rattle.rh_shell.specs.declared.due.Due.{Due}
-use Rattle.rh_shell.specs.declared.due.Origin.TheVariants.{Forwarded}
-use Rattle.rh_shell.specs.Shells.{one_if}
-use Rattle.rh_shell.specs.Waiting.{Waiting, Key, key_of, are_one, better, edge_of, merged, takes, with_due, pushed, to_forward, count, forwarded}
+use Rattle.law_order.proofs.Vocabulary.{◌≡◌, ℕ, ◌+◌, ◌≤◌, nat_lt, Bool, true, false, true≢false, List, [], ◌∷◌, ◌++◌, Some, None, refl, sym, ap, ◌∙◌, arith, list_any, Option}
+use Rattle.law_moves.proofs.Vocabulary.{by_test, Cookie, Named, AckTo, Due, Forwarded, one_if, Waiting, Key, key_of, are_one, better, edge_of, merged, takes, with_due, pushed, to_forward, count, forwarded}
 
 -- a test that no acknowledgement with a destination passes
 abbrev pub IsNoAck : (Named → Bool) → Type 0

@@ -1,14 +1,6 @@
 -- more messages, and a front of them
-use Rattle.std.proofs.Common.{◌≡◌, suc, ◌+◌, ◌≤◌, Bool, true, false, if◌then◌else◌, List, [], ◌∷◌, ◌++◌, inl, inr, refl, ap, arith}
-use Rattle.std.specs.List.{AllByRecursion}
-use Rattle.rh_sig.specs.declared.named.Named.{Named}
-use Rattle.rh_line.specs.declared.leg.Leg.{Leg}
-use Rattle.rh_line.specs.declared.leg.LegKind.{LegKind}
-use Rattle.rh_shell.specs.Rules.{Message, Text, Pdu, Packet}
-use Rattle.rh_shell.specs.Shells.{same_leg, is_of}
-use Rattle.law_moves.specs.Moves.{OnLeg}
-use Rattle.law_moves.specs.Wires.{of_leg}
-use Rattle.law_moves.specs.Passages.Passing.{pdu_bytes, Has, count_of, of_kind, HasOne}
+use Rattle.law_order.proofs.Vocabulary.{◌≡◌, suc, ◌+◌, ◌≤◌, Bool, true, false, if◌then◌else◌, List, [], ◌∷◌, ◌++◌, inl, inr, refl, ap, arith, AllByRecursion}
+use Rattle.law_moves.proofs.Vocabulary.{Named, Leg, LegKind, Message, Text, Pdu, Packet, same_leg, is_of, OnLeg, of_leg, pdu_bytes, Has, count_of, of_kind, HasOne}
 
 pub all_append : {X : Type 0} (P : X → Type 0) (a b : List X) → AllByRecursion P a
     → AllByRecursion P b → AllByRecursion P (a ++ b)

@@ -1,15 +1,6 @@
 -- what is read of messages that may go on a pipe is fine
-use Rattle.std.proofs.Common.{List, [], ◌∷◌, ◌++◌, sym, subst}
-use Rattle.std.specs.Prelude.{Some, None}
-use Rattle.std.specs.List.{AllByRecursion}
-use Rattle.std.specs.declared.option.Option.{Option}
-use mathlib.Core.List.{IsPrefix}
-use Rattle.law_order.proofs.ByNumber.{by_test}
-use Rattle.rh_sig.specs.declared.name.Pipe.{Pipe}
-use Rattle.rh_shell.specs.Hearing.{is_ping}
-use Rattle.rh_shell.specs.Rules.{Message, Text, Pdu, Packet}
-use Rattle.law_moves.specs.Legible.Legible.{IsFineMessage, MayGoOn}
-use Rattle.law_moves.specs.ReadBack.Reading.{all_read_of, read_of}
+use Rattle.law_order.proofs.Vocabulary.{List, [], ◌∷◌, ◌++◌, sym, subst, Some, None, AllByRecursion, Option, IsPrefix}
+use Rattle.law_moves.proofs.Vocabulary.{by_test, Pipe, is_ping, Message, Text, Pdu, Packet, IsFineMessage, MayGoOn, all_read_of, read_of}
 
 -- ---- what holds of each element of a list
 

@@ -1,18 +1,7 @@
 -- a frame is taken at its end, and no front of it is
-use Rattle.std.proofs.Common.{◌≡◌, ◌<◌, ◌≤◌, ℕ, Bool, true, false, if◌then◌else◌, nat_lt, List, [], ◌∷◌, ◌++◌, length, take, arith, refl, sym, ap, ◌∙◌}
-use Rattle.std.specs.Prelude.{None}
-use Rattle.std.specs.declared.option.Option.{Option}
-use Rattle.std.proofs.lemmas.Bool.Decides.{nat_tests}
-use Rattle.std.proofs.lemmas.List.{append_assoc, length-append, take-append-le}
-use Rattle.law_order.proofs.ByNumber.{by_test}
-use Rattle.rh_pdu.specs.Frames.{IsFrame}
-use Rattle.rh_pdu.specs.Header.{frag_of, head_fault}
-use Rattle.rh_pdu.proofs.Headers.{frag_same, head_same}
-use Rattle.rh_sig.specs.declared.name.Pipe.{Pipe}
+use Rattle.law_order.proofs.Vocabulary.{◌≡◌, ◌<◌, ◌≤◌, ℕ, Bool, true, false, if◌then◌else◌, nat_lt, List, [], ◌∷◌, ◌++◌, length, take, arith, refl, sym, ap, ◌∙◌, None, Option, nat_tests, append_assoc, length-append, take-append-le}
 use Rattle.rh_shell.specs.declared.stage.Stage.TheVariants as stage
-use Rattle.rh_shell.specs.Rules.{Message}
-use Rattle.law_moves.specs.Carrying.{message_in}
-use Rattle.law_moves.specs.ReadBack.Reading.{Reading, frame_read, read_by, reading}
+use Rattle.law_moves.proofs.Vocabulary.{by_test, frag_same, head_same, IsFrame, frag_of, head_fault, Pipe, Message, message_in, Reading, frame_read, read_by, reading}
 use Rattle.law_moves.proofs.ReadBack.Taking.{TakesAt}
 
 -- with a header that breaks no rule

@@ -1,17 +1,7 @@
 -- no message is read in a head
-use Rattle.std.proofs.Common.{◌≡◌, List, ℕ, [], ◌++◌, sym, subst}
-use Rattle.std.specs.declared.option.Option.{Option}
-use Rattle.std.proofs.lemmas.List.{append-nil}
-use mathlib.Core.List.{IsPrefix}
-use Rattle.law_order.proofs.ItemLists.{nil_front}
-use Rattle.rh_pdu.specs.Frames.{IsFrame}
-use Rattle.rh_sig.specs.declared.name.Pipe.{Pipe}
-use Rattle.rh_shell.specs.declared.stage.Stage.{Stage}
+use Rattle.law_order.proofs.Vocabulary.{◌≡◌, List, ℕ, [], ◌++◌, sym, subst, Option, append-nil, IsPrefix}
 use Rattle.rh_shell.specs.declared.stage.Stage.TheVariants as stage
-use Rattle.law_moves.specs.Carrying.{message_in}
-use Rattle.rh_shell.specs.Intakes.{is_whole_head}
-use Rattle.rh_shell.specs.NearEnds.{first_stage}
-use Rattle.law_moves.specs.ReadBack.Reading.{IsWholeText, ReadsNothing, messages_from, reading}
+use Rattle.law_moves.proofs.Vocabulary.{nil_front, IsFrame, Pipe, Stage, is_whole_head, first_stage, message_in, IsWholeText, ReadsNothing, messages_from, reading}
 use Rattle.law_moves.proofs.ReadBack.Taking.{next_read}
 use Rattle.law_moves.proofs.ReadBack.Frames.{frame_taken}
 use Rattle.law_moves.proofs.ReadBack.WholeTexts.{head_taken}

@@ -1,14 +1,6 @@
 -- lines with no CR are whole behind their blank line (RFC 9112 section 2.1)
-use Rattle.std.proofs.Common.{◌≡◌, ℕ, ◌-◌, ◌≤◌, ◌<◌, ◌||◌, List, ◌∷◌, take, drop, length, nat_le, Bool, true, false, arith, sym, ap, ◌∙◌, refl, subst}
-use Rattle.std.proofs.lemmas.List.{length-drop, length-take-le, take_all}
-use Rattle.std.proofs.lemmas.Bool.Decides.{nat_tests}
-use Rattle.std.proofs.lemmas.Slice.Eq.{bytes_eq-Decides}
-use Rattle.rh_http.specs.Ends.{blank_line, EndsAt}
-use Rattle.rh_http.specs.Texts.{head_of}
-use Rattle.rh_http.proofs.EndLemmas.{in_all}
-use Rattle.rh_http.proofs.Lines.{ArePlain, blank_last, blank_there}
-use Rattle.rh_shell.specs.Intakes.{ends_head, is_whole_head}
-use Rattle.law_moves.specs.ReadBack.Reading.{IsWholeText}
+use Rattle.law_order.proofs.Vocabulary.{◌≡◌, ℕ, ◌-◌, ◌≤◌, ◌<◌, ◌||◌, List, ◌∷◌, take, drop, length, nat_le, Bool, true, false, arith, sym, ap, ◌∙◌, refl, subst, length-drop, length-take-le, take_all, nat_tests, bytes_eq-Decides}
+use Rattle.law_moves.proofs.Vocabulary.{in_all, ArePlain, blank_last, blank_there, blank_line, EndsAt, head_of, ends_head, is_whole_head, IsWholeText}
 
 -- the test tells that a blank line is at the end
 tested : (x : List ℕ) → ends_head x ≡ true → EndsAt x (length x)

@@ -1,6 +1,5 @@
 -- a front of two texts, one behind the other
-use Rattle.std.proofs.Common.{◌≡◌, ◌⊎◌, ℕ, List, [], ◌∷◌, ◌++◌, get_or, drop, inl, inr, refl, ap}
-use mathlib.Core.List.{IsPrefix}
+use Rattle.law_order.proofs.Vocabulary.{◌≡◌, ◌⊎◌, ℕ, List, [], ◌∷◌, ◌++◌, get_or, drop, inl, inr, refl, ap, IsPrefix}
 
 -- the front ends within the first, or reaches into the second
 abbrev pub Parted : List ℕ → List ℕ → List ℕ → Type 0

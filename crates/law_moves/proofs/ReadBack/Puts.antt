@@ -1,22 +1,11 @@
 -- what was put on a leg is read as what was put
-use Rattle.std.proofs.Common.{◌≡◌, ◌⊎◌, ℕ, Bool, List, [], ◌∷◌, ◌++◌, refl, sym, ap, ◌∙◌, subst, inl, inr}
-use Rattle.std.specs.List.{AllByRecursion}
-use Rattle.std.specs.declared.option.Option.{Option}
-use Rattle.std.proofs.lemmas.List.{append-nil}
-use mathlib.Core.List.{IsPrefix}
-use Rattle.law_order.proofs.ItemLists.{nil_front}
-use Rattle.rh_sig.specs.declared.name.Pipe.{Pipe}
-use Rattle.rh_shell.specs.declared.stage.Stage.{Stage}
+use Rattle.law_order.proofs.Vocabulary.{◌≡◌, ◌⊎◌, ℕ, Bool, List, [], ◌∷◌, ◌++◌, refl, sym, ap, ◌∙◌, subst, inl, inr, AllByRecursion, Option, append-nil, IsPrefix}
 use Rattle.rh_shell.specs.declared.stage.Stage.TheVariants as stage
-use Rattle.law_moves.specs.Carrying.{spelled}
-use Rattle.rh_shell.specs.Intakes.{is_whole_head, is_whole_greeting}
-use Rattle.rh_shell.specs.NearEnds.{first_stage}
-use Rattle.rh_shell.specs.Rules.{Message, Text, Pdu, Packet, spell}
-use Rattle.law_moves.specs.Legible.Legible.{IsTaken, ReadsBack, taken_of}
-use Rattle.law_moves.specs.ReadBack.Reading.{AreNoTexts, BeginsBy, BeginsWith, IsWholeText, ReadsNothing, all_read_of, messages_from, reading}
+use Rattle.law_moves.proofs.Vocabulary.{nil_front, Pipe, Stage, is_whole_head, is_whole_greeting, first_stage, Message, Text, Pdu, Packet, spell, spelled, ReadsBack, taken_of, AreNoTexts, BeginsBy, BeginsWith, IsWholeText, ReadsNothing, all_read_of, messages_from, reading}
 use Rattle.law_moves.proofs.ReadBack.Taking.{TakesAt, all_read, next_read}
 use Rattle.law_moves.proofs.ReadBack.Frames.{frame_taken}
 use Rattle.law_moves.proofs.ReadBack.WholeTexts.{head_taken, greeting_taken}
+use Rattle.law_moves.specs.Legible.Legible.{IsTaken}
 
 -- no bytes came of none
 pub read_of_none : (pipe : Option Pipe) (s : Stage) (heard : List ℕ) → IsPrefix heard []

@@ -1,25 +1,7 @@
 -- what was put on a leg reads well there
-use Rattle.std.proofs.Common.{◌≡◌, ◌⊎◌, ◌<◌, ℕ, Bool, true, false, if◌then◌else◌, List, [], ◌∷◌, ◌++◌, length, inl, inr, arith, refl, sym, ap, ◌∙◌, subst}
-use Rattle.std.specs.Prelude.{Some, None}
-use Rattle.std.specs.List.{AllByRecursion}
-use Rattle.std.specs.declared.option.Option.{Option}
-use Rattle.std.proofs.lemmas.List.{append_assoc, append-nil, length-append}
-use mathlib.Core.List.{IsPrefix}
-use Rattle.law_order.proofs.ItemLists.{nil_front}
-use Rattle.rh_pdu.specs.declared.fault.HeadFault.{HeadFault}
-use Rattle.rh_pdu.specs.Frames.{IsFrame}
-use Rattle.rh_pdu.specs.Header.{head_fault}
-use Rattle.rh_sig.specs.declared.name.Pipe.{Pipe}
-use Rattle.rh_shell.specs.declared.stage.Stage.{Stage}
+use Rattle.law_order.proofs.Vocabulary.{◌≡◌, ◌⊎◌, ◌<◌, ℕ, Bool, true, false, if◌then◌else◌, List, [], ◌∷◌, ◌++◌, length, inl, inr, arith, refl, sym, ap, ◌∙◌, subst, Some, None, AllByRecursion, Option, append_assoc, append-nil, length-append, IsPrefix}
 use Rattle.rh_shell.specs.declared.stage.Stage.TheVariants as stage
-use Rattle.law_moves.specs.Carrying.{message_in, spelled}
-use Rattle.rh_shell.specs.Hearing.{greeting}
-use Rattle.rh_shell.specs.Intakes.{is_whole_head, is_whole_greeting}
-use Rattle.rh_shell.specs.NearEnds.{first_stage}
-use Rattle.rh_shell.specs.Rules.{Message, Text, Pdu, Packet, spell}
-use Rattle.law_moves.specs.Legible.Legible.{ReadsBack}
-use Rattle.law_moves.specs.ReadBack.Reading.{AreNoTexts, Begins, BeginsBy, BeginsWith, IsWholeText, Reading, ReadsNothing, frame_read, read_by, read_byte, reading, reading_after, text_read}
-use Rattle.law_moves.specs.ReadBack.Well.{Answers, ByteIsWell, FrameIsWell, HeaderIsWell, IsWellText, ReadsWell, ReadsWellFrom, TextIsWell}
+use Rattle.law_moves.proofs.Vocabulary.{nil_front, HeadFault, IsFrame, head_fault, Pipe, Stage, greeting, is_whole_head, is_whole_greeting, first_stage, Message, Text, Pdu, Packet, spell, message_in, spelled, ReadsBack, AreNoTexts, Begins, BeginsBy, BeginsWith, IsWholeText, Reading, ReadsNothing, frame_read, read_by, read_byte, reading, reading_after, text_read, Answers, ByteIsWell, FrameIsWell, HeaderIsWell, IsWellText, ReadsWell, ReadsWellFrom, TextIsWell}
 use Rattle.law_moves.proofs.ReadBack.Parting.{Parted, parted}
 use Rattle.law_moves.proofs.ReadBack.Taking.{TakesAt}
 use Rattle.law_moves.proofs.ReadBack.Frames.{frame_taken}
@@ -39,11 +21,6 @@ module _ (well_of : Answers) (pipe : Option Pipe) where
       → ReadsWellFrom well_of pipe (reading_after pipe r a) b
   well_behind r [] b all = all
   well_behind r (x ∷ a) b all = well_behind (read_byte pipe r x).0 a b all.1
-
-  after_then : (r : Reading) (a b : List ℕ)
-      → reading_after pipe r (a ++ b) ≡ reading_after pipe (reading_after pipe r a) b
-  after_then r [] b = refl
-  after_then r (x ∷ a) b = after_then (read_byte pipe r x).0 a b
 
   -- ---- a byte that makes nothing whole
 

@@ -1,11 +1,6 @@
 -- what order sees of messages that came
-use Rattle.std.proofs.Common.{◌≡◌, List, [], ◌∷◌, ◌++◌, refl, sym, ap, ◌∙◌}
-use mathlib.Core.List.{IsPrefix}
-use Rattle.law_order.proofs.ByNumber.{seen-append}
-use Rattle.law_order.specs.Items.{Item}
-use Rattle.law_order.specs.Logs.{seen}
-use Rattle.rh_shell.specs.Rules.{Message}
-use Rattle.law_moves.specs.ReadBack.Reading.{all_read_of, read_of}
+use Rattle.law_order.proofs.Vocabulary.{◌≡◌, List, [], ◌∷◌, ◌++◌, refl, sym, ap, ◌∙◌, IsPrefix, Item, seen}
+use Rattle.law_moves.proofs.Vocabulary.{seen-append, Message, all_read_of, read_of}
 
 -- of a front of messages a front is seen
 pub seen_front : (view : Message → List Item) (a b : List Message) → IsPrefix a b

@@ -1,14 +1,7 @@
 -- bytes that are taken whole, at their last byte and no sooner
-use Rattle.std.proofs.Common.{◌≡◌, ◌<◌, ℕ, List, [], ◌∷◌, ◌++◌, length, inl, inr, arith, refl, sym, ap, ◌∙◌, subst}
-use Rattle.std.specs.declared.option.Option.{Option}
-use Rattle.std.proofs.lemmas.List.{append_assoc, length-append}
-use mathlib.Core.List.{IsPrefix}
-use Rattle.rh_sig.specs.declared.name.Pipe.{Pipe}
-use Rattle.rh_shell.specs.declared.stage.Stage.{Stage}
+use Rattle.law_order.proofs.Vocabulary.{◌≡◌, ◌<◌, ℕ, List, [], ◌∷◌, ◌++◌, length, inl, inr, arith, refl, sym, ap, ◌∙◌, subst, Option, append_assoc, length-append, IsPrefix}
 use Rattle.rh_shell.specs.declared.stage.Stage.TheVariants as stage
-use Rattle.rh_shell.specs.Rules.{Message}
-use Rattle.law_order.proofs.Prefixes.{prefix_behind}
-use Rattle.law_moves.specs.ReadBack.Reading.{Reading, messages_from, read_by, read_byte, reading, reading_after}
+use Rattle.law_moves.proofs.Vocabulary.{prefix_behind, Pipe, Stage, Message, Reading, messages_from, read_by, read_byte, reading, reading_after}
 use Rattle.law_moves.proofs.ReadBack.Parting.{Parted, parted}
 
 -- ---- one after the other
@@ -25,7 +18,7 @@ read_behind pipe r (x ∷ a) b =
     (messages_from pipe (reading_after pipe next a) b))
 
 -- a byte that makes nothing whole, and one that does
-next_byte : (pipe : Option Pipe) (s : Stage) (held : List ℕ) (x : ℕ) (next : Reading)
+pub next_byte : (pipe : Option Pipe) (s : Stage) (held : List ℕ) (x : ℕ) (next : Reading)
     (out : List Message) (bytes : List ℕ)
     → read_by pipe s (held ++ x ∷ []) ≡ (next, out)
     → messages_from pipe (reading s held) (x ∷ bytes) ≡ out ++ messages_from pipe next bytes

@@ -1,12 +1,7 @@
 -- a whole text is passed over at its end
-use Rattle.std.proofs.Common.{◌≡◌, ◌<◌, ℕ, Bool, true, false, List, [], ◌∷◌, ◌++◌, length, take, arith, refl, sym, ap, ◌∙◌}
-use Rattle.std.specs.declared.option.Option.{Option}
-use Rattle.std.proofs.lemmas.List.{append_assoc, length-append, take_at}
-use Rattle.rh_sig.specs.declared.name.Pipe.{Pipe}
-use Rattle.rh_shell.specs.declared.stage.Stage.{Stage}
+use Rattle.law_order.proofs.Vocabulary.{◌≡◌, ◌<◌, ℕ, Bool, true, false, List, [], ◌∷◌, ◌++◌, length, take, arith, refl, sym, ap, ◌∙◌, Option, append_assoc, length-append, take_at}
 use Rattle.rh_shell.specs.declared.stage.Stage.TheVariants as stage
-use Rattle.rh_shell.specs.Intakes.{ends_head, is_whole_head, is_whole_greeting}
-use Rattle.law_moves.specs.ReadBack.Reading.{IsWholeText, read_by, text_read}
+use Rattle.law_moves.proofs.Vocabulary.{Pipe, Stage, ends_head, is_whole_head, is_whole_greeting, IsWholeText, read_by, text_read}
 use Rattle.law_moves.proofs.ReadBack.Taking.{TakesAt}
 
 -- at a stage where a text comes, by the test of its end; no bytes are no whole text

@@ -1,22 +1,9 @@
 -- the texts that are written are lines with no CR, whatever their numbers
-use Rattle.std.proofs.Common.{◌≡◌, ℕ, ◌+◌, ◌≤◌, ◌<◌, ◌%◌, ◌/◌, ◌==◌, zero, suc, Bool, true, false, List, [], ◌∷◌, ◌++◌, length, map, codes, refl, ap, subst, arith, lit<, lit≤}
-use Rattle.std.specs.Fmt.{decimal, digit_glyph, digits, digits_onto}
-use Rattle.std.specs.List.{list_all}
-use Rattle.std.proofs.lemmas.Bool.Decides.{nat_tests}
-use Rattle.std.proofs.lemmas.List.{length-append}
-use Rattle.law_order.proofs.ByNumber.{by_test}
-use Rattle.rh_http.specs.declared.config.ClientConfig.{ClientConfig}
-use Rattle.rh_http.specs.declared.refusal.Refusal.{Refusal}
-use Rattle.rh_http.specs.declared.refusal.Refusal.TheVariants.{Bad, Missing, Unavailable}
-use Rattle.rh_http.specs.Hosts.{IsHost}
-use Rattle.rh_http.specs.Requests.{host_text, method_of}
-use Rattle.rh_http.specs.Texts.{crlf, field_line, head_of, refusal_line, refusal_text, request_fields, request_line, request_lines, request_text, response_text, status_line, target_of}
-use Rattle.rh_http.proofs.Lines.{ArePlain}
+use Rattle.law_order.proofs.Vocabulary.{◌≡◌, ℕ, ◌+◌, ◌≤◌, ◌<◌, ◌%◌, ◌/◌, ◌==◌, zero, suc, Bool, true, false, List, [], ◌∷◌, ◌++◌, length, map, codes, refl, ap, subst, arith, lit<, lit≤, decimal, digit_glyph, digits, digits_onto, list_all, nat_tests, length-append}
 use Rattle.rh_http.proofs.Printable.{both_pass, host_visible, is_printable, is_visible, printable}
 use Rattle.rh_http.proofs.TextLemmas.{method_short, request_parts}
-use Rattle.rh_http.proofs.Written.{plain}
-use Rattle.rh_shell.specs.Intakes.{is_whole_head}
-use Rattle.law_moves.specs.ReadBack.Reading.{IsWholeText}
+use Rattle.rh_http.specs.Hosts.{IsHost}
+use Rattle.law_moves.proofs.Vocabulary.{by_test, ArePlain, plain, ClientConfig, Refusal, Bad, Missing, Unavailable, host_text, method_of, crlf, field_line, head_of, refusal_line, refusal_text, request_fields, request_line, request_lines, request_text, response_text, status_line, target_of, is_whole_head, IsWholeText}
 use Rattle.law_moves.proofs.ReadBack.Lines.{whole_lines}
 
 -- ---- numbers

@@ -11,12 +11,6 @@ ghost use Rattle.law_moves.specs.Legible.Legible.{IsFineMessage, MayGoOn, ReadsB
 ghost use Rattle.law_moves.specs.ReadBack.Reading.{Begins, all_read_of, begin, messages_from};
 ghost use Rattle.law_moves.specs.ReadBack.Reading.{messages_read, reading_after};
 
-/// More bytes don't change what was read.
-pub fn a_front_is_read_first()
-    ensures { (pipe : Option Pipe) (a b : List ℕ) → IsPrefix a b
-        → IsPrefix (messages_read pipe a) (messages_read pipe b) }
-{}
-
 /// What is read of the bytes that came is a front of what was put, where that begins as the leg's
 /// end reads it and each message reads back.
 pub fn what_was_put_is_read()

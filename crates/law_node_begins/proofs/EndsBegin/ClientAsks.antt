@@ -1,43 +1,18 @@
 -- each text that a client puts is the request for the channel of its leg
-use Rattle.std.proofs.Common.{ℕ, Bool, true, false, ◌&&◌, if◌then◌else◌, List, Some, None, inl, inr, refl, subst}
-use Rattle.std.specs.List.{AllByRecursion}
-use Rattle.std.specs.Prelude.{IfSome}
-use Rattle.std.specs.declared.option.Option.{Option}
-use Rattle.rh_window.specs.declared.recv_window.Ack.{Ack}
-use Rattle.rh_keep.specs.Meters.{may_put, fits}
-use Rattle.law_order.proofs.ByNumber.{by_test}
-use Rattle.rh_sig.specs.declared.lengths.TheConstants.{CONN_B1_LEN, IN_R1_A1_LEN, IN_R1_A5_LEN, OUT_R1_A7_LEN, END_A1_LEN, ACK_TO_LEN, PING_LEN}
-use Rattle.rh_http.specs.declared.config.ClientConfig.{ClientConfig}
-use Rattle.rh_line.specs.Queue.{front_length}
-use Rattle.rh_line.specs.declared.leg.Leg.{Leg}
-use Rattle.rh_line.specs.declared.leg.LegKind.{LegKind}
-use Rattle.rh_line.specs.declared.leg.LegKind.TheVariants.{ClientOut, OutServer, ClientIn, InServer}
-use Rattle.rh_line.specs.declared.which.Which.{Which}
-use Rattle.rh_line.specs.declared.which.Which.TheVariants.{Current, Next}
-use Rattle.rh_line.proofs.Queues.{each_push}
-use Rattle.rh_shell.specs.Rules.{Message}
-use Rattle.rh_shell.specs.Shells.{same_leg}
-use Rattle.rh_client.specs.declared.channels.Opening.{Opening}
-use Rattle.rh_client.specs.declared.channels.Opening.TheVariants.{NotUp, Request, First, Second, Put}
-use Rattle.rh_client.specs.declared.replacement.Replacement.{Replacement}
-use Rattle.rh_client.specs.declared.replacement.Replacement.TheVariants.{NoneUnderWay, In, Out}
+use Rattle.law_order.proofs.Vocabulary.{ℕ, Bool, true, false, ◌&&◌, if◌then◌else◌, List, Some, None, inl, inr, refl, subst, AllByRecursion, IfSome, Option}
+use Rattle.rh_client.specs.Putting.{pdu_by}
 use Rattle.rh_client.specs.declared.replacement.InStage.TheVariants as in_stage
 use Rattle.rh_client.specs.declared.replacement.OutStage.TheVariants as out_stage
-use Rattle.rh_client.specs.declared.state.ClientRole.{ClientRole}
-use Rattle.rh_client.specs.Acknowledging.{ack_due}
-use Rattle.rh_client.specs.Client.{rules, acts}
-use Rattle.rh_client.specs.State.{is_writing, is_in_successor, is_current, is_out_successor}
 use Rattle.rh_client.specs.Putting as putting
-use Rattle.rh_client.specs.Putting.{Pick, or_else, put_in_r1_a5, put_out_r1_a7, put_by, put_conn_b1, put_in_r1_a1, put_current, put_out_successor, put_out, due_by, put_due, ack_by, put_ack_of, put_ack, lets_pdu, pdu_by, put_pdu, is_end_due, put_end, put_ping, put_successor_ping, put_next, put_writing, put_in_successor, put_in, settled_pick}
-use Rattle.law_moves.specs.Moves.{EndMove}
-use Rattle.law_moves.specs.Wires.{of_leg}
-use Rattle.law_role_client.specs.Order.{AreAllowedMoves, client_moved, client_started}
-use Rattle.law_node_streams.proofs.Streams.Ends.{leg_is}
-use Rattle.law_node_begins.specs.EndsBegin.{Asks}
+use Rattle.law_moves.proofs.Vocabulary.{Ack, may_put, fits, by_test, CONN_B1_LEN, IN_R1_A1_LEN, IN_R1_A5_LEN, OUT_R1_A7_LEN, END_A1_LEN, ACK_TO_LEN, PING_LEN, ClientConfig, each_push, front_length, Leg, LegKind, ClientOut, OutServer, ClientIn, InServer, Which, Current, Next, Message, same_leg, EndMove, of_leg}
+use Rattle.law_moves.proofs.Lemmas.{leg_is}
+use Rattle.law_role_client.proofs.Vocabulary.{Opening, NotUp, Request, First, Second, Put, Replacement, NoneUnderWay, In, Out, ClientRole, ack_due, rules, acts, is_writing, is_in_successor, is_current, is_out_successor, Pick, or_else, put_by, put_conn_b1, put_in_r1_a1, put_current, put_out_successor, put_out, due_by, put_due, ack_by, put_ack_of, put_ack, lets_pdu, put_pdu, is_end_due, put_end, put_ping, put_successor_ping, put_next, put_writing, put_in_successor, put_in}
+use Rattle.law_role_client.proofs.Vocabulary.{settled_pick, AreAllowedMoves, client_moved, client_started}
 use Rattle.law_node_begins.proofs.EndsBegin.Stands.{Logs, grown}
 use Rattle.law_node_begins.proofs.EndsBegin.Moves.{StepsKeep, moves_keep}
 use Rattle.law_node_begins.proofs.EndsBegin.ClientPuts.{AreFirst}
 use Rattle.law_node_begins.proofs.EndsBegin.ClientMoves.{Any, AnyUp, Holds, LegCame, says_kind, starts, steps}
+use Rattle.law_node_begins.specs.EndsBegin.{Asks}
 
 -- ---- what is picked
 

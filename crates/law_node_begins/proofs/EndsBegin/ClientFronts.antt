@@ -1,43 +1,16 @@
 -- what a client's state says of what it put first: each step that puts nothing keeps it
-use Rattle.std.proofs.Common.{◌≡◌, ℕ, ◌+◌, ◌==◌, Bool, true, false, not, ◌&&◌, ◌||◌, nat_lt, IsTrue, List, [], Some, Ok, Err, rules, refl, sym, subst, ap, ◌∙◌}
-use Rattle.std.specs.declared.result.Result.{Result}
-use Rattle.law_order.proofs.ByNumber.{by_test}
-use Rattle.rh_rts.specs.declared.command.Cookie.{Cookie}
-use Rattle.rh_sig.specs.declared.named.Named.{Named}
+use Rattle.law_order.proofs.Vocabulary.{◌≡◌, ℕ, ◌+◌, ◌==◌, Bool, true, false, not, ◌&&◌, ◌||◌, nat_lt, IsTrue, List, [], Some, Ok, Err, rules, refl, sym, subst, ap, ◌∙◌, Result}
 use Rattle.rh_sig.specs.declared.named.Named.TheVariants as named
-use Rattle.rh_http.specs.declared.config.ClientConfig.{ClientConfig}
-use Rattle.rh_line.specs.Lines.{after_finish, after_take}
-use Rattle.rh_line.specs.declared.leg.LegKind.{LegKind}
-use Rattle.rh_line.specs.declared.leg.LegKind.TheVariants.{ClientOut, OutServer, ClientIn, InServer}
-use Rattle.rh_shell.specs.Rules.{Message}
-use Rattle.rh_shell.specs.declared.answers.Count.{Count}
 use Rattle.rh_shell.specs.declared.answers.Phase.TheVariants as phase
-use Rattle.rh_shell.specs.declared.end_role.RecycleRefused.{RecycleRefused}
-use Rattle.rh_shell.specs.declared.end_role.RecycleRefused.TheVariants.{Last}
-use Rattle.rh_client.specs.declared.channels.Opening.{Opening}
-use Rattle.rh_client.specs.declared.channels.Opening.TheVariants.{NotUp, Request, First, Second, Put}
-use Rattle.rh_client.specs.declared.channels.TheConstants.{LAST_NUMBER}
-use Rattle.rh_client.specs.declared.replacement.Replacement.{Replacement}
-use Rattle.rh_client.specs.declared.replacement.Replacement.TheVariants.{NoneUnderWay, In, Out}
-use Rattle.rh_client.specs.declared.replacement.InStage.{InStage}
 use Rattle.rh_client.specs.declared.replacement.InStage.TheVariants as in_stage
-use Rattle.rh_client.specs.declared.replacement.OutStage.{OutStage}
 use Rattle.rh_client.specs.declared.replacement.OutStage.TheVariants as out_stage
-use Rattle.rh_client.specs.declared.replacement.Waits.{Waits}
 use Rattle.rh_client.specs.declared.replacement.Waits.TheVariants as waits
-use Rattle.rh_client.specs.declared.state.ClientRole.{ClientRole}
-use Rattle.rh_client.specs.Channels.{is_up, is_put, is_asked, is_named, unopened_in, unopened_out, in_up, out_up, told_in}
-use Rattle.rh_client.specs.Replacements.{is_in, is_out, has_out, with_in, with_out}
-use Rattle.rh_client.specs.State.{Done, ci, co, taken, unexpected, is_open, is_writing, is_current, is_out_successor, is_over, begin_in, begin_out, after_in, after_out}
-use Rattle.rh_client.specs.Opening.{wants_by, up_by, with_next, on_conn_a3, on_conn_c2}
-use Rattle.rh_client.specs.Acknowledging.{on_pdu, on_ack_to, ack_named}
-use Rattle.rh_client.specs.InReplacement.{on_in_r1_a4, on_in_r2_a4, answered, answer_by, recycle_by, wish_by, wished, wants_successor}
-use Rattle.rh_client.specs.OutReplacement.{succeeded, ended_or, pass_by, passed, a2_by, a6_by, a10_by, on_out_r1_a2, on_out_r1_a6}
-use Rattle.rh_client.specs.Ending.{give, take, drawn_by, on_end_b2}
-use Rattle.rh_client.specs.Time.{ping_by}
-use Rattle.rh_client.specs.Putting.{settled_or_wished}
 use Rattle.rh_client.specs.Client as client
-use Rattle.rh_client.specs.Client.{on_packet, packet_by}
+use Rattle.law_moves.proofs.Vocabulary.{by_test, Cookie, Named, ClientConfig, after_finish, after_take, LegKind, ClientOut, OutServer, ClientIn, InServer, Message, Count, RecycleRefused, Last}
+use Rattle.law_role_client.proofs.Vocabulary.{Opening, NotUp, Request, First, Second, Put, LAST_NUMBER, Replacement, NoneUnderWay, In, Out, InStage, Waits, ClientRole, is_up, is_put, is_asked, is_named, unopened_in, unopened_out, in_up, out_up, told_in, is_in, is_out, has_out, with_in, with_out, Done, ci, co, taken, unexpected, is_open, is_writing, is_current, is_out_successor, is_over, begin_in, begin_out, after_in, after_out, wants_by, up_by, with_next, on_conn_a3}
+use Rattle.law_role_client.proofs.Vocabulary.{on_conn_c2, on_pdu, on_ack_to, ack_named, on_in_r1_a4, on_in_r2_a4, answered, answer_by, recycle_by, wish_by, wished, wants_successor, succeeded, ended_or, pass_by, passed, a2_by, a6_by, a10_by, on_out_r1_a2, on_out_r1_a6, give, take, drawn_by, on_end_b2, ping_by, settled_or_wished, on_packet, packet_by}
+use Rattle.law_role_client.proofs.Receiving.Rows.{asked_up}
+use Rattle.law_role_client.proofs.Receiving.Replaced.{is_answered as out_answered_by}
 use Rattle.law_node_begins.proofs.EndsBegin.Stands.{Logs}
 use Rattle.law_node_begins.proofs.EndsBegin.Fronts.{Channel, channel, Front, IsFront, IsLast, next_begins, hands_over, now_rises, next_rises, next_answers}
 
@@ -65,21 +38,10 @@ abbrev is_answered_in : InStage → Bool
 is_answered_in in_stage.Asked = false
 is_answered_in in_stage.Answered = true
 
-abbrev is_answered_out : OutStage → Bool
-is_answered_out out_stage.Asked = false
-is_answered_out out_stage.Answered = true
-is_answered_out out_stage.Switched = true
-is_answered_out out_stage.Finished = true
-
 abbrev in_answered_by : Replacement → Bool
 in_answered_by NoneUnderWay = false
 in_answered_by (In stage out_waits) = is_answered_in stage
 in_answered_by (Out stage waiting) = false
-
-abbrev out_answered_by : Replacement → Bool
-out_answered_by NoneUnderWay = false
-out_answered_by (In stage out_waits) = false
-out_answered_by (Out stage waiting) = is_answered_out stage
 
 abbrev pub flags : Replacement → Flags
 flags r = record {
@@ -152,13 +114,6 @@ put_up Request e = refl
 put_up First e = refl
 put_up Second e = refl
 put_up Put e = refl
-
-asked_up : (opening : Opening) → is_asked opening ≡ true → is_up opening ≡ true
-asked_up NotUp e = absurd (cc)
-asked_up Request e = refl
-asked_up First e = refl
-asked_up Second e = refl
-asked_up Put e = refl
 
 module _ (config : ClientConfig) (IsFirst : List ℕ → Type 0) (came : ℕ → Type 0) where
   abbrev pub Keeps : Logs → ClientRole → Type 0

@@ -1,33 +1,14 @@
 -- what a client put first, and which of its legs came up, whatever moves came
-use Rattle.std.proofs.Common.{◌≡◌, ℕ, true, false, List, [], Some, None, inl, arith, refl, subst}
-use Rattle.std.specs.List.{AllByRecursion}
-use Rattle.std.specs.declared.option.Option.{Option}
-use Rattle.rh_sig.specs.declared.name.Pipe.{Pipe}
-use Rattle.rh_sig.specs.declared.name.Pipe.TheVariants.{CiU, CoU}
-use Rattle.rh_http.specs.declared.config.ClientConfig.{ClientConfig}
-use Rattle.rh_http.specs.Texts.{in_request, out_request}
-use Rattle.rh_line.specs.declared.leg.Leg.{Leg}
-use Rattle.rh_line.specs.declared.leg.LegKind.{LegKind}
-use Rattle.rh_line.specs.declared.leg.LegKind.TheVariants.{ClientOut, OutServer, ClientIn, InServer}
-use Rattle.rh_shell.specs.Intakes.{is_whole_head}
-use Rattle.rh_shell.specs.Rules.{Message}
+use Rattle.law_order.proofs.Vocabulary.{◌≡◌, ℕ, true, false, List, [], Some, None, inl, arith, refl, subst, AllByRecursion, Option}
 use Rattle.rh_shell.specs.declared.stage.Stage.TheVariants as stage
-use Rattle.rh_shell.specs.NearEnds.{first_stage}
-use Rattle.rh_client.specs.declared.state.ClientRole.{ClientRole}
-use Rattle.rh_client.specs.State.{ci, co, first}
-use Rattle.rh_client.specs.Client.{rules, acts}
-use Rattle.law_moves.specs.Wires.{of_leg}
-use Rattle.law_moves.specs.Moves.{OnLeg, EndMove}
-use Rattle.law_moves.specs.ReadBack.Reading.{IsWholeText, Begins}
-use Rattle.law_moves.specs.ReadBack.Well.{Answers, IsWellText, TextIsWell}
-use Rattle.law_role_client.specs.Order.{client_started, client_moved, AreAllowedMoves}
-use Rattle.law_role_client.specs.Legible.{pipe_to, pipe_put}
-use Rattle.law_node_begins.specs.EndsBegin.{BeginsLegs, WritesOnUp, came_up}
+use Rattle.law_moves.proofs.Vocabulary.{Pipe, CiU, CoU, ClientConfig, in_request, out_request, Leg, LegKind, ClientOut, OutServer, ClientIn, InServer, is_whole_head, first_stage, of_leg, OnLeg, EndMove, IsWholeText, Begins, Answers, IsWellText, TextIsWell}
+use Rattle.law_role_client.proofs.Vocabulary.{ClientRole, ci, co, first, rules, acts, client_started, client_moved, AreAllowedMoves, pipe_to, pipe_put}
 use Rattle.law_node_begins.proofs.EndsBegin.Stands.{Logs, logs_of, begins, fine_well, none_well}
 use Rattle.law_node_begins.proofs.EndsBegin.Moves.{StepsKeep, moves_keep}
-use Rattle.law_node_begins.proofs.EndsBegin.Fronts.{channel, IsLast, each_told, all_came}
+use Rattle.law_node_begins.proofs.EndsBegin.Fronts.{channel, IsLast, each_told}
 use Rattle.law_node_begins.proofs.EndsBegin.ClientFronts.{fronts, Keeps, CameUp, up_first, up_keeps, packet_keeps, pdu_keeps, drawn_keeps, ping_keeps, give_keeps, take_keeps, recycle_keeps}
 use Rattle.law_node_begins.proofs.EndsBegin.ClientPuts.{AreFirst, puts}
+use Rattle.law_node_begins.specs.EndsBegin.{BeginsLegs, came_up}
 
 -- the steps of a client keep what stands on its legs
 module _ (config : ClientConfig) (IsFirst : List ℕ → Type 0) (came : ℕ → Type 0)
@@ -179,20 +160,3 @@ module _ (well : Answers) (heads : (pipe : Option Pipe) (text : List ℕ)
 
 abbrev pub Any : List ℕ → Type 0
 Any text = Unit {0}
-
-pub client_writes : (config : ClientConfig) (all : List EndMove) → AreAllowedMoves config all
-    → WritesOnUp all (client_moved config all)
-client_writes config all allowed =
-    let p = (client_moved config all).passage in
-    let s = p.role in
-    let came : ℕ → Type 0 = λ n. came_up (ci n) all ≡ true in
-    let on : ℕ → List Message = λ n. of_leg (ci n) p.put in
-    let first : AreFirst config Any = record { ins = tt; outs = λ len. tt } in
-    let k = client_keeps config Any came first all allowed (λ n e. e) in
-    record {
-      put = λ n.
-          (each_told Any came (fronts s).ins on (up_first s.writing.opening)
-          (up_first s.in_successor.opening) k.ins n).1;
-      writing = λ n positive under above.
-          all_came Any came (fronts s).ins.now on k.ins.0 above n positive under;
-    }

@@ -1,9 +1,7 @@
 -- the channels of one direction at a client: the one in use, and its successor while it is
 -- replaced; what stands on the leg of each number, and which of them came up
-use Rattle.std.proofs.Common.{◌≡◌, ◌⊎◌, ℕ, suc, ◌+◌, ◌<◌, ◌≤◌, Bool, true, false, not, ◌&&◌, ◌||◌, IsTrue, List, [], nat_eq, inl, inr, arith, refl, sym, subst, ◌∙◌}
-use Rattle.std.proofs.lemmas.Bool.{cases_lt, cases_eq}
-use Rattle.law_order.proofs.ByNumber.{same_number, other_number}
-use Rattle.rh_shell.specs.Rules.{Message}
+use Rattle.law_order.proofs.Vocabulary.{◌≡◌, ◌⊎◌, ℕ, suc, ◌+◌, ◌<◌, Bool, true, false, not, ◌&&◌, ◌||◌, IsTrue, List, [], nat_eq, inl, inr, arith, refl, sym, subst, ◌∙◌, cases_lt, cases_eq}
+use Rattle.law_moves.proofs.Vocabulary.{same_number, other_number, Message}
 use Rattle.law_node_begins.proofs.EndsBegin.Stands.{Stands, IsFine, fine, GoesBehind, NumberLogs, grown_at, at_here, at_other, EndsAt, ends_stay}
 
 -- its number, whether its leg is up, and whether the text was put there
@@ -362,12 +360,4 @@ module _ (IsFirst : List ℕ → Type 0) (came : ℕ → Type 0) where
           above_told f.replaced f.now.number f.next f.answered logs next_first is.1 k
           (omega (arith, over, other))
     ]
-  ]
-
-  -- once the channel in use is not the first, all up to it came up
-  pub all_came : (c : Channel) (logs : NumberLogs) → IsUsed IsFirst came c logs → 1 < c.number
-      → (k : ℕ) → 0 < k → k ≤ c.number → came k
-  all_came c logs used above k positive under = elim (cases_eq k c.number) [
-    | inl e ↦ subst came (sym e) (used.came_up (used.above_first above))
-    | inr other ↦ (used.below k positive (omega (arith, other, under))).1
   ]

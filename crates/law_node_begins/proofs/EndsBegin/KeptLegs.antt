@@ -1,13 +1,7 @@
 -- the legs of a kind that a server keeps, in the order of their numbers, and what stands on them
-use Rattle.std.proofs.Common.{◌≡◌, ℕ, zero, suc, ◌+◌, ◌<◌, ◌≤◌, ◌==◌, Bool, true, false, not, cond, nat_lt, List, [], ◌∷◌, ◌++◌, length, Some, None, inl, inr, arith, refl, sym, subst, ap, ◌∙◌}
-use Rattle.std.proofs.lemmas.Bool.{cases_eq}
-use Rattle.std.proofs.lemmas.Bool.Decides.{nat_tests}
-use Rattle.std.specs.Prelude.{slice_get, slice_set, remove, position}
-use Rattle.std.specs.List.{position_or_len}
-use Rattle.std.specs.declared.option.Option.{Option}
-use Rattle.law_order.proofs.ByNumber.{same_number}
-use Rattle.rh_shell.specs.Rules.{Message}
-use Rattle.law_moves.specs.ReadBack.Reading.{IsNoText}
+use Rattle.law_order.proofs.Vocabulary.{◌≡◌, ℕ, zero, suc, ◌+◌, ◌<◌, ◌≤◌, ◌==◌, Bool, true, false, not, cond, nat_lt, List, [], ◌∷◌, ◌++◌, length, Some, None, inl, inr, arith, refl, sym, subst, ap, ◌∙◌, cases_eq, nat_tests, slice_get, slice_set, remove, position, position_or_len, Option}
+use Rattle.law_moves.proofs.Vocabulary.{same_number, Message, IsNoText}
+use Rattle.law_role_server.proofs.Numbered.{one}
 use Rattle.law_node_begins.proofs.EndsBegin.Stands.{Stands, IsFine, fine, GoesBehind, no_text_behind, NumberLogs, grown_at, at_here, at_other, EndsAt, ends_stay}
 
 -- the number of a leg, and whether the text was put there
@@ -108,9 +102,6 @@ module _ (IsFirst : List ℕ → Type 0) (logs : NumberLogs) where
 abbrev from : {X : Type 0} → X → Option X → X
 from x None = x
 from x (Some y) = y
-
-one : {X : Type 0} (x y : X) → Some x ≡ Some y → x ≡ y
-one x y e = ap (from x) e
 
 abbrev pub spots : {X : Type 0} → (X → Spot) → List X → List Spot
 spots spot [] = []

@@ -1,20 +1,10 @@
 -- what each step of an end keeps, all its moves keep, together with what they put
-use Rattle.std.proofs.Common.{◌≡◌, ℕ, Bool, true, false, ◌||◌, IsTrue, List, [], ◌∷◌, Some, None, Ok, Err, arith, refl, sym, subst}
-use Rattle.std.proofs.lemmas.Bool.Decides.{nat_tests}
-use Rattle.std.specs.Prelude.{IfSome}
-use Rattle.std.specs.declared.option.Option.{Option}
-use Rattle.std.specs.declared.result.Result.{Result}
-use Rattle.rh_rts.specs.declared.command.Cookie.{Cookie}
-use Rattle.rh_sig.specs.declared.named.Named.{Named}
-use Rattle.rh_line.specs.declared.leg.Leg.{Leg}
-use Rattle.rh_shell.specs.declared.answers.Count.{Count}
-use Rattle.rh_shell.specs.declared.end_role.GiveRefused.{GiveRefused}
-use Rattle.rh_shell.specs.Rules.{Rules, Acts, Row, Message, Pdu, Packet}
-use Rattle.rh_shell.specs.Shells.{same_leg}
-use Rattle.law_moves.specs.Moves.{Move, Up, HeadCame, PduCame, PacketCame, Puts, IsDrawn, Marks, Pings, Passage, MayMove, moved, taken_by, put_by, EndMove, Moves, Gives, Takes, Closes, Recycles, EndPassage, MayEndMove, AreAllowedAtEnd, end_moved, all_end_moved, end_now_at, given_by, with_first}
+use Rattle.law_order.proofs.Vocabulary.{◌≡◌, ℕ, Bool, true, false, ◌||◌, IsTrue, List, [], ◌∷◌, Some, None, Ok, Err, refl, sym, subst, IfSome, Option, Result}
+use Rattle.law_moves.proofs.Vocabulary.{Cookie, Named, Leg, Count, GiveRefused, Rules, Acts, Row, Message, Pdu, Packet, Move, Up, HeadCame, PduCame, PacketCame, Puts, IsDrawn, Marks, Pings, Passage, MayMove, moved, taken_by, put_by, EndMove, Moves, Gives, Takes, Closes, Recycles, EndPassage, MayEndMove, AreAllowedAtEnd, end_moved, all_end_moved, end_now_at, given_by, with_first}
+use Rattle.law_moves.proofs.Lemmas.{itself}
 use Rattle.law_node_streams.specs.Streams.{is_end_up_on}
-use Rattle.law_node_begins.specs.EndsBegin.{came_up}
 use Rattle.law_node_begins.proofs.EndsBegin.Stands.{Logs, grown, logs_of, logs_more}
+use Rattle.law_node_begins.specs.EndsBegin.{came_up}
 
 -- a role with what stands on its legs; a leg comes up where the role lets it, as the moves say
 pub record StepsKeep {S : Type 0} (rules : Rules S) (acts : Acts S) (Holds : Logs → S → Type 0)
@@ -37,9 +27,6 @@ pub record StepsKeep {S : Type 0} (rules : Rules S) (acts : Acts S) (Holds : Log
   pub take : (logs : Logs) (s : S) → Holds logs s → Holds logs (acts.take s)
   pub close : (logs : Logs) (s : S) → Holds logs s → Holds logs (acts.close s)
   pub recycle : (logs : Logs) (s : S) → Holds logs s → Holds logs (acts.recycle s).0
-
-itself : (leg : Leg) → same_leg leg leg ≡ true
-itself leg = grind (arith, nat_tests)
 
 module _ {S : Type 0} (rules : Rules S) (acts : Acts S) (Holds : Logs → S → Type 0)
     (CameUp : Leg → Type 0) (keeps : StepsKeep rules acts Holds CameUp) where

@@ -1,32 +1,14 @@
 -- what a server put first, whatever moves came
-use Rattle.std.proofs.Common.{◌≡◌, ℕ, List, [], Some, None, inl, arith, refl, sym, subst}
-use Rattle.std.specs.List.{AllByRecursion}
-use Rattle.std.specs.declared.option.Option.{Option}
-use Rattle.law_order.proofs.ByNumber.{by_test}
-use Rattle.rh_rts.specs.declared.command.Cookie.{Cookie}
-use Rattle.rh_sig.specs.declared.name.Pipe.{Pipe}
-use Rattle.rh_sig.specs.declared.name.Pipe.TheVariants.{IsD, OsD}
-use Rattle.rh_line.specs.declared.leg.Leg.{Leg}
-use Rattle.rh_line.specs.declared.leg.LegKind.{LegKind}
-use Rattle.rh_line.specs.declared.leg.LegKind.TheVariants.{ClientOut, OutServer, ClientIn, InServer}
-use Rattle.rh_shell.specs.Hearing.{greeting as greeting_text}
-use Rattle.rh_shell.specs.Intakes.{is_whole_head, is_whole_greeting}
+use Rattle.law_order.proofs.Vocabulary.{◌≡◌, ℕ, List, [], Some, None, inl, arith, refl, sym, subst, AllByRecursion, Option}
 use Rattle.rh_shell.specs.declared.stage.Stage.TheVariants as stage
-use Rattle.rh_shell.specs.NearEnds.{first_stage}
-use Rattle.rh_server.specs.States.{Server}
-use Rattle.rh_server.specs.Opening.{may_up_by, up_by, up}
-use Rattle.rh_server.specs.Servers.{rules, acts, first}
-use Rattle.law_moves.specs.Wires.{of_leg}
-use Rattle.law_moves.specs.Moves.{OnLeg, EndMove, AreAllowedAtEnd, end_started, all_end_moved}
-use Rattle.law_moves.specs.ReadBack.Reading.{IsWholeText, Begins}
-use Rattle.law_moves.specs.ReadBack.Well.{Answers, IsWellText, TextIsWell}
-use Rattle.law_role_server.specs.Legible.{pipe_to, pipe_put}
-use Rattle.law_node_begins.specs.EndsBegin.{BeginsLegs}
+use Rattle.law_moves.proofs.Vocabulary.{by_test, Cookie, Pipe, IsD, OsD, Leg, LegKind, ClientOut, OutServer, ClientIn, InServer, greeting as greeting_text, is_whole_head, is_whole_greeting, first_stage, of_leg, OnLeg, EndMove, AreAllowedAtEnd, end_started, all_end_moved, IsWholeText, Begins, Answers, IsWellText, TextIsWell}
+use Rattle.law_role_server.proofs.Vocabulary.{Server, may_up_by, up_by, up, rules, acts, first, pipe_to, pipe_put}
 use Rattle.law_node_begins.proofs.EndsBegin.Stands.{Logs, logs_of, begins, fine_well, none_well}
 use Rattle.law_node_begins.proofs.EndsBegin.Moves.{StepsKeep, moves_keep}
 use Rattle.law_node_begins.proofs.EndsBegin.KeptLegs.{AreBegun}
 use Rattle.law_node_begins.proofs.EndsBegin.ServerRows.{Keeps, is_leg, os_leg, packet_keeps, pdu_keeps, up_keeps, drawn_keeps, mark_keeps, give_keeps, take_keeps, recycle_keeps}
 use Rattle.law_node_begins.proofs.EndsBegin.ServerPuts.{puts}
+use Rattle.law_node_begins.specs.EndsBegin.{BeginsLegs}
 
 -- the steps of a server keep what stands on its legs
 module _ (IsFirst : List ℕ → Type 0) (greets : IsFirst greeting_text) where

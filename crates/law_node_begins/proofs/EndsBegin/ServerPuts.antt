@@ -1,36 +1,13 @@
 -- what a server puts: a greeting goes first on each leg, and no other text
-use Rattle.std.proofs.Common.{◌≡◌, ℕ, ◌==◌, ◌&&◌, Bool, true, false, if◌then◌else◌, List, Some, None, refl, sym, subst, ap}
-use Rattle.std.specs.Prelude.{slice_get}
-use Rattle.std.specs.Prelude.{IfSome}
-use Rattle.std.specs.declared.option.Option.{Option}
-use Rattle.rh_window.specs.declared.recv_window.Ack.{Ack}
-use Rattle.law_order.proofs.ByNumber.{by_test, same_number}
+use Rattle.law_order.proofs.Vocabulary.{◌≡◌, ℕ, ◌==◌, ◌&&◌, Bool, true, false, if◌then◌else◌, List, Some, None, refl, sym, subst, ap, slice_get, IfSome, Option}
 use Rattle.rh_sig.specs.declared.named.Named.TheVariants as named
-use Rattle.rh_line.specs.Lines.{after_told}
-use Rattle.rh_line.specs.Queue.{front_length}
-use Rattle.rh_line.specs.declared.leg.Leg.{Leg}
-use Rattle.rh_line.specs.declared.leg.LegKind.{LegKind}
-use Rattle.rh_line.specs.declared.leg.LegKind.TheVariants.{ClientOut, OutServer, ClientIn, InServer}
-use Rattle.rh_line.specs.declared.which.Which.TheVariants.{Current}
-use Rattle.rh_shell.specs.declared.due.Due.{Due}
-use Rattle.rh_shell.specs.Hearing.{greeting as greeting_text}
-use Rattle.rh_shell.specs.NearEnds.{first_of}
-use Rattle.rh_shell.specs.Rules.{Message, Text, Pdu, Packet}
-use Rattle.rh_shell.specs.Waiting.{Waiting, taken}
 use Rattle.rh_server.specs.declared.state.EndMark.TheVariants as end_mark
-use Rattle.rh_server.specs.declared.state.Greeting.{Greeting}
 use Rattle.rh_server.specs.declared.state.Greeting.TheVariants as greeting
-use Rattle.rh_server.specs.declared.state.Tells.{Tells}
 use Rattle.rh_server.specs.declared.state.Tells.TheVariants as tells
-use Rattle.rh_server.specs.declared.state.Leaving.{Leaving}
 use Rattle.rh_server.specs.declared.state.Leaving.TheVariants as leaving
-use Rattle.rh_server.specs.declared.state.InLeg.{InLeg}
-use Rattle.rh_server.specs.declared.state.OutLeg.{OutLeg}
-use Rattle.rh_server.specs.OutLegs.{went}
-use Rattle.rh_server.specs.OutLines.{Gate, lets}
-use Rattle.rh_server.specs.States.{Server, is_open, is_due, is_shut, in_place, in_at, with_in, set_at, out_place}
-use Rattle.rh_server.specs.Putting.{Pick, or_else, put, put_by, told_by, was_current, put_tells_by, put_tells, put_b1_by, put_b1, ack_due, put_ack_by, put_ack, next_in, put_in_by, with_out, out_greeting_at, gate_at, was_put, waiting_by, waiting_at, put_waiting, may_go_at, went_at, goes, pdu_by, put_pdu, counts, is_end_due, may_end_at, put_end, put_pdu_or_end, next_out, settled_pick, put_open, put_out_place, put_out_at}
-use Rattle.law_moves.specs.ReadBack.Reading.{IsNoText}
+use Rattle.law_moves.proofs.Vocabulary.{Ack, by_test, same_number, after_told, front_length, Leg, LegKind, ClientOut, OutServer, ClientIn, InServer, Current, Due, greeting as greeting_text, first_of, Message, Text, Pdu, Packet, Waiting, taken, IsNoText}
+use Rattle.law_role_server.proofs.Vocabulary.{Greeting, Tells, Leaving, InLeg, OutLeg, went, Gate, lets, Server, is_open, is_due, is_shut, in_place, in_at, with_in, set_at, out_place, Pick, or_else, put, put_by, told_by, was_current, put_tells_by, put_tells, put_b1_by, put_b1, ack_due, put_ack_by, put_ack, next_in, put_in_by, with_out, out_greeting_at, gate_at, was_put, waiting_by, waiting_at, put_waiting, may_go_at, went_at, goes, pdu_by, put_pdu, counts, is_end_due}
+use Rattle.law_role_server.proofs.Vocabulary.{may_end_at, put_end, put_pdu_or_end, next_out, settled_pick, put_open, put_out_place, put_out_at}
 use Rattle.law_node_begins.proofs.EndsBegin.Stands.{Logs, grown, grown_at, NumberLogs, GoesBehind, text_behind}
 use Rattle.law_node_begins.proofs.EndsBegin.KeptLegs.{AreBegun, spots, found, kept_put, kept_more}
 use Rattle.law_node_begins.proofs.EndsBegin.ServerRows.{has_begun, in_spot, out_spot, seen, Kept, Keeps, is_leg, os_leg, outs_seen, counts_seen, put_seen, spots_with, settled_keeps}

@@ -1,42 +1,19 @@
 -- what a server's state says of what it put first: each step that puts nothing keeps it
-use Rattle.std.proofs.Common.{◌≡◌, ℕ, ◌+◌, ◌==◌, ◌&&◌, Bool, true, false, not, if◌then◌else◌, List, [], Some, None, arith, rules, refl, sym, subst, ap}
-use Rattle.std.proofs.lemmas.Bool.{and_parts}
-use Rattle.std.specs.Prelude.{slice_get, slice_set}
-use Rattle.std.specs.declared.option.Option.{Option}
 use Rattle.rh_keep.specs.Meters.{started}
-use Rattle.law_order.proofs.ByNumber.{by_test, same_number}
-use Rattle.rh_rts.specs.declared.command.Cookie.{Cookie}
-use Rattle.rh_sig.specs.declared.named.Named.{Named}
+use Rattle.law_order.proofs.Vocabulary.{◌≡◌, ℕ, ◌+◌, ◌==◌, ◌&&◌, Bool, true, false, not, if◌then◌else◌, List, [], Some, None, arith, rules, refl, sym, subst, ap, and_parts, slice_get, slice_set, Option}
 use Rattle.rh_sig.specs.declared.named.Named.TheVariants as named
-use Rattle.rh_line.specs.Lines.{after_finish, after_take}
-use Rattle.rh_line.specs.declared.leg.Leg.{Leg}
-use Rattle.rh_line.specs.declared.leg.LegKind.{LegKind}
-use Rattle.rh_line.specs.declared.leg.LegKind.TheVariants.{ClientOut, OutServer, ClientIn, InServer}
-use Rattle.rh_line.specs.declared.which.Which.{Which}
-use Rattle.rh_line.specs.declared.which.Which.TheVariants.{Current, Next}
-use Rattle.rh_shell.specs.declared.answers.Count.{Count}
 use Rattle.rh_shell.specs.declared.answers.Refused.TheVariants as refused
+use Rattle.rh_server.specs.Servers.{pdu_by}
 use Rattle.rh_server.specs.declared.out_line.Kind.TheVariants as kind
-use Rattle.rh_server.specs.declared.state.Stage.{Stage}
 use Rattle.rh_server.specs.declared.state.Stage.TheVariants as stage
-use Rattle.rh_server.specs.declared.state.Greeting.{Greeting}
 use Rattle.rh_server.specs.declared.state.Greeting.TheVariants as greeting
-use Rattle.rh_server.specs.declared.state.InStage.{InStage}
 use Rattle.rh_server.specs.declared.state.InStage.TheVariants as in_stage
 use Rattle.rh_server.specs.declared.state.Edge.TheVariants as edge
 use Rattle.rh_server.specs.declared.state.Leaving.TheVariants as leaving
-use Rattle.rh_server.specs.declared.state.InLeg.{InLeg}
-use Rattle.rh_server.specs.declared.state.OutLeg.{OutLeg}
-use Rattle.rh_server.specs.OutLines.{length_of, waits}
-use Rattle.rh_server.specs.OutLegs.{counted, acked}
-use Rattle.rh_server.specs.States.{Server, same_cookie, is_fresh, in_place, in_at, in_leg, set_at, removed_at, with_in, without_in, out_place, out_at, out_cookie, without_out}
-use Rattle.rh_server.specs.Opening.{Done, took, refuse, unexpected, opens, with_out_channel, first_out_at, with_first_out, conn_a2_at, on_conn_a2, first_in, with_first_in, conn_b2_at, on_conn_b2, may_up_by, has_room, in_leg_up, out_leg_up, up_by}
-use Rattle.rh_server.specs.Putting.{counts, counts_at, was_put}
-use Rattle.rh_server.specs.Ending.{settled, give, end_a2_on_leg, end_a2_waiting, end_a2_at, on_end_a2, is_over_on, in_is_drawn, drawn_by, lost_in, with_ack_dropped, mark_by}
-use Rattle.rh_server.specs.Acknowledging.{channel_at, on_ack_to, acked_at, acked_in, acked_cookie, on_ack, on_ping_traffic}
-use Rattle.rh_server.specs.InReplacement.{next_opened, opens_next, opens_leg, first_waiting, waiting_place, becomes_current, moved_if, take, announced, in_r1_a2_by, in_r1_a2_at, on_in_r1_a2, leaves, leaves_by, hands_over, on_in_r1_a6, in_r2_a2_on, on_in_r2_a2}
-use Rattle.rh_server.specs.OutReplacement.{on_out_r1_a8, recycle, answered_by, answered_on, out_r1_a4_by, out_r1_a4_at, may_answer, on_out_r1_a4}
-use Rattle.rh_server.specs.Servers.{on_is, on_os, packet_by, pdu_by}
+use Rattle.law_moves.proofs.Vocabulary.{by_test, same_number, Cookie, Named, after_finish, after_take, Leg, LegKind, ClientOut, OutServer, ClientIn, InServer, Which, Current, Next, Count}
+use Rattle.law_role_server.proofs.Vocabulary.{Stage, Greeting, InStage, InLeg, OutLeg, length_of, waits, counted, acked, Server, same_cookie, is_fresh, in_place, in_at, in_leg, set_at, removed_at, with_in, without_in, out_place, out_at, out_cookie, without_out, Done, took, refuse, unexpected, opens, with_out_channel, first_out_at, with_first_out, conn_a2_at, on_conn_a2, first_in, with_first_in, conn_b2_at, on_conn_b2, may_up_by, has_room, in_leg_up, out_leg_up, up_by, counts}
+use Rattle.law_role_server.proofs.Vocabulary.{counts_at, was_put, settled, give, end_a2_on_leg, end_a2_waiting, end_a2_at, on_end_a2, is_over_on, in_is_drawn, drawn_by, lost_in, with_ack_dropped, mark_by, channel_at, on_ack_to, acked_at, acked_in, acked_cookie, on_ack, on_ping_traffic, next_opened, opens_next, opens_leg, first_waiting, waiting_place, becomes_current, moved_if, take, announced, in_r1_a2_by, in_r1_a2_at, on_in_r1_a2, leaves, leaves_by, hands_over, on_in_r1_a6}
+use Rattle.law_role_server.proofs.Vocabulary.{in_r2_a2_on, on_in_r2_a2, on_out_r1_a8, recycle, answered_by, answered_on, out_r1_a4_by, out_r1_a4_at, may_answer, on_out_r1_a4, on_is, on_os, packet_by}
 use Rattle.law_node_begins.proofs.EndsBegin.Stands.{Logs}
 use Rattle.law_node_begins.proofs.EndsBegin.KeptLegs.{Spot, spots, AreBegun, spots_set, spots_kept, kept_up, kept_past, kept_removed}
 

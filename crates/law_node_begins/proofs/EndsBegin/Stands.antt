@@ -1,19 +1,7 @@
 -- what stands on a leg: nothing yet, or a text and no other behind it
-use Rattle.std.proofs.Common.{◌≡◌, ◌≢◌, ◌⊎◌, ℕ, suc, ◌<◌, nat_eq, Bool, true, false, List, [], ◌∷◌, ◌++◌, if◌then◌else◌, inl, inr, arith, refl, ◌∙◌}
-use mathlib.Core.Path.{fun_ext}
-use Rattle.std.specs.List.{AllByRecursion}
-use Rattle.std.specs.declared.option.Option.{Option}
-use Rattle.rh_sig.specs.declared.name.Pipe.{Pipe}
-use Rattle.rh_line.specs.declared.leg.Leg.{Leg}
-use Rattle.law_order.proofs.ByNumber.{test_same, test_other}
-use Rattle.rh_line.proofs.Queues.{each_push}
-use Rattle.rh_shell.specs.Rules.{Message, Text, Pdu, Packet}
-use Rattle.rh_shell.specs.Shells.{same_leg}
-use Rattle.law_moves.specs.Wires.{of_leg}
-use Rattle.law_moves.specs.Moves.{OnLeg}
-use Rattle.law_moves.specs.ReadBack.Reading.{IsNoText, AreNoTexts, IsWholeText, BeginsWith}
-use Rattle.law_moves.specs.ReadBack.Well.{Answers, IsWellText, TextIsWell}
-use Rattle.law_moves.proofs.ReadBack.NoTexts.{no_texts_well}
+use Rattle.law_order.proofs.Vocabulary.{◌≡◌, ◌≢◌, ◌⊎◌, ℕ, suc, ◌<◌, nat_eq, Bool, true, false, List, [], ◌∷◌, ◌++◌, if◌then◌else◌, inl, inr, arith, refl, ◌∙◌, AllByRecursion, Option, fun_ext}
+use Rattle.law_moves.proofs.Vocabulary.{test_same, test_other, Pipe, each_push, Leg, Message, Text, Pdu, Packet, same_leg, of_leg, OnLeg, IsNoText, AreNoTexts, IsWholeText, BeginsWith, Answers, IsWellText, TextIsWell}
+use Rattle.law_moves.proofs.Lemmas.{no_texts_well}
 
 -- ---- on one leg, for the texts that may go first
 

@@ -1,21 +1,10 @@
 -- the answers to echo requests: heads of success, and a packet that has no name where it is read
-use Rattle.std.proofs.Common.{◌≡◌, [], ◌++◌, refl, arith}
-use Rattle.std.specs.Prelude.{None, Some}
-use Rattle.std.specs.Fmt.{digits}
-use Rattle.rh_pdu.specs.Frames.{IsFrame}
-use Rattle.rh_pdu.specs.Header.{head_fault, frag_of}
-use Rattle.rh_rts.specs.Packets.{packet_bytes}
+use Rattle.law_order.proofs.Vocabulary.{◌≡◌, [], ◌++◌, refl, arith, None, Some, digits}
 use Rattle.rh_rts.specs.Reading as packets
-use Rattle.rh_rts.specs.Reading.{read_packet}
-use Rattle.rh_sig.specs.declared.name.Pipe.TheVariants.{CoD}
-use Rattle.rh_sig.specs.Naming.{named_of, name_on}
-use Rattle.rh_sig.specs.Looking.{names, fits}
-use Rattle.rh_http.specs.Texts.{response_text}
-use Rattle.rh_shell.specs.Readings.{packet_of}
+use Rattle.rh_sig.specs.Looking.{fits}
 use Rattle.rh_inproxy.specs.Opening.{echo_answer, echo_packet}
 use Rattle.rh_outproxy.specs.Putting as out_proxy
-use Rattle.law_moves.specs.Carrying.{message_in}
-use Rattle.law_moves.specs.ReadBack.Well.{FrameIsWell, is_packet}
+use Rattle.law_moves.proofs.Vocabulary.{IsFrame, head_fault, frag_of, packet_bytes, read_packet, CoD, named_of, name_on, names, response_text, packet_of, message_in, FrameIsWell, is_packet}
 
 pub in_text : response_text 20 ++ echo_packet ≡ echo_answer
 unfolding response_text echo_answer digits

@@ -1,23 +1,9 @@
 -- what the rows and puts of an in proxy leave as it is, or change in one way
-use Rattle.std.proofs.Common.{◌≡◌, ◌⊎◌, inl, inr, ℕ, ◌==◌, List, [], ◌∷◌, length, Bool, true, false, ◌&&◌, not, Some, None, refl, sym, ap, ◌∙◌, subst, rules}
-use Rattle.std.specs.Prelude.{if◌then◌else◌, IfSome}
-use Rattle.std.specs.declared.option.Option.{Option}
-use Rattle.std.proofs.lemmas.Bool.{and_parts, eqb-true}
-use Rattle.rh_window.specs.Sending.{may_send}
 use Rattle.rh_window.specs.declared.recv_window.Ack as told
-use Rattle.law_order.proofs.ByNumber.{by_test}
-use Rattle.rh_rts.specs.declared.command.Cookie.{Cookie}
-use Rattle.rh_sig.specs.declared.named.Named.{Named}
-use Rattle.rh_sig.specs.declared.named.Named.TheVariants.{ConnB1, ConnB3, InR1A1, InR1A5, InR1B1, InR1B2, OutR1A7, EndA1, Ack, AckTo, KeepAlive}
+use Rattle.law_order.proofs.Vocabulary.{◌≡◌, ◌⊎◌, inl, inr, ℕ, ◌==◌, List, [], ◌∷◌, length, Bool, true, false, ◌&&◌, not, Some, None, refl, sym, ap, ◌∙◌, subst, rules, if◌then◌else◌, IfSome, Option, and_parts, eqb-true}
+use Rattle.rh_sig.specs.declared.named.Named.TheVariants.{Ack}
 use Rattle.rh_line.specs.Lines as line
-use Rattle.rh_line.specs.declared.leg.Leg.{Leg}
-use Rattle.rh_line.specs.declared.which.Which.{Which}
-use Rattle.rh_line.specs.declared.which.Which.TheVariants.{Current, Next}
-use Rattle.rh_shell.specs.declared.answers.Count.{Count}
 use Rattle.rh_shell.specs.declared.answers.Refused.TheVariants as refused
-use Rattle.rh_shell.specs.declared.due.Due.{Due}
-use Rattle.rh_shell.specs.Rules.{Message}
-use Rattle.rh_shell.specs.Shells.{same_leg}
 use Rattle.rh_inproxy.specs.declared.opening.TheConstants.{KEEPALIVE}
 use Rattle.rh_inproxy.specs.declared.state.ClientLeg.{ClientLeg}
 use Rattle.rh_inproxy.specs.declared.state.Handover.{Handover}
@@ -30,9 +16,7 @@ use Rattle.rh_inproxy.specs.declared.state.Opening.{Opening}
 use Rattle.rh_inproxy.specs.declared.state.Opening.TheVariants.{AwaitsClient, AwaitsPacket, WantsServer, Announces, Announced}
 use Rattle.rh_inproxy.specs.declared.state.Successor.{Successor}
 use Rattle.rh_inproxy.specs.declared.state.Successor.TheVariants.{Absent, Joined}
-use Rattle.rh_inproxy.specs.declared.state.Successor.TheVariants as successors
 use Rattle.rh_inproxy.specs.declared.state.Work.{Work}
-use Rattle.rh_inproxy.specs.declared.state.Work.TheVariants as works
 use Rattle.rh_inproxy.specs.Answers.{Done, Pick, or_else, taken, refuse, unexpected}
 use Rattle.rh_inproxy.specs.State.{InProxy, channel_of, has_opened, has_a5, follows, is_client_leg, is_server_leg, same_cookie}
 use Rattle.rh_inproxy.specs.Opening.{drawn, drawn_by, first_by, is_absent, is_first, leg_of, newest_by, on_first_in_r1_a1, opened, opener_of, put_first, kept_for}
@@ -44,9 +28,11 @@ use Rattle.rh_inproxy.specs.Passing.{next_pdu, put_pdu}
 use Rattle.rh_inproxy.specs.Putting.{next, waiting_by, put_waiting, put_control, put_early, put_stream, put_behind, put_mark}
 use Rattle.rh_inproxy.specs.Time.{on_keep_alive, ping, put_ping}
 use Rattle.rh_inproxy.specs.Machine.{packet, pdu, on_ci, on_is, on_channel_by}
-use Rattle.law_moves.specs.ReadBack.Reading.{IsNoText}
+use Rattle.rh_inproxy.specs.declared.state.Successor.TheVariants as successors
+use Rattle.rh_inproxy.specs.declared.state.Work.TheVariants as works
+use Rattle.law_moves.proofs.Vocabulary.{may_send, by_test, Cookie, Named, ConnB1, ConnB3, InR1A1, InR1A5, InR1B1, InR1B2, OutR1A7, EndA1, AckTo, KeepAlive, Leg, Which, Current, Next, Count, Due, Message, same_leg, IsNoText}
+use Rattle.law_moves.proofs.Lemmas.{leg_is}
 use Rattle.law_node_begins.specs.ProxiesBegin.Pipes.{ci}
-use Rattle.law_node_begins.proofs.ProxiesBegin.Legs.{leg_is}
 
 -- what these facts are about
 pub record Seen : Type 0 where

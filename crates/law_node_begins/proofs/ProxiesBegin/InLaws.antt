@@ -1,20 +1,6 @@
 -- what an in proxy puts, reads and refuses, from its start
-use Rattle.std.proofs.Common.{◌≡◌, ◌⊎◌, inl, inr, ℕ, List, [], ◌∷◌, Bool, true, false, Some, None, Ok, Err, refl, sym, ap, ◌∙◌, subst}
-use Rattle.std.specs.Prelude.{if◌then◌else◌, nat_le}
-use Rattle.std.specs.List.{AllByRecursion, list_any}
-use Rattle.std.specs.declared.option.Option.{Option}
-use Rattle.std.specs.declared.result.Result.{Result}
-use Rattle.std.proofs.lemmas.Bool.{and_parts}
-use Rattle.rh_sig.specs.declared.name.Pipe.{Pipe}
-use Rattle.rh_sig.specs.declared.name.Pipe.TheVariants.{CiU, IsU, IsD, CoU, CoD, OsU, OsD}
-use Rattle.rh_http.specs.declared.fault.HttpFault.{HttpFault}
-use Rattle.rh_http.specs.Heads.Verdicts.{Asked, request_verdict}
-use Rattle.rh_line.specs.declared.leg.Leg.{Leg}
-use Rattle.rh_shell.specs.declared.stage.Stage.{Stage}
+use Rattle.law_order.proofs.Vocabulary.{◌≡◌, ◌⊎◌, inl, inr, ℕ, List, [], ◌∷◌, Bool, true, false, Some, None, Ok, Err, refl, sym, ap, ◌∙◌, subst, if◌then◌else◌, nat_le, AllByRecursion, list_any, Option, Result, and_parts}
 use Rattle.rh_shell.specs.declared.stage.Stage.TheVariants as stage
-use Rattle.rh_shell.specs.NearEnds.{first_stage}
-use Rattle.rh_shell.specs.Rules.{Message, Text}
-use Rattle.rh_shell.specs.Shells.{same_leg}
 use Rattle.rh_inproxy.specs.declared.opening.TheConstants.{ECHO_LENGTH}
 use Rattle.rh_inproxy.specs.declared.state.InProxyConfig.{InProxyConfig}
 use Rattle.rh_inproxy.specs.declared.state.Opening.{Opening}
@@ -22,18 +8,17 @@ use Rattle.rh_inproxy.specs.declared.state.Opening.TheVariants.{AwaitsClient, Aw
 use Rattle.rh_inproxy.specs.Machine.{rules}
 use Rattle.rh_inproxy.specs.Opening.{channel_asked, echo_answer, echo_asked, head_by, pipe, wants_server}
 use Rattle.rh_inproxy.specs.State.{InProxy, first, has_opened, is_client_leg, is_server_leg}
-use Rattle.law_moves.specs.Moves.{Move, Up, HeadCame, PduCame, PacketCame, Puts, IsDrawn, Marks, Pings, OnLeg, Passage, started, moved, all_moved, AreAllowed}
-use Rattle.law_moves.specs.Wires.{of_leg}
-use Rattle.law_moves.specs.ReadBack.Reading.{Begins, AreNoTexts, IsNoText, ReadsNothing}
-use Rattle.law_moves.specs.ReadBack.Well.{Answers, IsWellText, TextIsWell}
-use Rattle.law_moves.specs.Turns.{Stages, none_up, behind_head, stages_after, AreInTurn, RefusesInTurn}
+use Rattle.law_moves.proofs.Vocabulary.{Pipe, CiU, IsU, IsD, CoU, CoD, OsU, OsD, HttpFault, Asked, request_verdict, Leg, Stage, first_stage, Message, Text, same_leg, Move, Up, HeadCame, PduCame, PacketCame, Puts, IsDrawn, Marks, Pings, OnLeg, Passage, started, moved, all_moved, AreAllowed, of_leg, Begins, AreNoTexts, IsNoText, ReadsNothing, Answers, IsWellText, TextIsWell, Stages, none_up, stages_after, AreInTurn, RefusesInTurn}
+use Rattle.law_moves.proofs.Lemmas.{itself, leg_is}
+use Rattle.law_moves.specs.Turns.{behind_head}
+use Rattle.law_node_streams.proofs.Streams.Staging.{all_stages}
 use Rattle.law_node_streams.specs.Streams.{HasPipes, RefusesFirst, is_head_on}
-use Rattle.law_node_begins.specs.ProxiesBegin.Echoes.{AsksNoEcho}
-use Rattle.law_node_begins.specs.ProxiesBegin.Pipes.{ci, is, in_pipe}
-use Rattle.law_node_begins.proofs.ProxiesBegin.Legs.{itself, leg_is, none_of, each_of}
-use Rattle.law_node_begins.proofs.ProxiesBegin.Turning.{IsUnheard, all_keep, all_stages, all_turns_keep, stage_each, unheard}
+use Rattle.law_node_begins.proofs.ProxiesBegin.Legs.{none_of, each_of}
+use Rattle.law_node_begins.proofs.ProxiesBegin.Turning.{IsUnheard, all_keep, all_turns_keep, stage_each, unheard}
 use Rattle.law_node_begins.proofs.ProxiesBegin.InTurns.{AsksAt, IsAnswered, framed, in_starts, in_turns_keep}
 use Rattle.law_node_begins.proofs.ProxiesBegin.InReached.{MayPut, ReachedAt, in_moves_keep, in_reaches}
+use Rattle.law_node_begins.specs.ProxiesBegin.Echoes.{AsksNoEcho}
+use Rattle.law_node_begins.specs.ProxiesBegin.Pipes.{ci, is, in_pipe}
 
 -- ---- what comes next where no echo is asked for
 

@@ -1,20 +1,5 @@
 -- which ci legs came up, by what an in proxy keeps
-use Rattle.std.proofs.Common.{◌≡◌, ◌⊎◌, inl, inr, ℕ, ◌+◌, ◌≤◌, ◌==◌, List, [], ◌∷◌, ◌++◌, Bool, true, false, not, ◌&&◌, ◌||◌, Some, None, Ok, Err, arith, refl, sym, ap, ◌∙◌, subst}
-use Rattle.std.specs.Prelude.{if◌then◌else◌, nat_le, IfSome}
-use Rattle.std.proofs.lemmas.List.Folds.{list_any-append}
-use Rattle.std.specs.List.{list_any, AllByRecursion}
-use Rattle.std.proofs.lemmas.Bool.{and_parts, eqb-true, or_left}
-use Rattle.std.specs.declared.result.Result.{Result}
-use Rattle.law_order.proofs.ByNumber.{by_test}
-use Rattle.rh_rts.specs.declared.command.Cookie.{Cookie}
-use Rattle.rh_http.specs.declared.fault.HttpFault.{HttpFault}
-use Rattle.rh_http.specs.Heads.Verdicts.{Asked, request_verdict}
-use Rattle.rh_line.specs.declared.leg.Leg.{Leg}
-use Rattle.rh_line.specs.declared.leg.LegKind.TheVariants.{ClientIn}
-use Rattle.rh_shell.specs.declared.answers.HeadRefused.{HeadRefused}
-use Rattle.rh_shell.specs.declared.answers.HeadTaken.{HeadTaken}
-use Rattle.rh_shell.specs.Rules.{Message, Text}
-use Rattle.rh_shell.specs.Shells.{same_leg}
+use Rattle.law_order.proofs.Vocabulary.{◌≡◌, ◌⊎◌, inl, inr, ℕ, ◌+◌, ◌≤◌, ◌==◌, List, [], ◌∷◌, ◌++◌, Bool, true, false, not, ◌&&◌, ◌||◌, Some, None, Ok, Err, arith, refl, sym, ap, ◌∙◌, subst, if◌then◌else◌, nat_le, IfSome, list_any-append, list_any, AllByRecursion, and_parts, eqb-true, or_left, Result}
 use Rattle.rh_inproxy.specs.declared.opening.TheConstants.{ECHO_LENGTH, GREATEST_LENGTHS}
 use Rattle.rh_inproxy.specs.declared.state.Handover.{Handover}
 use Rattle.rh_inproxy.specs.declared.state.Handover.TheVariants.{Before, Came, Passed}
@@ -23,7 +8,6 @@ use Rattle.rh_inproxy.specs.declared.state.Opening.{Opening}
 use Rattle.rh_inproxy.specs.declared.state.Opening.TheVariants.{AwaitsClient, AwaitsPacket, WantsServer, Announces, Announced}
 use Rattle.rh_inproxy.specs.declared.state.Successor.TheVariants.{Up}
 use Rattle.rh_inproxy.specs.declared.state.Work.{Work}
-use Rattle.rh_inproxy.specs.declared.state.Work.TheVariants as works
 use Rattle.rh_inproxy.specs.Answers.{Pick}
 use Rattle.rh_inproxy.specs.Ending.{settled_pick}
 use Rattle.rh_inproxy.specs.InReplacement.{has_passed}
@@ -31,21 +15,20 @@ use Rattle.rh_inproxy.specs.Machine.{rules}
 use Rattle.rh_inproxy.specs.Opening.{accepted, accepts, accepts_later, connected, channel_asked, echo_answer, echo_asked, echo_by, head_by, is_absent, may_accept, may_up, put_echo, up, wants, wants_server}
 use Rattle.rh_inproxy.specs.Putting.{next, put}
 use Rattle.rh_inproxy.specs.State.{InProxy, first, has_come, has_opened, is_client_leg, is_server_leg}
-use Rattle.law_moves.specs.Moves.{Move, OnLeg}
+use Rattle.rh_inproxy.specs.declared.state.Work.TheVariants as works
+use Rattle.law_moves.proofs.Vocabulary.{by_test, Cookie, HttpFault, Asked, request_verdict, Leg, ClientIn, HeadRefused, HeadTaken, Message, Text, same_leg, Move, OnLeg, IsNoText}
+use Rattle.law_moves.proofs.Lemmas.{itself, leg_is}
 use Rattle.law_moves.specs.Moves as moves
-use Rattle.law_moves.specs.ReadBack.Reading.{IsNoText}
+use Rattle.law_node_streams.proofs.Streams.Ways.{or_false as or_none}
 use Rattle.law_node_streams.specs.Streams.{is_up_on}
-use Rattle.law_node_begins.specs.ProxiesBegin.Pipes.{ci, is}
-use Rattle.law_node_begins.specs.ProxiesBegin.Reached.{came_up_by, IsKnown}
-use Rattle.law_node_begins.proofs.ProxiesBegin.Legs.{itself, leg_is, of_kind, each_append}
+use Rattle.law_node_begins.proofs.ProxiesBegin.Legs.{of_kind, each_append}
 use Rattle.law_node_begins.proofs.ProxiesBegin.Turning.{MovesKeep}
 use Rattle.law_node_begins.proofs.ProxiesBegin.InGoes.{Seen, seen, stays, newest_of, alone, not_client, Goes, GoesPut, FirstOn, pdu_goes, packet_goes, mark_goes, ping_goes, drawn_goes, server_goes}
+use Rattle.law_node_begins.proofs.ProxiesBegin.InTurns.{at_opening}
+use Rattle.law_node_begins.specs.ProxiesBegin.Pipes.{ci, is}
+use Rattle.law_node_begins.specs.ProxiesBegin.Reached.{came_up_by, IsKnown}
 
 -- ---- one move more
-
-or_none : (b : Bool) → (b || false) ≡ b
-or_none true = refl
-or_none false = refl
 
 any_append : {X : Type 0} (test : X → Bool) (xs : List X) (x : X)
     → list_any test (xs ++ x ∷ []) ≡ (list_any test xs || test x)
@@ -205,9 +188,6 @@ module _ (config : InProxyConfig) (before : List Move) (s : InProxy) (n : ℕ) (
             alone s.current s.successor may.1,
             eqb-true n (s.current.number + 1) may.0,
           )
-
-abbrev at_opening : InProxy → Opening → InProxy
-at_opening s o = record s { opening = o }
 
 accepted_reached : (config : InProxyConfig) (before : List Move) (s : InProxy) (o : Opening) (n : ℕ)
     (cookie : Cookie) → Reached config before (seen (at_opening s o)) → accepts s o n ≡ true

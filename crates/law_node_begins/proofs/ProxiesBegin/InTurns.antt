@@ -1,44 +1,27 @@
 -- where the moves of an in proxy are in their turn, it puts on each ci leg one answer at most,
 -- where a body is passed over
-use Rattle.std.proofs.Common.{◌≡◌, ◌⊎◌, inl, inr, ℕ, ◌==◌, List, [], ◌∷◌, ◌++◌, Bool, true, false, ◌&&◌, ◌||◌, Some, None, Ok, Err, refl, sym, ap, ◌∙◌, subst}
-use Rattle.std.specs.Prelude.{if◌then◌else◌, nat_le, IfSome}
-use Rattle.std.specs.declared.option.Option.{Option}
-use Rattle.std.specs.declared.result.Result.{Result}
-use Rattle.std.proofs.lemmas.Bool.{and_parts, eqb-true}
-use mathlib.Core.Path.{fun_ext}
-use Rattle.rh_http.specs.declared.fault.HttpFault.{HttpFault}
-use Rattle.rh_http.specs.Heads.Verdicts.{Asked, request_verdict}
-use Rattle.rh_sig.specs.declared.name.Pipe.TheVariants.{CiU, IsD}
-use Rattle.rh_line.specs.declared.leg.Leg.{Leg}
-use Rattle.rh_line.specs.declared.leg.LegKind.TheVariants.{ClientIn}
-use Rattle.law_order.proofs.ByNumber.{by_test}
-use Rattle.rh_shell.specs.declared.answers.HeadRefused.{HeadRefused}
-use Rattle.rh_shell.specs.declared.answers.HeadTaken.{HeadTaken}
-use Rattle.rh_shell.specs.declared.stage.Stage.{Stage}
+use Rattle.law_order.proofs.Vocabulary.{◌≡◌, ◌⊎◌, inl, inr, ℕ, ◌==◌, List, [], ◌∷◌, ◌++◌, Bool, true, false, ◌&&◌, ◌||◌, Some, None, Ok, Err, refl, sym, ap, ◌∙◌, subst, if◌then◌else◌, nat_le, IfSome, Option, Result, and_parts, eqb-true, fun_ext}
 use Rattle.rh_shell.specs.declared.stage.Stage.TheVariants as stage
-use Rattle.law_moves.specs.Moves.{OnLeg}
-use Rattle.rh_shell.specs.NearEnds.{first_stage}
-use Rattle.rh_shell.specs.Rules.{Message, Text}
-use Rattle.rh_shell.specs.Shells.{same_leg}
-use Rattle.law_moves.specs.Wires.{of_leg}
 use Rattle.rh_inproxy.specs.declared.opening.TheConstants.{ECHO_LENGTH}
 use Rattle.rh_inproxy.specs.declared.state.InProxyConfig.{InProxyConfig}
 use Rattle.rh_inproxy.specs.declared.state.Opening.{Opening}
 use Rattle.rh_inproxy.specs.declared.state.Opening.TheVariants.{AwaitsClient, AwaitsPacket, WantsServer, Announces, Announced}
 use Rattle.rh_inproxy.specs.declared.state.ClientLeg.{ClientLeg}
 use Rattle.rh_inproxy.specs.declared.state.Work.{Work}
-use Rattle.rh_inproxy.specs.declared.state.Work.TheVariants as works
 use Rattle.rh_inproxy.specs.Answers.{Pick}
 use Rattle.rh_inproxy.specs.Ending.{settled_pick}
 use Rattle.rh_inproxy.specs.Machine.{rules}
 use Rattle.rh_inproxy.specs.Opening.{accepted, accepts, wants_server, awaits_packet, connected, channel_asked, echo_answer, echo_asked, echo_by, head_by, is_absent, may_accept, may_up, pipe, put_echo, up, wants}
 use Rattle.rh_inproxy.specs.Putting.{next, put}
 use Rattle.rh_inproxy.specs.State.{InProxy, first, has_opened, is_client_leg, is_server_leg}
-use Rattle.law_node_begins.specs.ProxiesBegin.Pipes.{ci}
-use Rattle.law_moves.specs.Turns.{Stages, none_up, with_stage, behind_head, takes_frames}
-use Rattle.law_node_begins.proofs.ProxiesBegin.Legs.{itself, leg_is, of_kind, one_here, one_elsewhere}
+use Rattle.rh_inproxy.specs.declared.state.Work.TheVariants as works
+use Rattle.law_moves.proofs.Vocabulary.{by_test, CiU, IsD, HttpFault, Asked, request_verdict, Leg, ClientIn, HeadRefused, HeadTaken, Stage, first_stage, Message, Text, same_leg, OnLeg, of_leg, Stages, none_up, with_stage, takes_frames}
+use Rattle.law_moves.proofs.Lemmas.{itself, leg_is}
+use Rattle.law_moves.specs.Turns.{behind_head}
+use Rattle.law_node_begins.proofs.ProxiesBegin.Legs.{of_kind, one_here, one_elsewhere}
 use Rattle.law_node_begins.proofs.ProxiesBegin.Turning.{TurnsKeep, stage_each}
 use Rattle.law_node_begins.proofs.ProxiesBegin.InGoes.{Seen, seen, newest_of, alone, not_client, Goes, GoesPut, FirstOn, pdu_goes, packet_goes, mark_goes, ping_goes, drawn_goes, server_goes}
+use Rattle.law_node_begins.specs.ProxiesBegin.Pipes.{ci}
 
 -- what was put on a ci leg: nothing, or the answer where a body is passed over
 abbrev pub IsAnswered : Option Stage → List Message → Type 0
@@ -173,7 +156,7 @@ record IsUp (a b : Seen) : Type 0 where
   current : b.current ≡ a.current
   behind : has_opened a.opening ≡ false → b.successor ≡ a.successor
 
-abbrev at_opening : InProxy → Opening → InProxy
+abbrev pub at_opening : InProxy → Opening → InProxy
 at_opening s o = record s { opening = o }
 
 accepted_up : (s : InProxy) (o : Opening) (n : ℕ) → accepts s o n ≡ true

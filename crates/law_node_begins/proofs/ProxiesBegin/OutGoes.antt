@@ -1,30 +1,11 @@
 -- what the rows and puts of an out proxy leave as it is, or change in one way
-use Rattle.std.proofs.Common.{◌≡◌, ◌⊎◌, inl, inr, ℕ, ◌+◌, List, [], ◌∷◌, length, Bool, true, false, ◌&&◌, Some, None, refl, ap, ◌∙◌, rules}
-use Rattle.std.specs.Prelude.{if◌then◌else◌, IfSome, nat_le}
-use Rattle.std.specs.declared.option.Option.{Option}
-use Rattle.std.proofs.lemmas.Bool.{and_parts}
-use Rattle.rh_window.specs.Sending.{may_send}
-use Rattle.rh_window.specs.declared.recv_window.Ack.{Ack}
-use Rattle.law_order.proofs.ByNumber.{by_test}
-use Rattle.rh_rts.specs.declared.command.Cookie.{Cookie}
-use Rattle.rh_sig.specs.declared.named.Named.{Named}
-use Rattle.rh_sig.specs.declared.named.Named.TheVariants.{ConnA1, OutR1A3, OutR2C1}
-use Rattle.rh_http.specs.Heads.Verdicts.{Asked}
-use Rattle.rh_line.specs.Lines.{is_empty}
-use Rattle.rh_line.specs.declared.leg.Leg.{Leg}
-use Rattle.rh_shell.specs.declared.answers.Count.{Count}
-use Rattle.rh_shell.specs.declared.due.Due.{Due}
-use Rattle.rh_shell.specs.Rules.{Message}
+use Rattle.law_order.proofs.Vocabulary.{◌≡◌, ◌⊎◌, inl, inr, ℕ, ◌+◌, List, [], ◌∷◌, length, Bool, true, false, ◌&&◌, Some, None, refl, ap, ◌∙◌, rules, if◌then◌else◌, IfSome, nat_le, Option, and_parts}
 use Rattle.rh_outproxy.specs.declared.state.Answer.{Answer}
 use Rattle.rh_outproxy.specs.declared.state.Channel.{Channel}
-use Rattle.rh_outproxy.specs.declared.state.Channel.TheVariants as channels
 use Rattle.rh_outproxy.specs.declared.state.Mark.{Mark}
-use Rattle.rh_outproxy.specs.declared.state.Mark.TheVariants as marks
 use Rattle.rh_outproxy.specs.declared.state.OutProxyConfig.{OutProxyConfig}
 use Rattle.rh_outproxy.specs.declared.state.Ping.{Ping}
-use Rattle.rh_outproxy.specs.declared.state.Ping.TheVariants as pings
 use Rattle.rh_outproxy.specs.declared.state.ServerLeg.{ServerLeg}
-use Rattle.rh_outproxy.specs.declared.state.ServerLeg.TheVariants as servers
 use Rattle.rh_outproxy.specs.OutProxy.{OutProxy, is_server_down, is_server_first, is_due, is_ping_due, joined}
 use Rattle.rh_outproxy.specs.Rows.{Done, is_co, is_first, taken, unexpected}
 use Rattle.rh_outproxy.specs.Opening.{first_packet, new_length, on_out_r2_c1, opened, successor_length, told_length}
@@ -32,7 +13,11 @@ use Rattle.rh_outproxy.specs.Acknowledging.{ack_due}
 use Rattle.rh_outproxy.specs.Ending.{mark}
 use Rattle.rh_outproxy.specs.Machine.{packet, pdu, on_co, on_os}
 use Rattle.rh_outproxy.specs.Putting.{Pick, or_else, ping_room, waiting_by, put_waiting, pdu_by, put_pdu, put_end, put_handover, put_mark, put_ping, first_by, put_first, ack_by, put_ack, next_os}
-use Rattle.law_moves.specs.ReadBack.Reading.{IsNoText}
+use Rattle.rh_outproxy.specs.declared.state.Channel.TheVariants as channels
+use Rattle.rh_outproxy.specs.declared.state.Mark.TheVariants as marks
+use Rattle.rh_outproxy.specs.declared.state.Ping.TheVariants as pings
+use Rattle.rh_outproxy.specs.declared.state.ServerLeg.TheVariants as servers
+use Rattle.law_moves.proofs.Vocabulary.{may_send, Ack, by_test, Cookie, Named, ConnA1, OutR1A3, OutR2C1, Asked, is_empty, Leg, Count, Due, Message, IsNoText}
 
 -- what these facts are about
 pub record Seen : Type 0 where
@@ -99,9 +84,6 @@ serves s t e = record {
   answer = ap (λ (k : Kept). k.answer) e;
   server = λ up. ap (λ (k : Kept). is_server_down k.server) e ∙ up;
 }
-
-pub stays : (a : Seen) → Serves a a
-stays a = record { config = refl; request = refl; answer = refl; server = λ up. up }
 
 same_os : (s : OutProxy) (named : Named) → kept (on_os s named).0 ≡ kept s
 same_os s named = search rules

@@ -1,39 +1,26 @@
 -- what an out proxy puts, reads and refuses, from its start
-use Rattle.std.proofs.Common.{◌≡◌, inl, inr, ℕ, List, [], ◌∷◌, Bool, true, false, ◌&&◌, Some, None, refl, sym, ap, ◌∙◌, subst}
-use Rattle.std.specs.Prelude.{if◌then◌else◌}
-use Rattle.std.proofs.lemmas.Bool.{and_parts}
-use Rattle.std.specs.List.{AllByRecursion}
-use Rattle.rh_sig.specs.declared.name.Pipe.TheVariants.{CoD, CoU, OsD}
-use Rattle.rh_http.specs.Texts.{response_text}
-use Rattle.rh_line.specs.declared.leg.Leg.{Leg}
+use Rattle.law_order.proofs.Vocabulary.{◌≡◌, inl, inr, ℕ, List, [], ◌∷◌, Bool, true, false, ◌&&◌, Some, None, refl, sym, ap, ◌∙◌, subst, if◌then◌else◌, and_parts, AllByRecursion}
 use Rattle.rh_shell.specs.declared.stage.Stage.TheVariants as stage
-use Rattle.rh_shell.specs.Intakes.{is_whole_head}
-use Rattle.rh_shell.specs.NearEnds.{first_stage}
-use Rattle.rh_shell.specs.Rules.{Message, Text}
-use Rattle.rh_shell.specs.Shells.{same_leg}
 use Rattle.rh_outproxy.specs.declared.state.Answer.{Answer}
-use Rattle.rh_outproxy.specs.declared.state.Answer.TheVariants as answers
 use Rattle.rh_outproxy.specs.declared.state.OutProxyConfig.{OutProxyConfig}
 use Rattle.rh_outproxy.specs.Machine.{rules}
 use Rattle.rh_outproxy.specs.Opening.{pipe}
 use Rattle.rh_outproxy.specs.OutProxy.{OutProxy, is_client_up, is_known, is_server_down, new_proxy}
 use Rattle.rh_outproxy.specs.Putting.{echo_text}
 use Rattle.rh_outproxy.specs.Rows.{is_os}
-use Rattle.law_moves.specs.Moves.{Move, OnLeg, Passage, started, all_moved, AreAllowed}
-use Rattle.law_moves.specs.Wires.{of_leg}
-use Rattle.law_moves.specs.ReadBack.Reading.{Begins, AreNoTexts, IsNoText, IsWholeText, ReadsNothing}
-use Rattle.law_moves.specs.ReadBack.Well.{Answers, IsWellText, TextIsWell}
-use Rattle.law_moves.proofs.ReadBack.NoTexts.{no_texts_well}
-use Rattle.law_moves.specs.Turns.{Stages, none_up, AreInTurn, RefusesInTurn}
+use Rattle.rh_outproxy.specs.declared.state.Answer.TheVariants as answers
+use Rattle.law_moves.proofs.Vocabulary.{CoD, CoU, OsD, response_text, Leg, is_whole_head, first_stage, Message, Text, same_leg, Move, OnLeg, Passage, started, all_moved, AreAllowed, of_leg, Begins, AreNoTexts, IsNoText, IsWholeText, ReadsNothing, Answers, IsWellText, TextIsWell, Stages, none_up, AreInTurn, RefusesInTurn}
+use Rattle.law_moves.proofs.Lemmas.{no_texts_well, itself, leg_is}
+use Rattle.law_node_streams.proofs.Streams.Staging.{all_stages}
 use Rattle.law_node_streams.specs.Streams.{HasPipes, RefusesFirst}
-use Rattle.law_node_begins.specs.ProxiesBegin.Pipes.{co, os, out_pipe}
-use Rattle.law_node_begins.proofs.ProxiesBegin.Legs.{itself, leg_is, none_of, each_of}
-use Rattle.law_node_begins.proofs.ProxiesBegin.Turning.{IsUnheard, all_keep, all_stages, all_turns_keep, unheard}
+use Rattle.law_node_begins.proofs.ProxiesBegin.Legs.{none_of, each_of}
+use Rattle.law_node_begins.proofs.ProxiesBegin.Turning.{IsUnheard, all_keep, all_turns_keep, unheard}
 use Rattle.law_node_begins.proofs.ProxiesBegin.OutGoes.{Seen, seen}
 use Rattle.law_node_begins.proofs.ProxiesBegin.OutTurns.{AnswersAt, IsResponse, Stands, is_unheard}
 use Rattle.law_node_begins.proofs.ProxiesBegin.OutRole.{wanted_stands, none_put}
 use Rattle.law_node_begins.proofs.ProxiesBegin.OutPuts.{out_starts, out_turns_keep}
 use Rattle.law_node_begins.proofs.ProxiesBegin.OutMoves.{MayPut, Runs, out_moves_keep}
+use Rattle.law_node_begins.specs.ProxiesBegin.Pipes.{co, os, out_pipe}
 
 -- what was put to the client begins with a whole response, or is one in which nothing is read
 begins_by : ((n : ℕ) → IsWholeText is_whole_head (response_text n))

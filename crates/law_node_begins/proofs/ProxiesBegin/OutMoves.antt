@@ -1,30 +1,19 @@
 -- what every move of an out proxy keeps: its configuration, and on which legs it puts texts
-use Rattle.std.proofs.Common.{◌≡◌, ◌⊎◌, inl, inr, ℕ, List, [], ◌∷◌, ◌++◌, true, false, Some, None, refl, ap, ◌∙◌, subst, rules}
-use Rattle.std.specs.Prelude.{if◌then◌else◌, IfSome}
-use Rattle.std.specs.List.{AllByRecursion}
-use Rattle.law_order.proofs.ByNumber.{by_test}
-use Rattle.rh_rts.specs.declared.command.Cookie.{Cookie}
-use Rattle.rh_sig.specs.declared.named.Named.{Named}
-use Rattle.rh_line.specs.declared.leg.Leg.{Leg}
-use Rattle.rh_shell.specs.declared.answers.Count.{Count}
-use Rattle.rh_shell.specs.Rules.{Message}
-use Rattle.rh_shell.specs.Shells.{same_leg}
+use Rattle.law_order.proofs.Vocabulary.{◌≡◌, ◌⊎◌, inl, inr, ℕ, List, [], ◌∷◌, ◌++◌, true, false, Some, None, refl, ap, ◌∙◌, subst, rules, if◌then◌else◌, IfSome, AllByRecursion}
 use Rattle.rh_outproxy.specs.declared.state.Answer.{Answer}
-use Rattle.rh_outproxy.specs.declared.state.Answer.TheVariants as answers
 use Rattle.rh_outproxy.specs.declared.state.OutProxyConfig.{OutProxyConfig}
 use Rattle.rh_outproxy.specs.OutProxy.{OutProxy, is_server_down}
 use Rattle.rh_outproxy.specs.Rows.{Done, is_co, is_os, unexpected}
 use Rattle.rh_outproxy.specs.Opening.{head, up}
 use Rattle.rh_outproxy.specs.Ending.{drawn}
-use Rattle.rh_outproxy.specs.Machine.{packet, on_co, on_os}
-use Rattle.rh_outproxy.specs.Machine.{rules as proxy_rules}
+use Rattle.rh_outproxy.specs.Machine.{packet, on_co, on_os, rules as proxy_rules}
 use Rattle.rh_outproxy.specs.Putting.{Pick, answer_by, next_co, next_os, or_else, put, put_answer}
-use Rattle.law_moves.specs.Moves.{Move, OnLeg}
-use Rattle.law_moves.specs.ReadBack.Reading.{IsNoText}
-use Rattle.law_node_begins.specs.ProxiesBegin.Pipes.{co, os}
+use Rattle.rh_outproxy.specs.declared.state.Answer.TheVariants as answers
+use Rattle.law_moves.proofs.Vocabulary.{by_test, Cookie, Named, Leg, Count, Message, same_leg, Move, OnLeg, IsNoText}
 use Rattle.law_node_begins.proofs.ProxiesBegin.Legs.{each_append}
 use Rattle.law_node_begins.proofs.ProxiesBegin.Turning.{MovesKeep}
 use Rattle.law_node_begins.proofs.ProxiesBegin.OutGoes.{Seen, seen, ServesPut, ServerPut, Serves, later_serves, mark_serves, os_put, os_serves, pdu_serves, put_later}
+use Rattle.law_node_begins.specs.ProxiesBegin.Pipes.{co, os}
 
 -- on the client's leg anything, and on the server's no text
 abbrev pub MayPut : OutProxyConfig → OnLeg → Type 0

@@ -1,30 +1,22 @@
 -- what an out proxy puts, where its moves are in their turn
-use Rattle.std.proofs.Common.{◌≡◌, ◌⊎◌, inl, inr, ℕ, List, [], ◌∷◌, ◌++◌, true, false, Some, None, refl, sym, ap, ◌∙◌, subst}
-use Rattle.std.specs.Prelude.{if◌then◌else◌, IfSome}
-use Rattle.law_order.proofs.ByNumber.{by_test}
-use Rattle.rh_http.specs.Heads.Verdicts.{request_verdict}
-use Rattle.rh_line.specs.declared.leg.Leg.{Leg}
-use Rattle.rh_shell.specs.Rules.{Message, Text}
-use Rattle.rh_shell.specs.Shells.{same_leg}
+use Rattle.law_order.proofs.Vocabulary.{◌≡◌, ◌⊎◌, inl, inr, ℕ, List, [], ◌∷◌, ◌++◌, true, false, Some, None, refl, sym, ap, ◌∙◌, subst, if◌then◌else◌, IfSome}
 use Rattle.rh_outproxy.specs.declared.state.Answer.{Answer}
-use Rattle.rh_outproxy.specs.declared.state.Answer.TheVariants as answers
 use Rattle.rh_outproxy.specs.declared.state.Channel.{Channel}
-use Rattle.rh_outproxy.specs.declared.state.Channel.TheVariants as channels
 use Rattle.rh_outproxy.specs.declared.state.OutProxyConfig.{OutProxyConfig}
 use Rattle.rh_outproxy.specs.OutProxy.{OutProxy, is_server_down, new_proxy}
 use Rattle.rh_outproxy.specs.Rows.{is_co, is_os}
 use Rattle.rh_outproxy.specs.Machine.{rules}
 use Rattle.rh_outproxy.specs.Putting.{Pick, answer_by, behind_response, echo_text, next_co, next_os, or_else, out_response, put}
-use Rattle.law_moves.specs.Moves.{OnLeg}
-use Rattle.law_moves.specs.Wires.{of_leg}
-use Rattle.law_moves.specs.ReadBack.Reading.{IsNoText}
-use Rattle.law_moves.specs.Turns.{Stages, none_up}
-use Rattle.law_node_begins.specs.ProxiesBegin.Pipes.{co}
-use Rattle.law_node_begins.proofs.ProxiesBegin.Legs.{each_append, itself, one_here, one_elsewhere}
+use Rattle.rh_outproxy.specs.declared.state.Answer.TheVariants as answers
+use Rattle.rh_outproxy.specs.declared.state.Channel.TheVariants as channels
+use Rattle.law_moves.proofs.Vocabulary.{by_test, request_verdict, Leg, Message, Text, same_leg, OnLeg, of_leg, IsNoText, Stages, none_up}
+use Rattle.law_moves.proofs.Lemmas.{itself}
+use Rattle.law_node_begins.proofs.ProxiesBegin.Legs.{each_append, one_here, one_elsewhere}
 use Rattle.law_node_begins.proofs.ProxiesBegin.Turning.{TurnsKeep}
 use Rattle.law_node_begins.proofs.ProxiesBegin.OutGoes.{Seen, seen, IsQuiet, Serves, ServesPut, ServerPut, later_serves, nothing_later, os_put, put_later}
 use Rattle.law_node_begins.proofs.ProxiesBegin.OutTurns.{Answers, AnswersAt, IsResponse, Stands, length_of, packet_answers, pdu_answers, mark_answers, ping_answers, serves_on, serves_answers}
 use Rattle.law_node_begins.proofs.ProxiesBegin.OutRole.{here, there, up_answers, head_answers, drawn_answers}
+use Rattle.law_node_begins.specs.ProxiesBegin.Pipes.{co}
 
 -- one more that is no text
 grows_by : (on : List Message) (m : Message) → IsNoText m → (n : ℕ) → IsResponse n on

@@ -1,46 +1,23 @@
 -- legs, heads and puts of an out proxy whose moves are in their turn
-use Rattle.std.proofs.Common.{◌≡◌, ℕ, List, [], ◌∷◌, Bool, true, false, ◌&&◌, ◌||◌, Some, None, Ok, Err, refl, sym, ap, ◌∙◌, subst}
-use Rattle.std.specs.Prelude.{if◌then◌else◌, nat_le}
-use Rattle.std.specs.declared.option.Option.{Option}
-use Rattle.std.specs.declared.result.Result.{Result}
-use Rattle.std.proofs.lemmas.Bool.{and_parts}
-use Rattle.law_order.proofs.ByNumber.{by_test}
-use Rattle.rh_rts.specs.declared.command.Cookie.{Cookie}
-use Rattle.rh_sig.specs.declared.name.Pipe.TheVariants.{CoU, OsD}
-use Rattle.rh_http.specs.declared.fault.HttpFault.{HttpFault}
-use Rattle.rh_http.specs.Lengths.{greatest_echo}
-use Rattle.rh_http.specs.Heads.Verdicts.{Asked}
-use Rattle.rh_line.specs.declared.leg.Leg.{Leg}
-use Rattle.rh_shell.specs.declared.answers.Behind.TheVariants.{Frames, PassedOver}
-use Rattle.rh_shell.specs.declared.answers.HeadRefused.{HeadRefused}
-use Rattle.rh_shell.specs.declared.answers.HeadTaken.{HeadTaken}
-use Rattle.rh_shell.specs.declared.stage.Stage.{Stage}
+use Rattle.law_order.proofs.Vocabulary.{◌≡◌, List, [], ◌∷◌, Bool, true, false, ◌&&◌, ◌||◌, Some, None, Ok, Err, refl, sym, ap, ◌∙◌, subst, if◌then◌else◌, nat_le, Option, Result, and_parts}
 use Rattle.rh_shell.specs.declared.stage.Stage.TheVariants as stage
-use Rattle.rh_shell.specs.NearEnds.{first_stage}
-use Rattle.rh_shell.specs.Rules.{Message, Text}
-use Rattle.rh_shell.specs.Shells.{same_leg}
 use Rattle.rh_outproxy.specs.declared.state.Answer.{Answer}
-use Rattle.rh_outproxy.specs.declared.state.Answer.TheVariants as answers
-use Rattle.rh_outproxy.specs.declared.state.ClientLeg.TheVariants as clients
 use Rattle.rh_outproxy.specs.declared.state.OutProxyConfig.{OutProxyConfig}
-use Rattle.rh_outproxy.specs.declared.state.ServerLeg.TheVariants as servers
 use Rattle.rh_outproxy.specs.OutProxy.{OutProxy, is_client_down, is_echo_put, is_known, is_server_down}
 use Rattle.rh_outproxy.specs.Rows.{is_co, is_os}
 use Rattle.rh_outproxy.specs.Opening.{head_by, may_up, pipe, up, wants}
 use Rattle.rh_outproxy.specs.Ending.{drawn}
 use Rattle.rh_outproxy.specs.Putting.{echo_text}
-use Rattle.law_moves.specs.Moves.{OnLeg}
-use Rattle.law_moves.specs.Wires.{of_leg}
-use Rattle.law_moves.specs.Turns.{Stages, with_stage, behind_head, takes_frames}
-use Rattle.law_node_begins.specs.ProxiesBegin.Pipes.{co, os}
-use Rattle.law_node_begins.proofs.ProxiesBegin.Legs.{itself, leg_is}
+use Rattle.rh_outproxy.specs.declared.state.Answer.TheVariants as answers
+use Rattle.rh_outproxy.specs.declared.state.ClientLeg.TheVariants as clients
+use Rattle.rh_outproxy.specs.declared.state.ServerLeg.TheVariants as servers
+use Rattle.law_moves.proofs.Vocabulary.{by_test, Cookie, CoU, OsD, HttpFault, greatest_echo, Asked, Leg, Frames, PassedOver, HeadRefused, HeadTaken, Stage, first_stage, Message, Text, same_leg, OnLeg, of_leg, Stages, with_stage, takes_frames}
+use Rattle.law_moves.proofs.Lemmas.{itself, leg_is}
+use Rattle.law_moves.specs.Turns.{behind_head}
 use Rattle.law_node_begins.proofs.ProxiesBegin.Turning.{stage_each}
 use Rattle.law_node_begins.proofs.ProxiesBegin.OutGoes.{Seen, seen, IsQuiet}
 use Rattle.law_node_begins.proofs.ProxiesBegin.OutTurns.{Answers, AnswersAt, IsEcho, IsUnasked, Stands, both_ways, is_down, is_unheard}
-
--- the leg to the client and that to the server are two
-apart : (n m : ℕ) → same_leg (co n) (os m) ≡ false
-apart n m = refl
+use Rattle.law_node_begins.specs.ProxiesBegin.Pipes.{co, os}
 
 -- where no request came, nothing was put to the client
 pub none_put : (x : Answer) (a : Seen) (on : List Message) → x ≡ answers.Awaited → Stands x a on

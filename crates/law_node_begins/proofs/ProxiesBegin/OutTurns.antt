@@ -1,21 +1,9 @@
 -- where the moves of an out proxy are in their turn, its response goes first to the client, or the
 -- answer to an echo request alone
-use Rattle.std.proofs.Common.{◌≡◌, ◌⊎◌, inl, inr, ℕ, ◌+◌, List, [], ◌∷◌, Bool, true, false, ◌&&◌, ◌||◌, Some, None, refl, sym, ap, ◌∙◌, subst}
-use Rattle.std.specs.Prelude.{if◌then◌else◌, is_some}
-use Rattle.std.specs.declared.option.Option.{Option}
-use Rattle.law_order.proofs.ByNumber.{by_test}
-use Rattle.rh_sig.specs.declared.named.Named.{Named}
-use Rattle.rh_http.specs.Texts.{response_text}
-use Rattle.rh_http.specs.Heads.Verdicts.{Asked}
-use Rattle.rh_line.specs.declared.leg.Leg.{Leg}
-use Rattle.rh_shell.specs.declared.answers.Count.{Count}
-use Rattle.rh_shell.specs.declared.stage.Stage.{Stage}
+use Rattle.law_order.proofs.Vocabulary.{◌≡◌, ◌⊎◌, inl, inr, ℕ, ◌+◌, List, [], ◌∷◌, Bool, true, false, ◌&&◌, ◌||◌, Some, None, refl, sym, ap, ◌∙◌, subst, if◌then◌else◌, is_some, Option}
 use Rattle.rh_shell.specs.declared.stage.Stage.TheVariants as stage
-use Rattle.rh_shell.specs.Rules.{Message, Text}
 use Rattle.rh_outproxy.specs.declared.state.Answer.{Answer}
-use Rattle.rh_outproxy.specs.declared.state.Answer.TheVariants as answers
 use Rattle.rh_outproxy.specs.declared.state.Channel.{Channel}
-use Rattle.rh_outproxy.specs.declared.state.Channel.TheVariants as channels
 use Rattle.rh_outproxy.specs.declared.state.OutProxyConfig.{OutProxyConfig}
 use Rattle.rh_outproxy.specs.OutProxy.{OutProxy, is_put, is_response_put, is_server_down}
 use Rattle.rh_outproxy.specs.Rows.{Done, is_co, is_os, unexpected}
@@ -24,13 +12,12 @@ use Rattle.rh_outproxy.specs.Ending.{mark, only_marks}
 use Rattle.rh_outproxy.specs.Machine.{packet, pdu, on_co, on_os}
 use Rattle.rh_outproxy.specs.Putting.{echo_text, ping_room, put}
 use Rattle.rh_outproxy.specs.Time.{ping, ping_after}
-use Rattle.law_moves.specs.Moves.{OnLeg}
-use Rattle.law_moves.specs.Wires.{of_leg}
-use Rattle.law_moves.specs.ReadBack.Reading.{AreNoTexts}
-use Rattle.law_moves.specs.Turns.{Stages, takes_frames}
-use Rattle.law_node_begins.specs.ProxiesBegin.Pipes.{co, os}
-use Rattle.law_node_begins.proofs.ProxiesBegin.Legs.{leg_is}
+use Rattle.rh_outproxy.specs.declared.state.Answer.TheVariants as answers
+use Rattle.rh_outproxy.specs.declared.state.Channel.TheVariants as channels
+use Rattle.law_moves.proofs.Vocabulary.{by_test, Named, response_text, Asked, Leg, Count, Stage, Message, Text, OnLeg, of_leg, AreNoTexts, Stages, takes_frames}
+use Rattle.law_moves.proofs.Lemmas.{leg_is}
 use Rattle.law_node_begins.proofs.ProxiesBegin.OutGoes.{Seen, seen, IsQuiet, Serves, Opens, os_serves, pdu_serves, mark_serves, co_goes}
+use Rattle.law_node_begins.specs.ProxiesBegin.Pipes.{co, os}
 
 -- ---- what was put to the client
 

@@ -1,25 +1,11 @@
 -- what each function of a role keeps, its moves keep; and in their turn
-use Rattle.std.proofs.Common.{◌≡◌, ◌⊎◌, inl, inr, ℕ, List, [], ◌∷◌, ◌++◌, cond, Bool, true, false, Some, None, Ok, Err, refl, sym, ap, ◌∙◌, subst, append_assoc}
-use Rattle.std.specs.Prelude.{IfSome, is_some}
-use Rattle.std.specs.List.{list_any}
-use Rattle.std.specs.declared.option.Option.{Option}
-use Rattle.std.proofs.lemmas.List.{append-nil}
-use Rattle.std.proofs.lemmas.Bool.{or_parts}
-use Rattle.law_order.proofs.ByNumber.{by_test}
-use Rattle.rh_rts.specs.declared.command.Cookie.{Cookie}
-use Rattle.rh_sig.specs.declared.name.Pipe.{Pipe}
-use Rattle.rh_sig.specs.declared.named.Named.{Named}
-use Rattle.rh_line.specs.declared.leg.Leg.{Leg}
-use Rattle.rh_shell.specs.declared.answers.Count.{Count}
-use Rattle.rh_shell.specs.declared.stage.Stage.{Stage}
+use Rattle.law_order.proofs.Vocabulary.{◌≡◌, ◌⊎◌, inl, inr, ℕ, List, [], ◌∷◌, ◌++◌, cond, Bool, true, false, Some, None, Ok, Err, refl, sym, ap, ◌∙◌, subst, append_assoc, IfSome, is_some, list_any, Option, append-nil, or_parts}
 use Rattle.rh_shell.specs.declared.stage.Stage.TheVariants as stage
-use Rattle.rh_shell.specs.NearEnds.{first_stage}
-use Rattle.rh_shell.specs.Rules.{Rules, Row, Message, Pdu, Packet}
-use Rattle.rh_shell.specs.Shells.{same_leg}
-use Rattle.law_moves.specs.Moves.{Move, Up, HeadCame, PduCame, PacketCame, Puts, IsDrawn, Marks, Pings, OnLeg, Passage, MayMove, AreAllowed, moved, all_moved, started, taken_by, put_by}
-use Rattle.law_moves.specs.Turns.{Stages, none_up, with_stage, behind_head, stages_after, takes_frames, IsInTurn, AreInTurn, AreInTurnFrom}
+use Rattle.law_moves.proofs.Vocabulary.{by_test, Cookie, Pipe, Named, Leg, Count, Stage, first_stage, Rules, Row, Message, Pdu, Packet, same_leg, Move, Up, HeadCame, PduCame, PacketCame, Puts, IsDrawn, Marks, Pings, OnLeg, Passage, MayMove, AreAllowed, moved, all_moved, started, taken_by, put_by, Stages, none_up, with_stage, stages_after, takes_frames, IsInTurn, AreInTurn, AreInTurnFrom}
+use Rattle.law_moves.proofs.Lemmas.{leg_is}
+use Rattle.law_moves.specs.Turns.{behind_head}
+use Rattle.law_node_streams.proofs.Streams.Staging.{all_stages}
 use Rattle.law_node_streams.specs.Streams.{is_head_on}
-use Rattle.law_node_begins.proofs.ProxiesBegin.Legs.{leg_is}
 
 -- ---- moves
 
@@ -123,12 +109,6 @@ pub record TurnsKeep {S : Type 0} (rules : Rules S) (P : Stages → S → List O
       → rules.only_marks s leg ≡ true → P g (rules.mark s leg) put
   pub ping : (g : Stages) (s : S) (put : List OnLeg) (leg : Leg) → P g s put
       → is_some (rules.ping_after s leg) ≡ true → P g (rules.ping s leg) put
-
--- what comes next on each leg behind moves
-abbrev pub all_stages : {S : Type 0} → Rules S → Passage S → Stages → List Move → Stages
-all_stages rules p g [] = g
-all_stages rules p g (move ∷ moves) =
-    all_stages rules (moved rules p move) (stages_after rules p.role g move) moves
 
 module _ {S : Type 0} (rules : Rules S) (P : Stages → S → List OnLeg → Type 0)
     (law : TurnsKeep rules P) where

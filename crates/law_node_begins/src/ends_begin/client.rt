@@ -10,7 +10,7 @@ ghost use Rattle.law_moves.specs.Wires.{of_leg};
 ghost use Rattle.law_moves.specs.ReadBack.Well.{Answers, IsWellText};
 ghost use Rattle.law_role_client.specs.Legible.{pipe_put};
 ghost use Rattle.law_role_client.specs.Order.{AreAllowedMoves, client_moved};
-ghost use Rattle.law_node_begins.specs.EndsBegin.{Asks, BeginsLegs, WritesOnUp};
+ghost use Rattle.law_node_begins.specs.EndsBegin.{Asks, BeginsLegs};
 
 use law_moves::{texts_are_whole, texts_read_well};
 
@@ -44,10 +44,3 @@ pub fn what_a_client_puts_first_reads_well()
     texts_are_whole();
     texts_read_well();
 }
-
-/// It puts messages only on the leg of an IN channel that came up; and once it writes on another
-/// channel than the first, the legs of that one and of all before it came up.
-pub fn a_client_writes_on_a_leg_that_came_up()
-    ensures { (config : ClientConfig) (moves : List EndMove) → AreAllowedMoves config moves
-        → WritesOnUp moves (client_moved config moves) }
-{}

@@ -1,14 +1,13 @@
 //! What an in proxy puts first on each leg. These functions do nothing: their contracts are the
 //! laws.
 
-ghost use Rattle.std.specs.Prelude.{ℕ, ◌≡◌, ◌≤◌, List, [], true, false, Some, None};
+ghost use Rattle.std.specs.Prelude.{ℕ, ◌≡◌, List, [], false, Some, None};
 ghost use Rattle.std.specs.List.{AllByRecursion};
 ghost use Rattle.std.specs.List.{AllByRecursion};
 ghost use Rattle.rh_sig.specs.declared.name.Pipe.TheVariants.{IsU};
 ghost use Rattle.rh_line.specs.declared.leg.Leg.{Leg};
 ghost use Rattle.rh_shell.specs.Shells.{same_leg};
 ghost use Rattle.rh_inproxy.specs.declared.state.InProxyConfig.{InProxyConfig};
-ghost use Rattle.rh_inproxy.specs.InReplacement.{has_passed};
 ghost use Rattle.rh_inproxy.specs.Machine.{rules};
 ghost use Rattle.rh_inproxy.specs.State.{first, is_client_leg};
 ghost use Rattle.law_moves.specs.Moves.{Move, started, all_moved, AreAllowed};
@@ -19,7 +18,6 @@ ghost use Rattle.law_moves.specs.Turns.{AreInTurn, RefusesInTurn};
 ghost use Rattle.law_node_streams.specs.Streams.{RefusesFirst};
 ghost use Rattle.law_node_begins.specs.ProxiesBegin.Echoes.{AsksNoEcho};
 ghost use Rattle.law_node_begins.specs.ProxiesBegin.Pipes.{ci, is, in_pipe};
-ghost use Rattle.law_node_begins.specs.ProxiesBegin.Reached.{IsKnown, came_up_by};
 
 use law_moves::{heads_have_no_messages, texts_are_whole, texts_read_well};
 
@@ -75,21 +73,4 @@ pub fn an_in_proxy_refuses_first()
         → RefusesInTurn rules (first config) (in_pipe config) (ci number) }
     ensures elsewhere { (config : InProxyConfig) (leg : Leg) → is_client_leg leg ≡ false
         → RefusesFirst rules (first config) (in_pipe config) leg }
-{}
-
-/// The current ci leg of an in proxy is the first one, or it came up.
-pub fn an_in_proxy_reads_what_came_up()
-    ensures { (config : InProxyConfig) (moves : List Move)
-        → AreAllowed rules (started (first config)) moves
-        → IsKnown config moves
-        (all_moved rules (started (first config)) moves).role.current.number }
-{}
-
-/// Where IN_R1/A6 was put, no ci leg came up behind the current one.
-pub fn an_in_proxy_hands_over_behind_its_legs()
-    ensures { (config : InProxyConfig) (moves : List Move) (number : ℕ)
-        → AreAllowed rules (started (first config)) moves
-        → has_passed (all_moved rules (started (first config)) moves).role.handover ≡ true
-        → came_up_by (ci number) moves ≡ true
-        → number ≤ (all_moved rules (started (first config)) moves).role.current.number }
 {}

@@ -1,18 +1,8 @@
 -- what each step of a role keeps while it works, its moves keep that are allowed; by what is known
 -- behind all moves, where a leg is marked
-use Rattle.std.proofs.Common.{◌≡◌, ℕ, List, [], ◌∷◌, true, not, Some, None, Ok, Err}
-use Rattle.std.proofs.lemmas.Bool.{and_parts}
-use Rattle.std.specs.List.{AllByRecursion}
-use Rattle.std.specs.declared.option.Option.{Option}
-use Rattle.std.specs.declared.result.Result.{Result}
-use Rattle.rh_rts.specs.declared.command.Cookie.{Cookie}
-use Rattle.rh_sig.specs.declared.named.Named.{Named}
-use Rattle.rh_line.specs.declared.leg.Leg.{Leg}
-use Rattle.rh_shell.specs.declared.answers.Count.{Count}
-use Rattle.rh_shell.specs.declared.end_role.GiveRefused.{GiveRefused}
-use Rattle.rh_shell.specs.Rules.{Rules, Acts, Row, Message, Pdu, Packet}
-use Rattle.law_moves.specs.Moves.{AreAllowed, AreAllowedAtEnd, MayEndMove, MayMove, OnLeg, Move, Up, HeadCame, PduCame, PacketCame, Puts, IsDrawn, Marks, Pings, Passage, is_at_work, moved, all_moved, taken_by, put_by, EndMove, Moves, Gives, Takes, Closes, Recycles, EndPassage, end_moved, all_end_moved, end_now_at, given_by, with_first}
-use Rattle.law_moves.proofs.Passages.Logs.{Fact, RowKeeps, PutKeeps, ActsKeep}
+use Rattle.law_order.proofs.Vocabulary.{◌≡◌, ℕ, List, [], ◌∷◌, true, not, Some, None, Ok, Err, and_parts, AllByRecursion, Option, Result}
+use Rattle.law_moves.proofs.Vocabulary.{Cookie, Named, Leg, Count, GiveRefused, Rules, Acts, Row, Message, Pdu, Packet, AreAllowed, AreAllowedAtEnd, MayEndMove, MayMove, OnLeg, Move, Up, HeadCame, PduCame, PacketCame, Puts, IsDrawn, Marks, Pings, Passage, is_at_work, moved, all_moved, taken_by, put_by, EndMove, Moves, Gives, Takes, Closes, Recycles, EndPassage, end_moved, all_end_moved, end_now_at, given_by, with_first}
+use Rattle.law_moves.proofs.Lemmas.{Fact, RowKeeps, PutKeeps, ActsKeep}
 
 -- of each move it may be asked what kind it is
 pub record StepsKeep {S : Type 0} (rules : Rules S) (Asks : Move → Type 0) (Known P : Fact S)

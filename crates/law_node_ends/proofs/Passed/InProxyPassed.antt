@@ -1,34 +1,14 @@
 -- on a ci leg for which an in proxy has no more use, IN_R1/A5 came, or END/A1 there or before
-use Rattle.std.proofs.Common.{◌≡◌, ◌⊎◌, inl, inr, ℕ, suc, ◌<◌, ◌≤◌, ◌==◌, Bool, true, false, true≢false, ◌&&◌, ◌||◌, not, List, nat_le, nat_lt, arith, refl, sym, ◌∙◌, subst, ap}
-use Rattle.std.proofs.lemmas.Bool.Decides.{nat_tests}
-use Rattle.std.specs.List.{AllByRecursion}
-use Rattle.law_order.specs.Items.{has_end, has_handover}
-use Rattle.law_order.specs.Logs.{below, through}
-use Rattle.law_order.proofs.ItemLists.{has_end-append}
-use Rattle.law_order.proofs.ByNumber.{same_number}
-use Rattle.rh_line.specs.declared.leg.Leg.{Leg}
-use Rattle.rh_shell.specs.NearEnds.{is_ended}
-use Rattle.rh_inproxy.specs.declared.state.Handover.{Handover}
-use Rattle.rh_inproxy.specs.declared.state.Handover.TheVariants.{Before, Came, Passed}
-use Rattle.rh_inproxy.specs.declared.state.InProxyConfig.{InProxyConfig}
-use Rattle.rh_inproxy.specs.declared.state.Joining.TheVariants.{TellsServer, Told, Follows}
-use Rattle.rh_inproxy.specs.declared.state.Opening.{Opening}
+use Rattle.law_order.proofs.Vocabulary.{◌≡◌, ◌⊎◌, inl, inr, ℕ, suc, ◌<◌, ◌≤◌, ◌==◌, Bool, true, false, true≢false, ◌&&◌, ◌||◌, not, List, nat_le, nat_lt, arith, refl, sym, ◌∙◌, subst, ap, nat_tests, AllByRecursion, has_end, has_handover, below, through}
 use Rattle.rh_inproxy.specs.declared.state.Opening.TheVariants as openings
-use Rattle.rh_inproxy.specs.declared.state.Successor.{Successor}
 use Rattle.rh_inproxy.specs.declared.state.Successor.TheVariants as successors
-use Rattle.rh_inproxy.specs.declared.state.Work.{Work}
 use Rattle.rh_inproxy.specs.declared.state.Work.TheVariants as works
-use Rattle.rh_inproxy.specs.State.{InProxy, first, hands_over}
-use Rattle.rh_inproxy.specs.Opening.{had_client, is_absent, newest, newest_by, phase_by, up, was_up}
-use Rattle.rh_inproxy.specs.Ending.{is_done, is_succeeded, newest_ended}
-use Rattle.rh_inproxy.specs.InReplacement.{has_passed}
-use Rattle.rh_inproxy.specs.Machine.{rules as proxy_rules}
-use Rattle.law_moves.specs.Moves.{AreAllowed, Move, OnLeg, Passage, started, all_moved, is_in_use}
-use Rattle.law_role_inproxy.specs.Order.{KeepsOrder, came_log, next_shelf, put_items}
-use Rattle.law_node_ends.specs.Passed.{AsksNoEcho, HeadsAre, IsDoneBehindEnd, IsDoneBehindEnds, IsDoneBehindMark, LosesNone, ci_leg, is_leg}
+use Rattle.law_moves.proofs.Vocabulary.{has_end-append, same_number, Leg, is_ended, AreAllowed, Move, OnLeg, Passage, started, all_moved, is_in_use}
+use Rattle.law_role_inproxy.proofs.Vocabulary.{Handover, Before, Came, Passed, InProxyConfig, TellsServer, Told, Follows, Opening, Successor, Work, InProxy, first, hands_over, had_client, is_absent, newest, newest_by, phase_by, up, was_up, is_done, is_succeeded, newest_ended, has_passed, rules as proxy_rules, KeepsOrder, came_log, next_shelf, put_items}
 use Rattle.law_node_ends.proofs.Passed.Allowed.{moves_keep, of_role}
 use Rattle.law_node_ends.proofs.Passed.InProxyKept.{Holds, IsBehind, IsWork, Over}
 use Rattle.law_node_ends.proofs.Passed.InProxyPuts.{keeps, starts}
+use Rattle.law_node_ends.specs.Passed.{AsksNoEcho, HeadsAre, IsDoneBehindEnd, IsDoneBehindEnds, ci_leg, is_leg}
 
 -- ---- a leg that is done
 
@@ -209,30 +189,6 @@ module _ (config : InProxyConfig) (Lost : Type 0) (s : InProxy) (came put : List
 
 abbrev start : InProxyConfig → Passage InProxy
 start config = started (first config)
-
--- where no leg is marked
-pub in_proxy_handed : (config : InProxyConfig) (moves : List Move)
-    → (let p = all_moved proxy_rules (start config) moves in
-    KeepsOrder config.number p → AreAllowed proxy_rules (start config) moves
-    → AllByRecursion (LosesNone (AsksNoEcho true)) moves
-    → (n : ℕ) → was_up p.role (ci_leg n) ≡ true
-    → IsDoneBehindMark proxy_rules p.role (ci_leg n) (came_log p.came n))
-in_proxy_handed config moves order may none n up e =
-    by (left config ⊥ p.role p.came p.put n order
-    (moves_keep proxy_rules (LosesNone (AsksNoEcho true)) (λ s came put. Unit {0})
-    (of_role (Holds config ⊥))
-    (keeps config ⊥ (LosesNone (AsksNoEcho true)) (λ leg text asks. asks) (λ leg asks. asks))
-    (start config) moves may none (λ front allowed. tt) (starts config ⊥))
-    up e)
-  where
-    p : Passage InProxy
-    p = all_moved proxy_rules (start config) moves
-
-    by : (has_handover (came_log p.came n) ≡ true)
-        ⊎ (⊥ × (has_end (through (came_log p.came) n) ≡ true))
-        → has_handover (came_log p.came n) ≡ true
-    by (inl handed) = handed
-    by (inr none) = absurd none.0
 
 -- and where some may be
 pub in_proxy_done : (config : InProxyConfig) (moves : List Move)

@@ -1,44 +1,16 @@
 -- what an in proxy keeps where it puts, and where a leg is lost
-use Rattle.std.proofs.Common.{◌≡◌, inl, inr, ℕ, ◌==◌, Bool, true, false, true≢false, ◌&&◌, not, List, [], ◌∷◌, length, Some, None, refl, sym, ◌∙◌, subst, rules}
-use Rattle.std.proofs.lemmas.Bool.{and_parts}
-use Rattle.std.specs.Prelude.{if◌then◌else◌, IfSome}
-use Rattle.std.specs.declared.option.Option.{Option}
 use Rattle.rh_window.specs.declared.recv_window.Ack as told
-use Rattle.rh_window.specs.Sending.{may_send, after_sent}
-use Rattle.law_order.proofs.ByNumber.{by_test}
-use Rattle.rh_rts.specs.declared.command.Cookie.{Cookie}
-use Rattle.rh_http.specs.Heads.Verdicts.{request_verdict}
-use Rattle.rh_line.specs.declared.leg.Leg.{Leg}
-use Rattle.rh_line.specs.declared.which.Which.{Which}
-use Rattle.rh_line.specs.declared.which.Which.TheVariants.{Current, Next}
+use Rattle.law_order.proofs.Vocabulary.{◌≡◌, inl, inr, ℕ, ◌==◌, Bool, true, false, true≢false, ◌&&◌, not, List, [], ◌∷◌, length, Some, None, refl, sym, ◌∙◌, subst, rules, and_parts, if◌then◌else◌, IfSome, Option}
 use Rattle.rh_line.specs.Lines as line
-use Rattle.rh_shell.specs.declared.due.Due.{Due}
-use Rattle.rh_shell.specs.Rules.{Message, Pdu, Packet}
-use Rattle.rh_inproxy.specs.declared.state.Handover.{Handover}
-use Rattle.rh_inproxy.specs.declared.state.Handover.TheVariants.{Before, Came, Passed}
-use Rattle.rh_inproxy.specs.declared.state.InProxyConfig.{InProxyConfig}
-use Rattle.rh_inproxy.specs.declared.state.Joining.TheVariants.{TellsServer, Told, Follows}
-use Rattle.rh_inproxy.specs.declared.state.Successor.{Successor}
 use Rattle.rh_inproxy.specs.declared.state.Successor.TheVariants as successors
-use Rattle.rh_inproxy.specs.declared.state.Work.{Work}
 use Rattle.rh_inproxy.specs.declared.state.Work.TheVariants as works
-use Rattle.rh_inproxy.specs.Answers.{Pick, or_else}
-use Rattle.rh_inproxy.specs.State.{InProxy, first, has_come, is_client_leg, is_server_leg}
-use Rattle.rh_inproxy.specs.Opening.{drawn, drawn_by, echo_by, head, is_absent, put_echo, put_first, up}
-use Rattle.rh_inproxy.specs.Acknowledging.{ack_by, ack_due, current_ack, next_ack, put_ack, put_acks}
-use Rattle.rh_inproxy.specs.Ending.{is_announced, is_drained, is_newest, is_over, mark, newest_ended, put_end, settled, settled_pick, tells_server}
-use Rattle.rh_inproxy.specs.InReplacement.{mark_by, one_less, put_in_r1_a6, put_in_r2_a2, told_by}
-use Rattle.rh_inproxy.specs.Passing.{next_pdu, put_pdu}
-use Rattle.rh_inproxy.specs.Putting.{next, waiting_by, put_waiting, put_control, put_early, put_stream, put_behind, put_mark}
-use Rattle.rh_inproxy.specs.Putting.{put as put_of}
-use Rattle.rh_inproxy.specs.Time.{ping, put_ping}
-use Rattle.rh_inproxy.specs.Machine.{pdu, packet}
-use Rattle.rh_inproxy.specs.Machine.{rules as proxy_rules}
-use Rattle.law_moves.specs.Moves.{HeadCame, Marks, Move}
-use Rattle.law_node_ends.specs.Passed.{AsksNoEcho}
+use Rattle.law_moves.proofs.Vocabulary.{may_send, after_sent, by_test, Cookie, request_verdict, Leg, Which, Current, Next, Due, Message, Pdu, Packet, HeadCame, Marks, Move}
+use Rattle.law_role_inproxy.proofs.Vocabulary.{Handover, Before, Came, Passed, InProxyConfig, TellsServer, Told, Follows, Successor, Work, Pick, or_else, InProxy, first, has_come, is_client_leg, is_server_leg, drawn, drawn_by, echo_by, head, is_absent, put_echo, put_first, up, ack_by, ack_due, current_ack, next_ack, put_ack, put_acks, is_announced, is_drained, is_newest, is_over, mark, newest_ended, put_end, settled, settled_pick, tells_server, mark_by, one_less, put_in_r1_a6}
+use Rattle.law_role_inproxy.proofs.Vocabulary.{put_in_r2_a2, told_by, next_pdu, put_pdu, next, waiting_by, put_waiting, put_control, put_early, put_stream, put_behind, put_mark, put as put_of, ping, put_ping, pdu, packet, rules as proxy_rules}
 use Rattle.law_node_ends.proofs.Passed.Allowed.{StepsKeep, of_role, role_row}
-use Rattle.law_node_ends.proofs.Passed.InProxyKept as kept
 use Rattle.law_node_ends.proofs.Passed.InProxyKept.{Holds, IsBehind, IsWork, Over, Same, seen, to_fine, to_all, same_fine, succeeds, followed_fine, joined_not, packet_all, head_fine, up_fine, same_pdu}
+use Rattle.law_node_ends.proofs.Passed.InProxyKept as kept
+use Rattle.law_node_ends.specs.Passed.{AsksNoEcho}
 
 module _ (config : InProxyConfig) (Lost : Type 0) where
   abbrev All : InProxy → Type 0

@@ -1,51 +1,17 @@
 -- on the os leg of an out proxy that has no more use for it, OUT_R1/A9 or END/B1 came
-use Rattle.std.proofs.Common.{◌≡◌, ◌⊎◌, inl, inr, ap, ℕ, Bool, true, false, true≢false, ◌&&◌, ◌||◌, not, List, Some, None, Ok, Err, nat_le, refl, sym, ◌∙◌, subst, rules}
-use Rattle.std.proofs.lemmas.Bool.{and_parts}
-use Rattle.std.specs.List.{AllByRecursion}
-use Rattle.std.specs.Prelude.{if◌then◌else◌, IfSome}
-use Rattle.std.specs.declared.option.Option.{Option}
-use Rattle.std.specs.declared.result.Result.{Result}
-use Rattle.law_order.specs.Items.{Item, has_end, has_handover}
-use Rattle.law_order.proofs.ByNumber.{by_test}
-use Rattle.rh_rts.specs.declared.command.Cookie.{Cookie}
-use Rattle.rh_sig.specs.declared.named.Named.{Named}
+use Rattle.law_order.proofs.Vocabulary.{◌≡◌, ◌⊎◌, inl, inr, ap, ℕ, Bool, true, false, true≢false, ◌&&◌, ◌||◌, not, List, Some, None, Ok, Err, nat_le, refl, sym, ◌∙◌, subst, rules, and_parts, AllByRecursion, if◌then◌else◌, IfSome, Option, Result, Item, has_end, has_handover}
 use Rattle.rh_sig.specs.declared.named.Named.TheVariants as named
-use Rattle.rh_http.specs.declared.fault.HttpFault.{HttpFault}
-use Rattle.rh_http.specs.Lengths.{greatest_echo}
-use Rattle.rh_http.specs.Heads.Verdicts.{Asked, request_verdict}
-use Rattle.rh_line.specs.declared.leg.Leg.{Leg}
-use Rattle.rh_line.specs.Lines.{is_empty}
-use Rattle.rh_shell.specs.declared.answers.Count.{Count}
-use Rattle.rh_shell.specs.declared.answers.HeadRefused.{HeadRefused}
-use Rattle.rh_shell.specs.declared.due.Due.{Due}
-use Rattle.rh_shell.specs.declared.answers.HeadTaken.{HeadTaken}
 use Rattle.rh_shell.specs.declared.answers.Phase.TheVariants as phases
-use Rattle.rh_shell.specs.NearEnds.{is_ended}
-use Rattle.rh_shell.specs.Rules.{Message, Pdu, Packet}
-use Rattle.rh_outproxy.specs.declared.state.Answer.{Answer}
 use Rattle.rh_outproxy.specs.declared.state.Answer.TheVariants as answers
-use Rattle.rh_outproxy.specs.declared.state.Channel.{Channel}
 use Rattle.rh_outproxy.specs.declared.state.Channel.TheVariants as channels
-use Rattle.rh_outproxy.specs.declared.state.Mark.{Mark}
 use Rattle.rh_outproxy.specs.declared.state.Mark.TheVariants as marks
-use Rattle.rh_outproxy.specs.declared.state.OutProxyConfig.{OutProxyConfig}
-use Rattle.rh_outproxy.specs.declared.state.ServerLeg.{ServerLeg}
 use Rattle.rh_outproxy.specs.declared.state.ServerLeg.TheVariants as servers
 use Rattle.rh_outproxy.specs.declared.state.ClientLeg.TheVariants as clients
-use Rattle.rh_outproxy.specs.OutProxy.{OutProxy, is_echo_drawn, has_come, is_due, is_echo_put, is_over, is_put, is_server_down, is_server_first, is_server_marked, new_proxy}
-use Rattle.rh_outproxy.specs.Rows.{Done, is_carrying, is_co, is_os, passed_on, taken, takes_pdus, unexpected}
-use Rattle.rh_outproxy.specs.Opening.{up, head_by, on_conn_c1, first_packet}
-use Rattle.rh_outproxy.specs.Acknowledging.{on_ack_to}
-use Rattle.rh_outproxy.specs.OutReplacement.{on_out_r1_a9}
-use Rattle.rh_outproxy.specs.Ending.{drawn, mark, on_end_b1, only_marks}
-use Rattle.rh_outproxy.specs.Putting.{Pick, or_else, answer_by, behind_response, pdu_by, put_answer, put_end, put_handover, put_waiting, put_pdu, put_mark, put_ping, waiting_by, next_co, first_by, put_first, put_ack, next_os}
-use Rattle.rh_outproxy.specs.Putting.{put as put_of}
-use Rattle.rh_outproxy.specs.Machine.{on_co, on_os, pdu, packet}
-use Rattle.rh_outproxy.specs.Machine.{rules as proxy_rules}
-use Rattle.law_moves.specs.Moves.{AreAllowed, Move, Passage, started, all_moved, is_in_use}
-use Rattle.law_role_outproxy.specs.Order.{KeepsOrder, came_log, put_items, server_leg}
-use Rattle.law_node_ends.specs.Passed.{AsksNoEcho, HeadsAre, IsDoneBehindEnd}
+use Rattle.law_moves.proofs.Vocabulary.{by_test, Cookie, Named, HttpFault, greatest_echo, Asked, request_verdict, Leg, is_empty, Count, HeadRefused, Due, HeadTaken, is_ended, Message, Pdu, Packet, AreAllowed, Move, Passage, started, all_moved, is_in_use}
+use Rattle.law_role_outproxy.proofs.Vocabulary.{Answer, Channel, Mark, OutProxyConfig, ServerLeg, OutProxy, is_echo_drawn, has_come, is_due, is_echo_put, is_over, is_put, is_server_down, is_server_first, is_server_marked, new_proxy, Done, is_carrying, is_co, is_os, passed_on, taken, takes_pdus, unexpected, up, head_by, on_conn_c1, first_packet, on_ack_to, on_out_r1_a9, drawn, mark, on_end_b1, only_marks, Pick, or_else, answer_by, behind_response, pdu_by, put_answer, put_end}
+use Rattle.law_role_outproxy.proofs.Vocabulary.{put_handover, put_waiting, put_pdu, put_mark, put_ping, waiting_by, next_co, first_by, put_first, put_ack, next_os, put as put_of, on_co, on_os, pdu, packet, rules as proxy_rules, KeepsOrder, came_log, put_items, server_leg}
 use Rattle.law_node_ends.proofs.Passed.Allowed.{StepsKeep, moves_keep, of_role, role_row}
+use Rattle.law_node_ends.specs.Passed.{AsksNoEcho, HeadsAre, IsDoneBehindEnd}
 
 -- what the fact is about
 record Seen : Type 0 where

@@ -1,24 +1,7 @@
 -- IN_R1/A6 or END/A2 came on an is leg
-use Rattle.std.proofs.Common.{◌≡◌, ℕ, suc, ◌==◌, Bool, true, false, true≢false, not, ◌&&◌, ◌||◌, nat_eq, List, [], ◌∷◌, ◌++◌, append_assoc, Some, None, refl, sym, ap, ◌∙◌, subst}
-use Rattle.std.proofs.lemmas.Bool.{and_parts}
-use Rattle.std.specs.Prelude.{if◌then◌else◌}
-use Rattle.std.specs.declared.option.Option.{Option}
-use Rattle.law_order.specs.Items.{Item, has_end, has_handover}
-use Rattle.law_order.specs.Taking.{TakerLaw}
-use Rattle.law_order.proofs.ByNumber.{by_test, same_number}
-use Rattle.law_order.proofs.ItemLists.{has_end-append, has_handover-append}
-use Rattle.rh_line.specs.declared.leg.Leg.{Leg}
-use Rattle.rh_line.specs.declared.leg.LegKind.TheVariants.{InServer}
-use Rattle.rh_line.specs.declared.which.Which.{Which}
-use Rattle.rh_line.specs.declared.which.Which.TheVariants.{Current, Next}
-use Rattle.rh_shell.specs.Rules.{Message}
-use Rattle.rh_shell.specs.Shells.{is_of}
-use Rattle.rh_server.specs.declared.state.InLeg.{InLeg}
-use Rattle.rh_server.specs.Acknowledging.{channel_at}
-use Rattle.rh_server.specs.Ending.{ended_on, waits_ended}
-use Rattle.rh_server.specs.States.{Server}
-use Rattle.law_moves.specs.Moves.{OnLeg}
-use Rattle.law_role_server.specs.Order.{in_items, items_if, items_on, taker_of}
+use Rattle.law_order.proofs.Vocabulary.{◌≡◌, ℕ, suc, ◌==◌, Bool, true, false, true≢false, not, ◌&&◌, ◌||◌, nat_eq, List, [], ◌∷◌, ◌++◌, append_assoc, Some, None, refl, sym, ap, ◌∙◌, subst, and_parts, if◌then◌else◌, Option, Item, has_end, has_handover, TakerLaw}
+use Rattle.law_moves.proofs.Vocabulary.{by_test, same_number, has_end-append, has_handover-append, Leg, InServer, Which, Current, Next, Message, is_of, OnLeg}
+use Rattle.law_role_server.proofs.Vocabulary.{InLeg, channel_at, ended_on, waits_ended, Server, in_items, items_if, items_on, taker_of}
 
 abbrev pub passed : List Item → Bool
 passed items = has_handover items || has_end items

@@ -1,33 +1,13 @@
 -- what the rows of a server do to an is leg that stays: no IN_R1/A6 came there
-use Rattle.std.proofs.Common.{◌≡◌, ℕ, ◌==◌, Bool, true, false, true≢false, cond, not, ◌&&◌, ◌||◌, List, [], ◌∷◌, Some, None, refl, rules, sym, ap, ◌∙◌, subst}
-use Rattle.std.proofs.lemmas.Bool.{and_parts}
-use Rattle.std.specs.Prelude.{if◌then◌else◌, IfSome}
-use Rattle.std.specs.List.{AllByRecursion}
-use Rattle.std.specs.declared.option.Option.{Option}
-use Rattle.law_order.proofs.ByNumber.{by_test, same_number, test_same}
-use Rattle.rh_rts.specs.declared.command.Cookie.{Cookie}
-use Rattle.rh_line.specs.declared.leg.Leg.{Leg}
-use Rattle.rh_line.specs.declared.which.Which.{Which}
-use Rattle.rh_line.specs.Lines.{after_finish}
-use Rattle.rh_shell.specs.declared.answers.Count.{Count}
+use Rattle.law_order.proofs.Vocabulary.{◌≡◌, ℕ, ◌==◌, Bool, true, false, true≢false, cond, not, ◌&&◌, ◌||◌, List, [], ◌∷◌, Some, None, refl, rules, sym, ap, ◌∙◌, subst, and_parts, if◌then◌else◌, IfSome, AllByRecursion, Option}
 use Rattle.rh_shell.specs.declared.answers.Refused.TheVariants as refused
-use Rattle.rh_shell.specs.NearEnds.{is_ended}
-use Rattle.rh_server.specs.declared.state.Stage.{Stage}
 use Rattle.rh_server.specs.declared.state.Stage.TheVariants as stage
-use Rattle.rh_server.specs.declared.state.Edge.TheVariants.{Shut}
-use Rattle.rh_server.specs.declared.state.InStage.{InStage}
 use Rattle.rh_server.specs.declared.state.InStage.TheVariants as in_stage
-use Rattle.rh_server.specs.declared.state.InLeg.{InLeg}
 use Rattle.rh_server.specs.declared.state.Leaving.TheVariants as leaving
 use Rattle.rh_server.specs.declared.out_line.Kind.TheVariants as kind
-use Rattle.rh_server.specs.OutLines.{waits}
-use Rattle.rh_server.specs.States.{Server, in_leg, in_place, is_fresh, is_lost, is_open, is_put, is_waiting, phase_of, same_cookie, stays, with_in, without_in}
-use Rattle.rh_server.specs.Opening.{Done, took, refuse, unexpected, is_first, opens, with_first_out, conn_a2_at, on_conn_a2, first_in, with_first_in, conn_b2_at, on_conn_b2}
-use Rattle.rh_server.specs.Acknowledging.{channel_at, on_ack_to, on_ack, on_ping_traffic}
-use Rattle.rh_server.specs.InReplacement.{opens_next, opens_leg, first_waiting, waiting_place, next_opened, becomes_current, moved_if, announced, in_r1_a2_by, in_r1_a2_at, on_in_r1_a2, has_fresh_below, leaves, leaves_by, hands_over, on_in_r1_a6, on_in_r2_a2}
-use Rattle.rh_server.specs.OutReplacement.{wished, on_out_r1_a4, on_out_r1_a8}
-use Rattle.rh_server.specs.Ending.{lost_in, waits_ended, are_lost, completed, end_a2_at, end_a2_on_leg, end_a2_waiting, is_complete, is_over_on, on_end_a2, settled}
-use Rattle.rh_server.specs.Servers.{pdu}
+use Rattle.law_moves.proofs.Vocabulary.{by_test, same_number, test_same, Cookie, Leg, Which, after_finish, Count, is_ended}
+use Rattle.law_role_server.proofs.Vocabulary.{Stage, Shut, InStage, InLeg, waits, Server, in_leg, in_place, is_fresh, is_lost, is_open, is_put, is_waiting, phase_of, same_cookie, stays, with_in, without_in, Done, took, refuse, unexpected, is_first, opens, with_first_out, conn_a2_at, on_conn_a2, first_in, with_first_in, conn_b2_at, on_conn_b2, channel_at, on_ack_to, on_ack, on_ping_traffic, opens_next, opens_leg, first_waiting, waiting_place, next_opened, becomes_current}
+use Rattle.law_role_server.proofs.Vocabulary.{moved_if, announced, in_r1_a2_by, in_r1_a2_at, on_in_r1_a2, has_fresh_below, leaves, leaves_by, hands_over, on_in_r1_a6, on_in_r2_a2, wished, on_out_r1_a4, on_out_r1_a8, lost_in, waits_ended, are_lost, completed, end_a2_at, end_a2_on_leg, end_a2_waiting, is_complete, is_over_on, on_end_a2, settled, pdu}
 use Rattle.law_node_ends.proofs.Passed.ServerLegs.{IsFound, each_found, each_gone, each_set, found_number, has_number, number_gone, number_set}
 
 -- ---- the is legs that are kept

@@ -1,12 +1,8 @@
 -- the is legs that a server keeps: what holds of each, and whether one has a number
-use Rattle.std.proofs.Common.{◌≡◌, ℕ, zero, suc, ◌+◌, ◌==◌, cond, nat_lt, List, [], ◌∷◌, ◌++◌, length, Bool, true, false, true≢false, not, Some, None, arith, refl, sym, ap, ◌∙◌, subst}
-use Rattle.std.specs.Prelude.{position, slice_get, slice_set, remove, IfSome}
-use Rattle.std.specs.List.{AllByRecursion, position_or_len}
-use Rattle.std.specs.declared.option.Option.{Option}
-use Rattle.std.proofs.lemmas.Bool.Decides.{nat_tests}
-use Rattle.law_order.proofs.ByNumber.{same_number, test_same}
-use Rattle.rh_server.specs.declared.state.InLeg.{InLeg}
-use Rattle.rh_server.specs.States.{in_place, in_at, in_leg, set_at, removed_at}
+use Rattle.law_order.proofs.Vocabulary.{◌≡◌, ℕ, zero, suc, ◌+◌, ◌==◌, cond, List, [], ◌∷◌, ◌++◌, Bool, true, false, true≢false, Some, None, refl, sym, ap, ◌∙◌, subst, slice_get, slice_set, remove, IfSome, AllByRecursion, Option}
+use Rattle.law_moves.proofs.Vocabulary.{same_number, test_same}
+use Rattle.law_role_server.proofs.Vocabulary.{InLeg, in_place, in_at, in_leg, set_at, removed_at}
+use Rattle.law_role_server.proofs.Counted.InLegs.{place_step, next_place}
 
 -- ---- each leg
 
@@ -44,35 +40,6 @@ module _ (P : InLeg → Type 0) where
       → AllByRecursion P (removed_at legs place)
   each_gone legs None all = all
   each_gone legs (Some place) all = gone_each legs place all
-
--- ---- places
-
-abbrev next_place : Option ℕ → Option ℕ
-next_place None = None
-next_place (Some place) = Some (suc place)
-
-place_step : {X : Type 0} (test : X → Bool) (x : X) (xs : List X)
-    → position test (x ∷ xs) ≡ cond (test x) (Some 0) (next_place (position test xs))
-place_step test x xs = by (test x)
-  where
-    is_there : (n : ℕ) → nat_lt 0 (suc n) ≡ true
-    is_there n = grind (arith, nat_tests)
-
-    further : (a b : ℕ) (t u : Bool) → nat_lt a b ≡ t → nat_lt (1 + a) (suc b) ≡ u
-        → cond u (Some (1 + a)) None ≡ next_place (cond t (Some a) None)
-    further a b true true e f = ap (λ (n : ℕ). Some n) (omega arith)
-    further a b false false e f = refl
-    further a b true false e f = absurd (grind (arith, nat_tests))
-    further a b false true e f = absurd (grind (arith, nat_tests))
-
-    by : (b : Bool)
-        → cond (nat_lt (cond (not b) (1 + position_or_len test xs) 0) (length (x ∷ xs)))
-        (Some (cond (not b) (1 + position_or_len test xs) 0)) None
-        ≡ cond b (Some 0) (next_place (position test xs))
-    by true = ap (λ t. cond t (Some 0) None) (is_there (length xs))
-    by false = further (position_or_len test xs) (length xs)
-        (nat_lt (position_or_len test xs) (length xs))
-        (nat_lt (1 + position_or_len test xs) (suc (length xs))) refl refl
 
 -- ---- a leg of this number
 

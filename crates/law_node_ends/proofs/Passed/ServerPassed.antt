@@ -1,52 +1,21 @@
 -- on an is leg for which a server has no more use, IN_R1/A6 or END/A2 came
-use Rattle.std.proofs.Common.{◌≡◌, ◌⊎◌, inl, inr, ℕ, ◌==◌, Bool, true, false, true≢false, not, ◌&&◌, ◌||◌, nat_eq, List, [], ◌∷◌, ◌++◌, Some, None, Ok, Err, refl, rules, sym, ap, ◌∙◌, subst}
-use Rattle.std.proofs.lemmas.Bool.{and_parts}
-use Rattle.std.specs.Prelude.{if◌then◌else◌, IfSome}
-use Rattle.std.specs.declared.option.Option.{Option}
-use Rattle.law_order.specs.Items.{has_end, has_handover}
-use Rattle.law_order.specs.Taking.{TakerLaw}
-use Rattle.law_order.proofs.ByNumber.{by_test, same_number, test_same}
-use Rattle.rh_rts.specs.declared.command.Cookie.{Cookie}
-use Rattle.rh_sig.specs.declared.named.Named.{Named}
+use Rattle.law_order.proofs.Vocabulary.{◌≡◌, ◌⊎◌, inl, inr, ℕ, ◌==◌, Bool, true, false, true≢false, not, ◌&&◌, ◌||◌, nat_eq, List, [], ◌∷◌, ◌++◌, Some, None, Ok, Err, refl, rules, sym, ap, ◌∙◌, subst, and_parts, if◌then◌else◌, IfSome, Option, has_end, has_handover, TakerLaw}
 use Rattle.rh_sig.specs.declared.named.Named.TheVariants as named
-use Rattle.rh_line.specs.declared.leg.Leg.{Leg}
-use Rattle.rh_line.specs.declared.leg.LegKind.{LegKind}
-use Rattle.rh_line.specs.declared.leg.LegKind.TheVariants.{ClientOut, OutServer, ClientIn, InServer}
-use Rattle.rh_line.specs.Lines.{after_take}
-use Rattle.rh_line.proofs.Queues.{each_push}
-use Rattle.rh_line.specs.declared.which.Which.{Which}
-use Rattle.rh_shell.specs.declared.answers.Count.{Count}
 use Rattle.rh_shell.specs.declared.answers.Refused.TheVariants as refused
-use Rattle.rh_shell.specs.NearEnds.{is_ended}
-use Rattle.rh_shell.specs.Waiting.{taken}
-use Rattle.rh_shell.specs.Shells.{is_of}
-use Rattle.rh_shell.specs.Rules.{Pdu, Packet}
-use Rattle.rh_server.specs.declared.state.InLeg.{InLeg}
-use Rattle.rh_server.specs.declared.state.InStage.{InStage}
 use Rattle.rh_server.specs.declared.state.InStage.TheVariants as in_stage
-use Rattle.rh_server.specs.declared.state.Leaving.{Leaving}
 use Rattle.rh_server.specs.declared.out_line.Kind.TheVariants as kind
-use Rattle.rh_server.specs.OutLines.{waits}
-use Rattle.rh_server.specs.States.{Server, has_left, in_leg, in_place, is_lost, is_put, phase_of, same_cookie, stays, with_in, without_out}
-use Rattle.rh_server.specs.Opening.{Done, in_leg_up, is_first, may_up, on_conn_a2, on_conn_b2, refuse, took, unexpected, up, up_by}
-use Rattle.rh_server.specs.Acknowledging.{channel_at, on_ack, on_ack_to, on_ping_traffic}
-use Rattle.rh_server.specs.InReplacement.{take, on_in_r1_a2, hands_over, on_in_r1_a6, on_in_r2_a2}
-use Rattle.rh_server.specs.OutReplacement.{recycle, on_out_r1_a4, on_out_r1_a8}
-use Rattle.rh_server.specs.Ending.{close, drawn, end_a2_at, end_a2_on_leg, end_a2_waiting, ended_on, give, in_is_done, in_only_marks, is_over_on, lost_in, mark_by, on_end_a2, only_marks_by, with_ack_dropped}
-use Rattle.rh_server.specs.Putting.{Pick, put_by}
-use Rattle.rh_server.specs.Servers.{acts, first, pdu, packet, packet_by, on_is, on_os}
-use Rattle.rh_server.specs.Servers.{rules as server_rules}
-use Rattle.law_moves.specs.Moves.{OnLeg, Up, HeadCame, PduCame, PacketCame, Puts, IsDrawn, Marks, Pings, EndMove, Moves, Gives, Takes, Closes, Recycles, EndPassage, end_started, end_moved, all_end_moved, is_in_use, AreAllowedAtEnd, MayEndMove}
-use Rattle.law_moves.proofs.Passages.Logs.{RowKeeps, PutKeeps, ActsKeep}
-use Rattle.law_role_server.specs.Order.{came_up, got, has_leg, is_up, taker_of}
-use Rattle.law_node_ends.specs.Passed.{IsDoneBehindEnd, is_leg}
+use Rattle.law_moves.proofs.Vocabulary.{by_test, same_number, test_same, Cookie, Named, each_push, Leg, LegKind, ClientOut, OutServer, ClientIn, InServer, after_take, Which, Count, is_ended, taken, is_of, Pdu, Packet, OnLeg, Up, HeadCame, PduCame, PacketCame, Puts, IsDrawn, Marks, Pings, EndMove, Moves, Gives, Takes, Closes, Recycles, EndPassage, end_started, end_moved, all_end_moved, is_in_use, AreAllowedAtEnd, MayEndMove}
+use Rattle.law_moves.proofs.Lemmas.{RowKeeps, PutKeeps, ActsKeep}
+use Rattle.law_role_server.proofs.Vocabulary.{InLeg, InStage, Leaving, waits, Server, has_left, in_leg, in_place, is_lost, is_put, phase_of, same_cookie, stays, with_in, without_out, Done, in_leg_up, is_first, may_up, on_conn_a2, on_conn_b2, refuse, took, unexpected, up, up_by, channel_at, on_ack, on_ack_to, on_ping_traffic, take, on_in_r1_a2, hands_over, on_in_r1_a6, on_in_r2_a2, recycle, on_out_r1_a4, on_out_r1_a8, close, drawn, end_a2_at, end_a2_on_leg, end_a2_waiting}
+use Rattle.law_role_server.proofs.Vocabulary.{ended_on, give, in_is_done, in_only_marks, is_over_on, lost_in, mark_by, on_end_a2, only_marks_by, with_ack_dropped, Pick, put_by, acts, first, pdu, packet, packet_by, on_is, on_os, rules as server_rules, came_up, got, has_leg, is_up, taker_of}
 use Rattle.law_node_ends.proofs.Passed.ServerLegs.{has_number, each_found, found_number, IsFound, number_last}
 use Rattle.law_node_ends.proofs.Passed.Allowed.{StepsKeep, end_move_keeps, end_moves_keep}
 use Rattle.law_node_ends.proofs.Passed.ServerCame.{HasPassed, came_on, ended_came, passed_last, passed_more}
-use Rattle.law_node_ends.proofs.Passed.ServerKept as kept
-use Rattle.law_node_ends.proofs.Passed.ServerKept.{keeps_conn_a2, keeps_conn_b2, keeps_end_a2, keeps_in_r1_a2, keeps_in_r1_a6, keeps_lost, keeps_moved, keeps_same, keeps_settled, same_ack, same_ack_to, same_in_r2_a2, same_out_r1_a4, same_out_r1_a8, same_pdu, same_traffic, with_stays}
-use Rattle.law_node_ends.proofs.Passed.ServerPuts as put_of
+use Rattle.law_node_ends.proofs.Passed.ServerKept.{keeps_conn_a2, keeps_conn_b2, keeps_end_a2, keeps_in_r1_a2, keeps_in_r1_a6, keeps_lost, keeps_moved, keeps_same, keeps_settled, same_ack, same_ack_to, same_in_r2_a2, same_out_r1_a4, same_out_r1_a8, same_pdu, same_traffic}
 use Rattle.law_node_ends.proofs.Passed.ServerPuts.{keeps_drawn, keeps_up}
+use Rattle.law_node_ends.proofs.Passed.ServerKept as kept
+use Rattle.law_node_ends.proofs.Passed.ServerPuts as put_of
+use Rattle.law_node_ends.specs.Passed.{IsDoneBehindEnd, is_leg}
 
 -- ---- the is legs that are kept
 

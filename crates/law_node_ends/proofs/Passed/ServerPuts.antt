@@ -1,33 +1,14 @@
 -- what a server's is leg keeps that stays, where the server puts, and legs come up and are drawn
-use Rattle.std.proofs.Common.{◌≡◌, ℕ, ◌==◌, Bool, true, false, true≢false, Some, None, refl, rules, sym, ap, ◌∙◌}
-use Rattle.std.specs.Prelude.{IfSome, slice_get}
-use Rattle.std.specs.declared.option.Option.{Option}
-use Rattle.law_order.proofs.ByNumber.{by_test, same_number}
-use Rattle.rh_rts.specs.declared.command.Cookie.{Cookie}
-use Rattle.rh_sig.specs.declared.named.Named.{Named}
-use Rattle.rh_line.specs.declared.leg.Leg.{Leg}
-use Rattle.rh_line.specs.declared.leg.LegKind.{LegKind}
-use Rattle.rh_line.specs.declared.leg.LegKind.TheVariants.{ClientOut, OutServer, ClientIn, InServer}
-use Rattle.rh_line.proofs.Queues.{each_push}
-use Rattle.rh_line.specs.Queue.{front_length}
-use Rattle.rh_shell.specs.declared.due.Due.{Due}
-use Rattle.rh_shell.specs.Waiting.{Waiting, taken}
-use Rattle.rh_shell.specs.Rules.{Message}
-use Rattle.rh_server.specs.declared.state.InLeg.{InLeg}
-use Rattle.rh_server.specs.declared.state.Leaving.{Leaving}
+use Rattle.law_order.proofs.Vocabulary.{◌≡◌, ℕ, ◌==◌, Bool, true, false, true≢false, Some, None, refl, rules, sym, ap, ◌∙◌, IfSome, slice_get, Option}
 use Rattle.rh_server.specs.declared.state.Leaving.TheVariants as leaving
-use Rattle.rh_server.specs.declared.state.OutLeg.{OutLeg}
 use Rattle.rh_server.specs.declared.state.Greeting.TheVariants as greeting
-use Rattle.rh_server.specs.declared.state.Tells.{Tells}
 use Rattle.rh_server.specs.declared.state.Tells.TheVariants as tells
-use Rattle.rh_server.specs.OutLines.{Gate, lets}
-use Rattle.rh_server.specs.States.{Server, has_left, in_leg, in_place, is_due, is_open, out_place, stays, without_in}
-use Rattle.rh_server.specs.Opening.{in_leg_up, may_up, up, up_by}
-use Rattle.rh_server.specs.Ending.{drawn_by, in_is_drawn, settled}
-use Rattle.rh_server.specs.Putting.{Pick, or_else, put_in_greeting, put_tells_by, put_tells, told_by, was_current, put_b1_by, put_b1, put_ack, put_in_by, gate_at, next_out, out_greeting_at, pdu_by, put_by, put_end, put_open, put_out_at, put_out_greeting, put_pdu, put_pdu_or_end, put_waiting, settled_pick, waiting_at, waiting_by, was_put}
+use Rattle.law_moves.proofs.Vocabulary.{by_test, same_number, Cookie, Named, each_push, Leg, LegKind, ClientOut, OutServer, ClientIn, InServer, front_length, Due, Waiting, taken, Message}
+use Rattle.law_role_server.proofs.Vocabulary.{InLeg, Leaving, OutLeg, Tells, Gate, lets, Server, has_left, in_leg, in_place, is_due, is_open, out_place, stays, without_in, in_leg_up, may_up, up, up_by, drawn_by, in_is_drawn, settled, Pick, or_else, put_in_greeting, put_tells_by, put_tells, told_by, was_current, put_b1_by, put_b1, put_ack, put_in_by, gate_at, next_out, out_greeting_at, pdu_by, put_by, put_end, put_open, put_out_at, put_out_greeting, put_pdu, put_pdu_or_end}
+use Rattle.law_role_server.proofs.Vocabulary.{put_waiting, settled_pick, waiting_at, waiting_by, was_put}
 use Rattle.law_node_ends.proofs.Passed.ServerLegs.{has_number, each_found, each_gone, found_number, IsFound, number_gone, number_more}
+use Rattle.law_node_ends.proofs.Passed.ServerKept.{keeps_same, keeps_settled, with_stays}
 use Rattle.law_node_ends.proofs.Passed.ServerKept as kept
-use Rattle.law_node_ends.proofs.Passed.ServerKept.{keeps_conn_a2, keeps_conn_b2, keeps_end_a2, keeps_in_r1_a2, keeps_in_r1_a6, keeps_lost, keeps_moved, keeps_same, keeps_settled, same_ack, same_ack_to, same_in_r2_a2, same_out_r1_a4, same_out_r1_a8, same_pdu, same_traffic, with_stays}
 
 module _ (n : ℕ) where
   abbrev IsStaying : InLeg → Type 0

@@ -1,26 +1,9 @@
 -- each function of a client but close leaves alone whether it was told to close
-use Rattle.std.proofs.Common.{◌≡◌, ℕ, Bool, ◌&&◌, ◌||◌, ◌==◌, Some, None, rules, refl, ◌∙◌}
-use Rattle.std.specs.Prelude.{IfSome, if◌then◌else◌}
-use Rattle.std.specs.declared.option.Option.{Option}
-use Rattle.rh_window.specs.declared.recv_window.Ack.{Ack}
-use Rattle.law_order.proofs.ByNumber.{by_test}
-use Rattle.rh_rts.specs.declared.command.Cookie.{Cookie}
-use Rattle.rh_sig.specs.declared.named.Named.{Named}
+use Rattle.law_order.proofs.Vocabulary.{◌≡◌, ℕ, Bool, ◌&&◌, ◌||◌, ◌==◌, Some, None, rules, refl, ◌∙◌, IfSome, if◌then◌else◌, Option}
 use Rattle.rh_sig.specs.declared.named.Named.TheVariants as named
-use Rattle.rh_line.specs.declared.leg.LegKind.{LegKind}
-use Rattle.rh_line.specs.declared.leg.LegKind.TheVariants.{ClientOut, OutServer, ClientIn, InServer}
-use Rattle.rh_line.specs.declared.which.Which.{Which}
-use Rattle.rh_line.specs.declared.which.Which.TheVariants.{Current, Next}
-use Rattle.rh_shell.specs.declared.answers.Count.{Count}
-use Rattle.rh_shell.specs.Rules.{Message}
-use Rattle.rh_client.specs.declared.channels.Opening.{Opening}
-use Rattle.rh_client.specs.declared.channels.Opening.TheVariants.{NotUp, Request, First, Second, Put}
-use Rattle.rh_client.specs.declared.state.ClientRole.{ClientRole}
-use Rattle.rh_client.specs.State.{Done, is_current, is_in_successor, is_out_successor, is_writing, is_open, taken, unexpected}
-use Rattle.rh_client.specs.Channels.{is_named}
-use Rattle.rh_client.specs.Acknowledging.{ack_due, ack_named, on_ack_to}
-use Rattle.rh_client.specs.Putting.{Pick, ack_by, or_else, put_ack, put_ack_of, put_by, put_conn_b1, put_current, put_due, put_end, put_in, put_in_r1_a1, put_in_successor, put_next, put_out, put_out_successor, put_pdu, put_ping, put_successor_ping, put_writing, settled_or_wished, settled_pick}
-use Rattle.rh_client.specs.Client.{rules as client_rules, acts as client_acts, on_packet, packet_by}
+use Rattle.law_moves.proofs.Vocabulary.{Ack, by_test, Cookie, Named, LegKind, ClientOut, OutServer, ClientIn, InServer, Which, Current, Next, Count, Message}
+use Rattle.law_role_client.proofs.Vocabulary.{Opening, NotUp, Request, First, Second, Put, ClientRole, Done, is_current, is_in_successor, is_out_successor, is_writing, is_open, taken, unexpected, is_named, ack_due, ack_named, on_ack_to, Pick, ack_by, or_else, put_ack, put_ack_of, put_by, put_conn_b1, put_current, put_due, put_end, put_in, put_in_r1_a1, put_in_successor, put_next, put_out, put_out_successor, put_pdu, put_ping, put_successor_ping, put_writing, settled_or_wished}
+use Rattle.law_role_client.proofs.Vocabulary.{settled_pick, rules as client_rules, acts as client_acts, on_packet, packet_by}
 use Rattle.law_node_ends.proofs.Stops.Stays.{Said, StaysSaid}
 
 abbrev pub said : ClientRole → Said

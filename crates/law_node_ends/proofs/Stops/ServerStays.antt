@@ -1,19 +1,8 @@
 -- each function of a server but close leaves alone whether it was told to close
-use Rattle.std.proofs.Common.{◌≡◌, ℕ, Some, None, rules, refl, ◌∙◌}
-use Rattle.std.specs.Prelude.{IfSome}
-use Rattle.std.specs.declared.option.Option.{Option}
-use Rattle.law_order.proofs.ByNumber.{by_test}
-use Rattle.rh_sig.specs.declared.named.Named.{Named}
+use Rattle.law_order.proofs.Vocabulary.{◌≡◌, ℕ, Some, None, rules, refl, ◌∙◌, IfSome, Option}
 use Rattle.rh_sig.specs.declared.named.Named.TheVariants as named
-use Rattle.rh_line.specs.declared.leg.LegKind.{LegKind}
-use Rattle.rh_line.specs.declared.leg.LegKind.TheVariants.{ClientOut, OutServer, ClientIn, InServer}
-use Rattle.rh_shell.specs.declared.answers.Count.{Count}
-use Rattle.rh_shell.specs.Rules.{Message}
-use Rattle.rh_server.specs.declared.state.InLeg.{InLeg}
-use Rattle.rh_server.specs.States.{Server, in_leg, is_closing, is_open, out_place, without_in, without_out}
-use Rattle.rh_server.specs.Ending.{drawn_by, in_is_drawn, lost_in, mark_by, settled, with_ack_dropped}
-use Rattle.rh_server.specs.Putting.{Pick, next_out, or_else, put_by, put_in, put_open, put_out_at, put_out_greeting, put_pdu_or_end, put_waiting, settled_pick}
-use Rattle.rh_server.specs.Servers.{rules as server_rules, acts as server_acts, on_is, on_os, packet_by}
+use Rattle.law_moves.proofs.Vocabulary.{by_test, Named, LegKind, ClientOut, OutServer, ClientIn, InServer, Count, Message}
+use Rattle.law_role_server.proofs.Vocabulary.{InLeg, Server, in_leg, is_closing, is_open, out_place, without_in, without_out, drawn_by, in_is_drawn, lost_in, mark_by, settled, with_ack_dropped, Pick, next_out, or_else, put_by, put_in, put_open, put_out_at, put_out_greeting, put_pdu_or_end, put_waiting, settled_pick, rules as server_rules, acts as server_acts, on_is, on_os, packet_by}
 use Rattle.law_node_ends.proofs.Stops.Stays.{Said, StaysSaid}
 
 abbrev pub said : Server → Said

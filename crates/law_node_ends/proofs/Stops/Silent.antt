@@ -1,15 +1,7 @@
 -- a node that closed neither gives nor takes
-use Rattle.std.proofs.Common.{◌≡◌, ℕ, List, [], ◌∷◌, refl, rules as all_rules, sym, subst}
-use Rattle.law_order.proofs.ByNumber.{by_test}
-use Rattle.rh_line.specs.declared.cause.Cause.{Cause}
-use Rattle.rh_shell.specs.declared.course.Course.{Course}
-use Rattle.rh_shell.specs.declared.course.Course.TheVariants.{Going, Closed, Refusing}
-use Rattle.rh_shell.specs.Ends.{cause_of, give, give_where, after_take, close, recycle}
-use Rattle.rh_shell.specs.Rules.{Rules, Acts}
-use Rattle.rh_shell.specs.Shells.{Shell, may_up, with_leg}
-use Rattle.law_moves.specs.Carrying.{accepted, handed_by}
-use Rattle.law_moves.specs.Laws.{ClosedWith, Stays}
-use Rattle.law_moves.specs.Moving.{Event, ComesUp, Hears, Ends, Breaks, Draws, Ticks, after_event, EndEvent, Happens, IsGiven, IsTaken, IsClosed, IsRecycled, after_end_event}
+use Rattle.law_order.proofs.Vocabulary.{◌≡◌, ℕ, List, [], ◌∷◌, refl, rules as all_rules, sym, subst}
+use Rattle.rh_shell.specs.Ends.{after_take, close}
+use Rattle.law_moves.proofs.Vocabulary.{by_test, Cause, Course, Going, Closed, Refusing, cause_of, give, give_where, recycle, Rules, Acts, Shell, may_up, with_leg, accepted, handed_by, ClosedWith, Stays, Event, ComesUp, Hears, Ends, Breaks, Draws, Ticks, after_event, EndEvent, Happens, IsGiven, IsTaken, IsClosed, IsRecycled, after_end_event}
 use Rattle.law_node_streams.specs.Streams.{given_by, taken_by}
 use Rattle.law_node_ends.specs.Stops.{NeitherGivesNorTakes}
 

@@ -1,19 +1,8 @@
 -- what each function of an end's role leaves alone, its moves do, and whatever happens at its node
-use Rattle.std.proofs.Common.{◌≡◌, ℕ, List, [], ◌∷◌, Bool, true, Some, None, Ok, Err, refl, sym, ap, subst, ◌∙◌}
-use Rattle.std.specs.Prelude.{IfSome}
-use Rattle.std.specs.declared.option.Option.{Option}
-use Rattle.rh_rts.specs.declared.command.Cookie.{Cookie}
-use Rattle.rh_sig.specs.declared.named.Named.{Named}
-use Rattle.rh_line.specs.declared.cause.Cause.{Cause}
-use Rattle.rh_line.specs.declared.leg.Leg.{Leg}
-use Rattle.rh_shell.specs.declared.answers.Count.{Count}
+use Rattle.law_order.proofs.Vocabulary.{◌≡◌, ℕ, List, [], ◌∷◌, Bool, true, Some, None, Ok, Err, refl, sym, ap, subst, ◌∙◌, IfSome, Option}
 use Rattle.rh_shell.specs.declared.end_role.GiveRefused.TheVariants as give_refused
-use Rattle.rh_shell.specs.Ends.{cause_of, give_where, give_to}
-use Rattle.rh_shell.specs.Rules.{Rules, Acts, Row, Message, Pdu, Packet}
-use Rattle.rh_shell.specs.Shells.{Shell}
-use Rattle.law_moves.specs.Carrying.{accepted}
-use Rattle.law_moves.specs.Moves.{Move, Up, HeadCame, PduCame, PacketCame, Puts, IsDrawn, Marks, Pings, Passage, moved, taken_by, put_by, EndMove, Moves, Gives, Takes, Closes, Recycles, EndPassage, end_moved, all_end_moved, end_started, end_now_at, given_by, with_first}
-use Rattle.law_moves.specs.Moving.{AreHeld, EndEvent, Happens, IsGiven, IsTaken, IsClosed, IsRecycled, after_end_event, EndFollows}
+use Rattle.law_moves.proofs.Vocabulary.{Cookie, Named, Cause, Leg, Count, cause_of, give_where, give_to, Rules, Acts, Row, Message, Pdu, Packet, Shell, accepted, Move, Up, HeadCame, PduCame, PacketCame, Puts, IsDrawn, Marks, Pings, Passage, moved, taken_by, put_by, EndMove, Moves, Gives, Takes, Closes, Recycles, EndPassage, end_moved, all_end_moved, end_started, end_now_at, given_by, with_first, AreHeld, EndEvent, Happens, IsGiven, IsTaken, IsClosed, IsRecycled}
+use Rattle.law_moves.proofs.Vocabulary.{after_end_event, EndFollows}
 use Rattle.law_node_streams.specs.Streams as streams
 use Rattle.law_node_ends.specs.Stops.{GaveNoMore, GivesNoMore}
 
@@ -60,7 +49,7 @@ module _ {S : Type 0} (rules : Rules S) (acts : Acts S) (said : S → Said)
   by_put p leg None e = refl
   by_put p leg (Some put) e = e
 
-  move_said : (p : Passage S) (move : Move) → said (moved rules p move).role ≡ said p.role
+  pub move_said : (p : Passage S) (move : Move) → said (moved rules p move).role ≡ said p.role
   move_said p (Up leg cookie) = law.up p.role leg cookie
   move_said p (HeadCame leg text) = law.head p.role leg text
   move_said p (PduCame leg count bytes) =

@@ -1,6 +1,5 @@
 -- the numbers of legs that are done are those below one that never falls
-use Rattle.std.proofs.Common.{◌≡◌, ℕ, suc, ◌≤◌, Bool, true, false, nat_lt, arith}
-use Rattle.std.proofs.lemmas.Bool.Decides.{nat_tests}
+use Rattle.law_order.proofs.Vocabulary.{◌≡◌, ℕ, suc, ◌≤◌, Bool, true, false, nat_lt, arith, nat_tests}
 
 -- the first number that is not finished
 abbrev pub behind : Bool → ℕ → ℕ

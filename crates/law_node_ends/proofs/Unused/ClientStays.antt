@@ -1,48 +1,16 @@
 -- a client's channels go up by their numbers, and no leg that is done comes in use again
-use Rattle.std.proofs.Common.{◌≡◌, ℕ, ◌≤◌, ◌<◌, ◌==◌, ◌&&◌, ◌||◌, Bool, true, false, nat_lt, Some, None, arith, rules, refl, sym, ap, subst, ◌∙◌}
-use Rattle.std.specs.Prelude.{IfSome, if◌then◌else◌}
-use Rattle.std.specs.declared.option.Option.{Option}
-use Rattle.std.proofs.lemmas.Bool.Decides.{nat_tests}
-use Rattle.rh_window.specs.declared.recv_window.Ack.{Ack}
-use Rattle.rh_keep.specs.Meters.{fits}
-use Rattle.law_order.proofs.ByNumber.{by_test}
-use Rattle.rh_rts.specs.declared.command.Cookie.{Cookie}
-use Rattle.rh_sig.specs.declared.named.Named.{Named}
+use Rattle.law_order.proofs.Vocabulary.{◌≡◌, ℕ, ◌<◌, ◌==◌, ◌&&◌, ◌||◌, Bool, true, false, nat_lt, Some, None, arith, rules, refl, sym, ap, subst, ◌∙◌, IfSome, if◌then◌else◌, Option, nat_tests}
 use Rattle.rh_sig.specs.declared.named.Named.TheVariants as named
-use Rattle.rh_sig.specs.declared.lengths.TheConstants.{IN_R1_A5_LEN}
-use Rattle.rh_http.specs.declared.config.ClientConfig.{ClientConfig}
-use Rattle.rh_line.specs.Lines.{after_finish, after_take}
-use Rattle.rh_line.specs.declared.leg.LegKind.{LegKind}
-use Rattle.rh_line.specs.declared.leg.LegKind.TheVariants.{ClientOut, OutServer, ClientIn, InServer}
-use Rattle.rh_line.specs.declared.which.Which.{Which}
-use Rattle.rh_line.specs.declared.which.Which.TheVariants.{Current, Next}
-use Rattle.rh_shell.specs.declared.answers.Count.{Count}
-use Rattle.rh_shell.specs.declared.answers.Phase.{Phase}
 use Rattle.rh_shell.specs.declared.answers.Phase.TheVariants as phase
-use Rattle.rh_shell.specs.NearEnds.{is_ended}
-use Rattle.rh_shell.specs.Rules.{Message, Packet}
-use Rattle.rh_client.specs.declared.channels.Opening.{Opening}
-use Rattle.rh_client.specs.declared.channels.Opening.TheVariants.{NotUp, Request, First, Second, Put}
-use Rattle.rh_client.specs.declared.channels.TheConstants.{LAST_NUMBER}
-use Rattle.rh_client.specs.declared.replacement.Replacement.{Replacement}
-use Rattle.rh_client.specs.declared.replacement.Replacement.TheVariants.{NoneUnderWay, In, Out}
-use Rattle.rh_client.specs.declared.replacement.InStage.{InStage}
 use Rattle.rh_client.specs.declared.replacement.InStage.TheVariants as in_stage
 use Rattle.rh_client.specs.declared.replacement.OutStage.TheVariants as out_stage
-use Rattle.rh_client.specs.declared.replacement.Waits.{Waits}
 use Rattle.rh_client.specs.declared.replacement.Waits.TheVariants as waits
-use Rattle.rh_client.specs.declared.state.ClientRole.{ClientRole}
-use Rattle.rh_client.specs.Channels.{is_named, unopened_in}
-use Rattle.rh_client.specs.Replacements.{is_in, is_out, is_finished}
-use Rattle.rh_client.specs.State.{Done, first, is_current, is_in_successor, is_out_successor, is_writing, is_open, is_over, taken, unexpected, begin_in, begin_out, after_in, after_out}
-use Rattle.rh_client.specs.Opening.{up}
-use Rattle.rh_client.specs.Acknowledging.{ack_due, ack_named, on_ack_to}
-use Rattle.rh_client.specs.InReplacement.{recycle, recycle_by, wish_by, wants_successor, wished, handed_over, answer_by}
-use Rattle.rh_client.specs.OutReplacement.{a2_by, a6_by, a10_by, succeeded, ended_or, pass_by, passed}
-use Rattle.rh_client.specs.Ending.{give, close, drawn, is_done_by}
-use Rattle.rh_client.specs.Time.{ping}
-use Rattle.rh_client.specs.Putting.{Pick, ack_by, out_due, due_by, or_else, put_ack, put_ack_of, put_by, put_conn_b1, put_current, put_due, put_end, put_in, put_in_r1_a1, put_in_successor, put_next, put_out, put_out_successor, put_pdu, put_ping, put_successor_ping, put_writing, settled_or_wished, settled_pick}
-use Rattle.rh_client.specs.Client.{rules as client_rules, acts as client_acts, pdu, on_packet, packet_by}
+use Rattle.law_moves.proofs.Vocabulary.{Ack, fits, by_test, Cookie, Named, IN_R1_A5_LEN, after_finish, after_take, LegKind, ClientOut, OutServer, ClientIn, InServer, Which, Current, Next, Count, Phase, is_ended, Message, Packet}
+use Rattle.law_role_client.proofs.Vocabulary.{Opening, NotUp, Request, First, Second, Put, LAST_NUMBER, Replacement, NoneUnderWay, In, Out, InStage, Waits, ClientRole, is_named, unopened_in, is_in, is_out, is_finished, Done, first, is_current, is_in_successor, is_out_successor, is_writing, is_open, is_over, taken, unexpected, begin_in, begin_out, after_in, after_out, up, ack_due, ack_named, on_ack_to, recycle, recycle_by, wish_by, wants_successor, wished, handed_over}
+use Rattle.law_role_client.proofs.Vocabulary.{answer_by, a2_by, a6_by, a10_by, succeeded, ended_or, pass_by, passed, give, close, drawn, is_done_by, ping, Pick, ack_by, out_due, due_by, or_else, put_ack, put_ack_of, put_by, put_conn_b1, put_current, put_due, put_end, put_in, put_in_r1_a1, put_in_successor, put_next, put_out, put_out_successor, put_pdu, put_ping, put_successor_ping, put_writing, settled_or_wished, settled_pick, rules as client_rules, acts as client_acts, pdu}
+use Rattle.law_role_client.proofs.Vocabulary.{on_packet, packet_by}
+use Rattle.law_node_causes.proofs.ClientSteps.{with_replacement}
+use Rattle.law_node_causes.proofs.ServerLegs.{Newest as Far, Grows as Goes}
 use Rattle.law_node_causes.specs.Numbers.{ClientIsNumbered}
 use Rattle.law_node_causes.specs.Once.{ComesUpOnce, KeepsUp}
 use Rattle.law_node_ends.proofs.Unused.Behind.{behind, below}
@@ -50,20 +18,11 @@ use Rattle.law_node_ends.proofs.Unused.Staying.{StaysDone, Keeps, RoleKeeps, End
 
 -- ---- how far its channels are
 
--- the numbers of the first IN channel and of the first OUT channel that are not finished
-pub record Far : Type 0 where
-  pub ins : ℕ
-  pub outs : ℕ
-
 abbrev far : ClientRole → Far
 far s = record {
   ins = s.writing.number;
   outs = behind (is_finished s.replacement) s.current.number;
 }
-
-pub record Goes (x y : Far) : Type 0 where
-  pub ins : x.ins ≤ y.ins
-  pub outs : x.outs ≤ y.outs
 
 abbrev GoesOn : ClientRole → ClientRole → Type 0
 GoesOn s t = Goes (far s) (far t)
@@ -104,9 +63,6 @@ goes_done s t goes leg = by leg.kind
     by InServer h = absurd cc
 
 -- ---- replacements
-
-abbrev with_replacement : ClientRole → Replacement → ClientRole
-with_replacement s r = record s { replacement = r }
 
 begin_in_same : (s : ClientRole) (w : Bool) → Same (with_replacement s NoneUnderWay) (begin_in s w)
 begin_in_same s w = search rules
@@ -438,20 +394,4 @@ calls_keep once = record {
       };
   close = λ s are. keeps_same s (close s) refl;
   recycle = λ s are. keeps_same s (recycle s).0 (recycle_same s s.replacement);
-}
-
-pub first_is : (config : ClientConfig) → ClientIsNumbered (first config)
-first_is config = record {
-  ins = record {
-    first = omega arith;
-    behind = λ e. absurd cc;
-    now_last = omega arith;
-    next_last = λ e. absurd cc;
-  };
-  outs = record {
-    first = omega arith;
-    behind = λ e. absurd cc;
-    now_last = omega arith;
-    next_last = λ e. absurd cc;
-  };
 }

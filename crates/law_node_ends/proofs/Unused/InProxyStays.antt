@@ -1,45 +1,13 @@
 -- an in proxy's channels go up by their numbers, and no leg that is done comes in use again
-use Rattle.std.proofs.Common.{◌≡◌, ℕ, ◌+◌, ◌==◌, ◌≤◌, ◌&&◌, ◌||◌, List, [], ◌∷◌, length, Bool, true, false, not, nat_lt, Some, None, refl, sym, ap, ◌∙◌, subst, rules, arith}
-use Rattle.std.specs.Prelude.{IfSome, nat_le, if◌then◌else◌}
-use Rattle.std.specs.declared.option.Option.{Option}
-use Rattle.std.proofs.lemmas.Bool.Decides.{nat_tests}
-use Rattle.rh_window.specs.Sending.{may_send}
-use Rattle.law_order.proofs.ByNumber.{by_test}
-use Rattle.rh_rts.specs.declared.command.Cookie.{Cookie}
-use Rattle.rh_sig.specs.declared.named.Named.{Named}
-use Rattle.rh_sig.specs.declared.named.Named.TheVariants.{ConnB1, InR1A1, InR1A5}
-use Rattle.rh_line.specs.declared.leg.Leg.{Leg}
-use Rattle.rh_line.specs.declared.which.Which.{Which}
-use Rattle.rh_line.specs.declared.which.Which.TheVariants.{Current, Next}
+use Rattle.law_order.proofs.Vocabulary.{◌≡◌, ℕ, ◌+◌, ◌==◌, ◌≤◌, ◌&&◌, ◌||◌, List, [], ◌∷◌, length, Bool, true, false, not, nat_lt, Some, None, refl, sym, ap, ◌∙◌, subst, rules, arith, IfSome, nat_le, if◌then◌else◌, Option, nat_tests}
 use Rattle.rh_line.specs.Lines as line
-use Rattle.rh_shell.specs.declared.answers.Count.{Count}
-use Rattle.rh_shell.specs.declared.due.Due.{Due}
-use Rattle.rh_shell.specs.Rules.{Message, Pdu}
 use Rattle.rh_shell.specs.declared.answers.Refused.TheVariants as refused
-use Rattle.rh_inproxy.specs.declared.state.InProxyConfig.{InProxyConfig}
-use Rattle.rh_inproxy.specs.declared.opening.TheConstants.{GREATEST_LENGTHS}
-use Rattle.rh_inproxy.specs.declared.state.ClientLeg.{ClientLeg}
-use Rattle.rh_inproxy.specs.declared.state.Joining.TheVariants.{TellsServer, Follows}
 use Rattle.rh_inproxy.specs.declared.state.Joining.TheVariants as joining
-use Rattle.rh_inproxy.specs.declared.state.Opener.{Opener}
-use Rattle.rh_inproxy.specs.declared.state.Opening.{Opening}
-use Rattle.rh_inproxy.specs.declared.state.Opening.TheVariants.{AwaitsClient, AwaitsPacket}
-use Rattle.rh_inproxy.specs.declared.state.Successor.{Successor}
-use Rattle.rh_inproxy.specs.declared.state.Successor.TheVariants.{Absent, Joined}
 use Rattle.rh_inproxy.specs.declared.state.Successor.TheVariants as successors
-use Rattle.rh_inproxy.specs.declared.state.Work.{Work}
 use Rattle.rh_inproxy.specs.declared.state.Work.TheVariants as works
-use Rattle.rh_inproxy.specs.Answers.{Done, Pick, or_else, taken, refuse, unexpected}
-use Rattle.rh_inproxy.specs.State.{InProxy, first, is_server_leg, is_client_leg, channel_of, has_come, has_a5, follows, same_cookie}
-use Rattle.rh_inproxy.specs.Opening.{wants, up, is_absent, accepts, may_accept, accepted, connected, head, drawn, drawn_by, is_first, opener_of, on_first_in_r1_a1, put_first, put_echo}
-use Rattle.rh_inproxy.specs.Acknowledging.{put_acks, current_ack, next_ack}
-use Rattle.rh_inproxy.specs.Ending.{mark, settled, settled_pick, is_newest, is_succeeded}
-use Rattle.rh_inproxy.specs.InReplacement.{joined, join, is_newcomer, on_later_in_r1_a1, on_in_r1_a1, on_in_r1_a5, told_by, put_in_r2_a2, one_less, finish_by, finished, hand_over}
-use Rattle.rh_inproxy.specs.Passing.{passed, next_pdu, put_pdu}
-use Rattle.rh_inproxy.specs.Putting.{put, next, put_waiting, waiting_by, put_control, put_early, put_stream, put_behind, put_mark}
-use Rattle.rh_inproxy.specs.Time.{ping, put_ping}
-use Rattle.rh_inproxy.specs.Machine.{packet, pdu, on_ci, on_is, on_channel, on_channel_by}
-use Rattle.rh_inproxy.specs.Machine.{rules as proxy_rules}
+use Rattle.law_moves.proofs.Vocabulary.{may_send, by_test, Cookie, Named, ConnB1, InR1A1, InR1A5, Leg, Which, Current, Next, Count, Due, Message, Pdu}
+use Rattle.law_role_inproxy.proofs.Vocabulary.{GREATEST_LENGTHS, ClientLeg, TellsServer, Follows, Opener, Opening, AwaitsClient, AwaitsPacket, Successor, Absent, Joined, Work, Done, Pick, or_else, taken, refuse, unexpected, InProxy, first, is_server_leg, is_client_leg, channel_of, has_come, has_a5, follows, same_cookie, wants, up, is_absent, accepts, may_accept, accepted, connected, head, drawn, drawn_by, is_first, opener_of, on_first_in_r1_a1, put_first, put_echo, put_acks}
+use Rattle.law_role_inproxy.proofs.Vocabulary.{current_ack, next_ack, mark, settled, settled_pick, is_newest, is_succeeded, joined, join, is_newcomer, on_later_in_r1_a1, on_in_r1_a1, on_in_r1_a5, told_by, put_in_r2_a2, one_less, finish_by, finished, hand_over, passed, next_pdu, put_pdu, put, next, put_waiting, waiting_by, put_control, put_early, put_stream, put_behind, put_mark, ping, put_ping, packet, pdu, on_ci, on_is, on_channel, on_channel_by, rules as proxy_rules}
 use Rattle.law_node_causes.specs.Numbers.{AreNumbered, IsAbove}
 use Rattle.law_node_causes.specs.Once.{ComesUpOnce}
 use Rattle.law_node_ends.proofs.Unused.Behind.{behind, below}
@@ -356,6 +324,3 @@ in_proxy_keeps once = record {
       goes_done s (mark s leg) (goes_same s (mark s leg) (lost_same s leg));
   ping = λ s leg are. ping_keeps s leg;
 }
-
-pub first_are : (config : InProxyConfig) → AreNumbered (first config)
-first_are config = record { first = omega arith; behind = tt }

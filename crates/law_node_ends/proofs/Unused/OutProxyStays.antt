@@ -1,18 +1,9 @@
 -- an out proxy's legs are done at once, with its work
-use Rattle.std.proofs.Common.{◌≡◌, ◌&&◌, Bool, true, false, not, if◌then◌else◌, Some, None, refl, sym, ◌∙◌}
-use Rattle.std.specs.Prelude.{IfSome, IsTrue}
-use Rattle.law_order.proofs.ByNumber.{by_test}
-use Rattle.rh_line.specs.declared.leg.Leg.{Leg}
+use Rattle.law_order.proofs.Vocabulary.{◌≡◌, ◌&&◌, Bool, true, false, not, if◌then◌else◌, Some, None, refl, sym, ◌∙◌, IfSome, IsTrue}
 use Rattle.rh_shell.specs.declared.answers.Phase.TheVariants as phases
-use Rattle.rh_shell.specs.NearEnds.{is_ended}
-use Rattle.rh_shell.specs.Rules.{Message}
 use Rattle.rh_outproxy.specs.declared.state.Answer.TheVariants as answers
-use Rattle.rh_outproxy.specs.OutProxy.{OutProxy, is_over, is_echo_put, is_server_down}
-use Rattle.rh_outproxy.specs.Rows.{is_co}
-use Rattle.rh_outproxy.specs.Ending.{drawn}
-use Rattle.rh_outproxy.specs.Putting.{Pick, put}
-use Rattle.rh_outproxy.specs.Machine.{rules as proxy_rules}
-use Rattle.law_moves.specs.Moves.{is_at_work, is_in_use}
+use Rattle.law_moves.proofs.Vocabulary.{by_test, Leg, is_ended, Message, is_at_work, is_in_use}
+use Rattle.law_role_outproxy.proofs.Vocabulary.{OutProxy, is_over, is_echo_put, is_server_down, is_co, drawn, Pick, put, rules as proxy_rules}
 use Rattle.law_node_ends.proofs.Unused.Staying.{StaysDone, Keeps, RoleKeeps, of_use}
 
 abbrev pub Any : OutProxy → Type 0

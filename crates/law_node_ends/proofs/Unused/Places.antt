@@ -1,13 +1,8 @@
 -- lists of which no element passes a test, and lists of elements with distinct numbers: what is
 -- left of that where an element is changed, removed or added
-use Rattle.std.proofs.Common.{◌≡◌, ℕ, zero, suc, ◌==◌, ◌||◌, cond, nat_lt, List, [], ◌∷◌, ◌++◌, length, Bool, true, false, Some, None, arith, refl, sym, ap, ◌∙◌, subst}
-use Rattle.std.specs.Prelude.{position, find, slice_get, slice_set, remove}
-use Rattle.std.specs.List.{list_any, position_or_len}
-use Rattle.std.specs.declared.option.Option.{Option}
-use Rattle.std.proofs.lemmas.Bool.Decides.{nat_tests}
-use Rattle.std.proofs.lemmas.List.Folds.{find_at}
-use Rattle.law_order.proofs.ItemLists.{neither}
-use Rattle.rh_server.specs.States.{is_some}
+use Rattle.law_order.proofs.Vocabulary.{◌≡◌, ℕ, zero, suc, ◌==◌, ◌||◌, cond, nat_lt, List, [], ◌∷◌, ◌++◌, length, Bool, true, false, Some, None, arith, refl, sym, ap, ◌∙◌, subst, position, find, slice_get, slice_set, remove, list_any, position_or_len, Option, nat_tests, find_at}
+use Rattle.law_moves.proofs.Vocabulary.{neither}
+use Rattle.law_role_server.proofs.Vocabulary.{is_some}
 
 no_one : (a b : Bool) → a ≡ false → b ≡ false → (a || b) ≡ false
 no_one true b p q = absurd cc

@@ -1,17 +1,8 @@
 -- how the legs that a server keeps may go on: their numbers stay distinct, none comes in use, and
 -- there is no new one
-use Rattle.std.proofs.Common.{◌≡◌, ℕ, ◌<◌, ◌≤◌, ◌==◌, ◌&&◌, List, Bool, true, false, not, Some, None, arith, refl, sym, ap, ◌∙◌, subst}
-use Rattle.std.specs.Prelude.{slice_get, slice_set}
-use Rattle.std.specs.List.{list_any}
-use Rattle.std.specs.declared.option.Option.{Option}
-use Rattle.std.proofs.lemmas.List.Quantifiers.{position-Some}
-use Rattle.std.proofs.lemmas.Option.{slice_get-get_or}
-use Rattle.std.specs.Prelude.{get_or}
-use Rattle.law_order.proofs.ByNumber.{same_number}
-use Rattle.rh_server.specs.declared.state.InLeg.{InLeg}
-use Rattle.rh_server.specs.declared.state.OutLeg.{OutLeg}
-use Rattle.rh_server.specs.States.{Server, in_at, in_place, set_at, out_at}
-use Rattle.rh_server.specs.Putting.{goes}
+use Rattle.law_order.proofs.Vocabulary.{◌≡◌, ℕ, ◌<◌, ◌≤◌, ◌==◌, ◌&&◌, List, Bool, true, false, not, Some, None, arith, refl, sym, ap, ◌∙◌, subst, slice_get, slice_set, list_any, Option, position-Some, slice_get-get_or, get_or}
+use Rattle.law_moves.proofs.Vocabulary.{same_number}
+use Rattle.law_role_server.proofs.Vocabulary.{InLeg, OutLeg, Server, in_at, in_place, set_at, out_at, goes}
 use Rattle.law_node_ends.proofs.Unused.Places.{none_at, none_set, has, AreDistinct, distinct_set}
 use Rattle.law_node_ends.proofs.Unused.ServerLists.{in_number, out_number, is_gone, is_used}
 

@@ -1,15 +1,8 @@
 -- which legs of a server are done, by the lists of those that it keeps
-use Rattle.std.proofs.Common.{◌≡◌, ℕ, ◌≤◌, ◌==◌, ◌&&◌, ◌||◌, cond, nat_lt, List, [], ◌∷◌, length, Bool, true, false, not, Some, None, arith, refl, sym, ap, ◌∙◌, subst}
-use Rattle.std.specs.Prelude.{position, find, slice_get}
-use Rattle.std.specs.List.{list_any, position_or_len}
-use Rattle.std.proofs.lemmas.Bool.Decides.{nat_tests}
-use Rattle.std.proofs.lemmas.List.Folds.{find_at}
-use Rattle.std.proofs.lemmas.Option.{slice_get_past}
-use Rattle.law_order.proofs.ByNumber.{same_number}
-use Rattle.rh_server.specs.declared.state.InLeg.{InLeg}
-use Rattle.rh_server.specs.declared.state.OutLeg.{OutLeg}
-use Rattle.rh_server.specs.States.{has_left, is_lost, in_at, in_leg, out_place, is_some}
-use Rattle.rh_server.specs.Ending.{in_is_done}
+use Rattle.law_order.proofs.Vocabulary.{◌≡◌, ℕ, ◌==◌, ◌&&◌, ◌||◌, cond, List, [], ◌∷◌, Bool, true, false, not, Some, refl, sym, ap, ◌∙◌, subst, find, list_any}
+use Rattle.law_moves.proofs.Vocabulary.{same_number}
+use Rattle.law_role_server.proofs.Vocabulary.{InLeg, OutLeg, has_left, is_lost, in_leg, out_place, is_some, in_is_done}
+use Rattle.law_role_server.proofs.InSpots.{in_found}
 use Rattle.law_node_ends.proofs.Unused.Places.{none_weaker, has_place, has, AreDistinct}
 
 abbrev pub in_number : InLeg → ℕ
@@ -26,22 +19,6 @@ abbrev pub is_used : ℕ → InLeg → Bool
 is_used n leg = (leg.number == n) && not (is_gone leg)
 
 -- ---- is legs that are done
-
-in_found : (test : InLeg → Bool) (legs : List InLeg)
-    → in_at legs (position test legs) ≡ find test legs
-in_found test legs =
-    by (nat_lt (position_or_len test legs) (length legs)) refl ∙ sym (find_at test legs)
-  where
-    past : (a b : ℕ) → nat_lt a b ≡ false → b ≤ a
-    past a b e = grind (arith, nat_tests)
-
-    by : (b : Bool) → nat_lt (position_or_len test legs) (length legs) ≡ b
-        → in_at legs (cond b (Some (position_or_len test legs)) None)
-        ≡ slice_get legs (position_or_len test legs)
-    by true e = refl
-    by false e =
-        sym (slice_get_past legs (position_or_len test legs)
-        (past (position_or_len test legs) (length legs) e))
 
 not_used : (n : ℕ) (leg : InLeg) → (leg.number == n) ≡ false → is_used n leg ≡ false
 not_used n leg e = rw e refl

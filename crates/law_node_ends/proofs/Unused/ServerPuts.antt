@@ -1,35 +1,13 @@
 -- so it is where a server puts, and where a leg of it is drawn or lost
-use Rattle.std.proofs.Common.{◌≡◌, ℕ, ◌==◌, ◌&&◌, Bool, Some, None, arith, rules, refl}
-use Rattle.std.specs.Prelude.{IfSome, if◌then◌else◌, slice_get}
-use Rattle.std.specs.declared.option.Option.{Option}
-use Rattle.rh_window.specs.declared.recv_window.Ack.{Ack}
-use Rattle.law_order.proofs.ByNumber.{by_test}
-use Rattle.rh_sig.specs.declared.named.Named.{Named}
+use Rattle.law_order.proofs.Vocabulary.{◌≡◌, ℕ, ◌==◌, ◌&&◌, Bool, Some, None, arith, rules, refl, IfSome, if◌then◌else◌, slice_get, Option}
 use Rattle.rh_sig.specs.declared.named.Named.TheVariants as named
-use Rattle.rh_line.specs.declared.leg.LegKind.{LegKind}
-use Rattle.rh_line.specs.declared.leg.LegKind.TheVariants.{ClientOut, OutServer, ClientIn, InServer}
-use Rattle.rh_line.specs.declared.which.Which.TheVariants.{Current}
-use Rattle.rh_line.specs.Lines.{after_tell}
-use Rattle.rh_line.specs.Queue.{front_length}
-use Rattle.rh_shell.specs.Rules.{Message, Text, Pdu, Packet}
-use Rattle.rh_shell.specs.declared.due.Due.{Due}
-use Rattle.rh_shell.specs.Hearing.{greeting as greeting_text}
-use Rattle.rh_shell.specs.NearEnds.{first_of}
-use Rattle.rh_shell.specs.Waiting.{Waiting, taken}
-use Rattle.rh_server.specs.declared.state.InLeg.{InLeg}
-use Rattle.rh_server.specs.declared.state.OutLeg.{OutLeg}
 use Rattle.rh_server.specs.declared.state.EndMark.TheVariants as end_mark
 use Rattle.rh_server.specs.declared.state.Greeting.TheVariants as greeting
-use Rattle.rh_server.specs.declared.state.Edge.TheVariants.{Told}
-use Rattle.rh_server.specs.declared.state.Leaving.{Leaving}
 use Rattle.rh_server.specs.declared.state.Leaving.TheVariants as leaving
-use Rattle.rh_server.specs.declared.state.Tells.{Tells}
 use Rattle.rh_server.specs.declared.state.Tells.TheVariants as tells
-use Rattle.rh_server.specs.States.{Server, in_leg, in_place, with_in, out_place, is_open, is_due, is_shut, is_waiting, stays, removed_at, without_in, without_out}
-use Rattle.rh_server.specs.OutLines.{Gate, lets, length_of}
-use Rattle.rh_server.specs.OutLegs.{counted, went}
-use Rattle.rh_server.specs.Putting.{Pick, or_else, put_by, put_in_by, put_in_greeting, put_tells, put_tells_by, put_b1, put_b1_by, put_ack, put_ack_by, ack_due, was_current, told_by, put_out_at, put_open, next_in, next_out, out_greeting_at, put_out_greeting, put_waiting, waiting_at, waiting_by, was_put, goes, went_at, with_out, counts, counts_at, may_go_at, may_end_at, is_end_due, gate_at, put_pdu, pdu_by, put_end, put_pdu_or_end, settled_pick}
-use Rattle.rh_server.specs.Ending.{in_is_drawn, drawn_by, mark_by, lost_in, with_ack_dropped, settled}
+use Rattle.law_moves.proofs.Vocabulary.{Ack, by_test, Named, LegKind, ClientOut, OutServer, ClientIn, InServer, Current, after_tell, front_length, Message, Text, Pdu, Packet, Due, greeting as greeting_text, first_of, Waiting, taken}
+use Rattle.law_role_server.proofs.Vocabulary.{InLeg, OutLeg, Told, Leaving, Tells, Server, in_leg, in_place, with_in, out_place, is_open, is_due, is_shut, is_waiting, stays, removed_at, without_in, without_out, Gate, lets, length_of, counted, went, Pick, or_else, put_by, put_in_by, put_in_greeting, put_tells, put_tells_by, put_b1, put_b1_by, put_ack, put_ack_by, ack_due, was_current, told_by, put_out_at, put_open, next_in, next_out, out_greeting_at, put_out_greeting}
+use Rattle.law_role_server.proofs.Vocabulary.{put_waiting, waiting_at, waiting_by, was_put, goes, went_at, with_out, counts, counts_at, may_go_at, may_end_at, is_end_due, gate_at, put_pdu, pdu_by, put_end, put_pdu_or_end, settled_pick, in_is_drawn, drawn_by, mark_by, lost_in, with_ack_dropped, settled}
 use Rattle.law_node_ends.proofs.Unused.Places.{none_removed, has, distinct_removed}
 use Rattle.law_node_ends.proofs.Unused.ServerLists.{in_number, out_number, is_used}
 use Rattle.law_node_ends.proofs.Unused.ServerLegs.{said, Same, Goes, GoesOn, goes_self, goes_same, goes_then, IsAmong, in_among, out_among, in_goes, out_goes}

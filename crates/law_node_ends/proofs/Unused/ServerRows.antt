@@ -1,36 +1,15 @@
 -- the rows of a server leave its legs as they are, or one of them goes on
-use Rattle.std.proofs.Common.{◌≡◌, ℕ, ◌==◌, ◌&&◌, ◌||◌, Bool, true, false, not, nat_lt, Some, None, arith, rules, refl, sym, ◌∙◌}
-use Rattle.std.specs.Prelude.{slice_get}
-use Rattle.std.specs.declared.option.Option.{Option}
-use Rattle.law_order.proofs.ByNumber.{by_test}
-use Rattle.rh_rts.specs.declared.command.Cookie.{Cookie}
-use Rattle.rh_sig.specs.declared.named.Named.{Named}
+use Rattle.law_order.proofs.Vocabulary.{◌≡◌, ℕ, ◌==◌, ◌&&◌, ◌||◌, Bool, true, false, not, nat_lt, Some, None, arith, rules, refl, sym, ◌∙◌, slice_get, Option}
 use Rattle.rh_sig.specs.declared.named.Named.TheVariants as named
-use Rattle.rh_line.specs.declared.leg.LegKind.{LegKind}
-use Rattle.rh_line.specs.declared.leg.LegKind.TheVariants.{ClientOut, OutServer, ClientIn, InServer}
-use Rattle.rh_line.specs.declared.which.Which.{Which}
-use Rattle.rh_line.specs.declared.which.Which.TheVariants.{Current, Next}
-use Rattle.rh_line.specs.Lines.{after_finish}
-use Rattle.rh_shell.specs.declared.answers.Count.{Count}
 use Rattle.rh_shell.specs.declared.answers.Refused.TheVariants as refused
-use Rattle.rh_server.specs.declared.state.InLeg.{InLeg}
-use Rattle.rh_server.specs.declared.state.OutLeg.{OutLeg}
+use Rattle.rh_server.specs.declared.state.Stage.TheVariants.{Waits}
 use Rattle.rh_server.specs.declared.out_line.Kind.TheVariants as kind
-use Rattle.rh_server.specs.declared.state.Edge.TheVariants.{Shut}
-use Rattle.rh_server.specs.declared.state.InStage.{InStage}
 use Rattle.rh_server.specs.declared.state.InStage.TheVariants as in_stage
 use Rattle.rh_server.specs.declared.state.Leaving.TheVariants as leaving
-use Rattle.rh_server.specs.declared.state.Stage.{Stage}
-use Rattle.rh_server.specs.declared.state.Stage.TheVariants.{Waits, OutCame, InCame, Open}
 use Rattle.rh_server.specs.declared.state.Tells.TheVariants as tells
-use Rattle.rh_server.specs.States.{Server, in_leg, in_place, with_in, out_at, out_place, out_cookie, is_open, is_fresh, same_cookie}
-use Rattle.rh_server.specs.Opening.{took, refuse, unexpected, is_first, first_in, conn_b2_at, conn_a2_at, first_out_at}
-use Rattle.rh_server.specs.OutLines.{waits}
-use Rattle.rh_server.specs.Acknowledging.{channel_at, acked_cookie, acked_in, acked_at}
-use Rattle.rh_server.specs.InReplacement.{first_waiting, waiting_place, opens_leg, opens_next, next_opened, becomes_current, moved_if, announced, in_r1_a2_by, in_r1_a2_at, has_fresh_below, leaves, leaves_by, hands_over, on_in_r1_a6, in_r2_a2_on}
-use Rattle.rh_server.specs.OutReplacement.{answered_by, out_r1_a4_by, out_r1_a4_at, may_answer}
-use Rattle.rh_server.specs.Ending.{in_is_done, end_a2_at, end_a2_waiting, end_a2_on_leg, is_done_by}
-use Rattle.rh_server.specs.Servers.{on_is, on_os, packet_by}
+use Rattle.law_moves.proofs.Vocabulary.{by_test, Cookie, Named, LegKind, ClientOut, OutServer, ClientIn, InServer, Which, Current, Next, after_finish, Count}
+use Rattle.law_role_server.proofs.Vocabulary.{InLeg, OutLeg, Shut, InStage, Stage, OutCame, InCame, Open, Server, in_leg, in_place, with_in, out_at, out_place, out_cookie, is_open, is_fresh, same_cookie, took, refuse, unexpected, is_first, first_in, conn_b2_at, conn_a2_at, first_out_at, waits, channel_at, acked_cookie, acked_in, acked_at, first_waiting, waiting_place, opens_leg, opens_next, next_opened, becomes_current, moved_if, announced, in_r1_a2_by, in_r1_a2_at}
+use Rattle.law_role_server.proofs.Vocabulary.{has_fresh_below, leaves, leaves_by, hands_over, on_in_r1_a6, in_r2_a2_on, answered_by, out_r1_a4_by, out_r1_a4_at, may_answer, in_is_done, end_a2_at, end_a2_waiting, end_a2_on_leg, is_done_by, on_is, on_os, packet_by}
 use Rattle.law_node_ends.proofs.Unused.Staying.{either}
 use Rattle.law_node_ends.proofs.Unused.ServerLegs.{GoesOn, goes_self, goes_same, goes_then, IsAmong, in_among, out_among, in_goes, out_goes}
 

@@ -1,34 +1,11 @@
 -- a server keeps legs of distinct numbers, and no leg that is done comes in use again
-use Rattle.std.proofs.Common.{◌≡◌, ℕ, ◌+◌, ◌==◌, ◌&&◌, List, [], ◌∷◌, ◌++◌, Bool, true, false, not, Some, None, arith, rules, refl, ap, ◌∙◌}
-use Rattle.std.specs.Prelude.{IfSome, IsTrue}
-use Rattle.std.proofs.lemmas.Bool.Decides.{nat_tests}
-use Rattle.law_order.proofs.ByNumber.{by_test, same_number}
-use Rattle.rh_rts.specs.declared.command.Cookie.{Cookie}
-use Rattle.rh_line.specs.declared.leg.Leg.{Leg}
-use Rattle.rh_line.specs.declared.leg.LegKind.{LegKind}
-use Rattle.rh_line.specs.declared.leg.LegKind.TheVariants.{ClientOut, OutServer, ClientIn, InServer}
-use Rattle.rh_line.specs.Lines.{after_take}
-use Rattle.rh_shell.specs.declared.answers.Count.{Count}
-use Rattle.rh_shell.specs.Rules.{Message, Pdu, Packet}
-use Rattle.rh_shell.specs.NearEnds.{is_ended}
-use Rattle.rh_shell.specs.Shells.{kind_number}
-use Rattle.rh_server.specs.declared.state.Stage.{Stage}
-use Rattle.rh_server.specs.declared.state.Stage.TheVariants.{Ended}
-use Rattle.rh_server.specs.States.{Server, in_leg, without_in}
-use Rattle.rh_server.specs.Putting.{Pick, goes}
-use Rattle.rh_server.specs.Ending.{is_done_by, in_is_drawn, drawn_by, settled}
-use Rattle.rh_server.specs.Servers.{rules as server_rules, acts as server_acts}
-use Rattle.rh_server.specs.States.{phase_of}
-use Rattle.rh_server.specs.Opening.{has_room, in_leg_up, out_leg_up, may_up, may_up_by, up, up_by}
-use Rattle.rh_server.specs.InReplacement.{take}
-use Rattle.rh_server.specs.OutReplacement.{asks, recycle, wishes}
-use Rattle.rh_server.specs.Putting.{put}
-use Rattle.rh_server.specs.Ending.{close, completed, drawn, give, is_complete, mark}
-use Rattle.rh_server.specs.Servers.{first, packet, pdu}
-use Rattle.law_moves.specs.Moves.{Move, Up, HeadCame, PduCame, PacketCame, Puts, IsDrawn, Marks, Pings, Passage, moved, MayMove, EndMove, EndPassage, Moves, Gives, Takes, Closes, Recycles, end_moved, end_now_at, MayEndMove, is_in_use}
+use Rattle.law_order.proofs.Vocabulary.{◌≡◌, ℕ, ◌+◌, ◌==◌, ◌&&◌, List, [], ◌∷◌, ◌++◌, Bool, true, false, not, Some, None, arith, rules, refl, ap, ◌∙◌, IfSome, IsTrue, nat_tests}
+use Rattle.law_moves.proofs.Vocabulary.{by_test, same_number, Cookie, Leg, LegKind, ClientOut, OutServer, ClientIn, InServer, after_take, Count, Message, Pdu, Packet, is_ended, kind_number, Move, Up, HeadCame, PduCame, PacketCame, Puts, IsDrawn, Marks, Pings, Passage, moved, MayMove, EndMove, EndPassage, Moves, Gives, Takes, Closes, Recycles, end_moved, end_now_at, MayEndMove, is_in_use}
+use Rattle.law_role_server.proofs.Vocabulary.{Stage, Ended, Server, in_leg, without_in, Pick, goes, is_done_by, in_is_drawn, drawn_by, settled, rules as server_rules, acts as server_acts, phase_of, has_room, in_leg_up, out_leg_up, may_up, may_up_by, up, up_by, take, asks, recycle, wishes, put, close, completed, drawn, give, is_complete, mark, first, packet, pdu}
+use Rattle.law_node_causes.proofs.MoveRoles.{by_row, by_given, by_first}
 use Rattle.law_node_ends.proofs.Unused.Places.{none_pushed, has, distinct_pushed}
 use Rattle.law_node_ends.proofs.Unused.ServerLists.{in_number, out_number, is_used, in_unused, in_done, out_absent, out_done}
-use Rattle.law_node_ends.proofs.Unused.Staying.{StaysDone, Keeps, RoleKeeps, EndKeeps, by_row, by_put, by_given, by_first}
+use Rattle.law_node_ends.proofs.Unused.Staying.{StaysDone, Keeps, RoleKeeps, EndKeeps, by_put}
 use Rattle.law_node_ends.proofs.Unused.ServerLegs.{Same, GoesOn, goes_self, goes_same, IsSound, goes_sound}
 use Rattle.law_node_ends.proofs.Unused.ServerRows.{moved_goes, packet_goes}
 use Rattle.law_node_ends.proofs.Unused.ServerPuts.{PickGoes, put_goes, mark_goes, drawn_goes}

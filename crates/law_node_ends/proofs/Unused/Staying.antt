@@ -1,19 +1,8 @@
 -- where each function of a role leaves the legs done that were done, its moves leave unused what
 -- was
-use Rattle.std.proofs.Common.{◌≡◌, ℕ, ◌&&◌, List, [], ◌∷◌, Bool, true, false, not, Some, None, Ok, Err, refl}
-use Rattle.std.specs.Prelude.{if◌then◌else◌, IfSome, IsTrue}
-use Rattle.std.specs.declared.option.Option.{Option}
-use Rattle.std.specs.declared.result.Result.{Result}
-use Rattle.law_order.proofs.ByNumber.{by_test}
-use Rattle.rh_rts.specs.declared.command.Cookie.{Cookie}
-use Rattle.rh_sig.specs.declared.named.Named.{Named}
-use Rattle.rh_line.specs.declared.leg.Leg.{Leg}
-use Rattle.rh_shell.specs.declared.answers.Count.{Count}
-use Rattle.rh_shell.specs.declared.end_role.GiveRefused.{GiveRefused}
-use Rattle.rh_shell.specs.NearEnds.{is_ended}
-use Rattle.rh_shell.specs.Rules.{Rules, Acts, Row, Message, Pdu, Packet}
-use Rattle.rh_shell.specs.Shells.{same_leg}
-use Rattle.law_moves.specs.Moves.{Move, Up, HeadCame, PduCame, PacketCame, Puts, IsDrawn, Marks, Pings, Passage, started, moved, all_moved, taken_by, put_by, MayMove, AreAllowed, EndMove, Moves, Gives, Takes, Closes, Recycles, EndPassage, end_started, end_moved, all_end_moved, end_now_at, given_by, with_first, MayEndMove, AreAllowedAtEnd, is_at_work, is_in_use}
+use Rattle.law_order.proofs.Vocabulary.{◌≡◌, ℕ, ◌&&◌, List, [], ◌∷◌, Bool, true, false, not, Some, None, refl, if◌then◌else◌, IfSome, IsTrue, Option}
+use Rattle.law_moves.proofs.Vocabulary.{by_test, Cookie, Named, Leg, Count, is_ended, Rules, Acts, Row, Message, Pdu, Packet, same_leg, Move, Up, HeadCame, PduCame, PacketCame, Puts, IsDrawn, Marks, Pings, Passage, started, moved, all_moved, put_by, MayMove, AreAllowed, EndMove, Moves, Gives, Takes, Closes, Recycles, EndPassage, end_started, end_moved, all_end_moved, end_now_at, MayEndMove, AreAllowedAtEnd, is_at_work, is_in_use}
+use Rattle.law_node_causes.proofs.MoveRoles.{by_row, by_given, by_first}
 use Rattle.law_node_streams.specs.Streams.{is_up_on, StaysUnused, is_end_up_on, StaysUnusedAtEnd}
 
 -- ---- what is asked of a role
@@ -100,26 +89,11 @@ pub either : {S : Type 0} (P : S → Type 0) (b : Bool) (x y : S × Row) → P x
 either {S} P b x y then_so else_so =
     by_test (λ (z : S × Row). P z.0) b x y (λ e. then_so) (λ e. else_so)
 
-pub by_row : {S : Type 0} (P : S → Type 0) (p : Passage S) (leg : Leg) (message : Message)
-    (x : S × Row) → P x.0 → P (taken_by p leg message x).role
-by_row P p leg message (role, Ok taken) h = h
-by_row P p leg message (role, Err refused) h = h
-
 pub by_put : {S : Type 0} (P : S → Type 0) (p : Passage S) (leg : Leg)
     (o : Option (S × Message)) → P p.role → IfSome o (λ (put : S × Message). P put.0)
     → P (put_by p leg o).role
 by_put P p leg None same h = same
 by_put P p leg (Some put) same h = h
-
-pub by_given : {S : Type 0} (P : S → Type 0) (p : EndPassage S) (pdu : List ℕ)
-    (x : S × Result (Unit {0}) GiveRefused) → P x.0 → P (given_by p pdu x).passage.role
-by_given P p pdu (role, Ok accepted) h = h
-by_given P p pdu (role, Err refused) h = h
-
-pub by_first : {S : Type 0} (P : S → Type 0) (p : EndPassage S) (pdus : List (List ℕ))
-    → P p.passage.role → P (with_first p pdus).passage.role
-by_first P p [] h = h
-by_first P p (pdu ∷ pdus) h = h
 
 if_some : {S : Type 0} (P Q : S → Type 0) → ((t : S) → P t → Q t) → (o : Option (S × Message))
     → IfSome o (λ (put : S × Message). P put.0) → IfSome o (λ (put : S × Message). Q put.0)

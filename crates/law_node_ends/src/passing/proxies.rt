@@ -14,23 +14,10 @@ ghost use Rattle.law_moves.specs.Moves.{AreAllowed, Move, all_moved, started};
 ghost use Rattle.law_role_inproxy.specs.Order.{came_log as in_came, put_items as in_put};
 ghost use Rattle.law_role_outproxy.specs.Order.{came_log as out_came, put_items as out_put, server_leg};
 ghost use Rattle.law_node_ends.specs.Passed.{AsksNoEcho, HeadsAre, IsDoneBehindEnd, IsDoneBehindEnds};
-ghost use Rattle.law_node_ends.specs.Passed.{IsDoneBehindMark, LosesNone, ci_leg, is_leg};
+ghost use Rattle.law_node_ends.specs.Passed.{ci_leg, is_leg};
 
 use law_role_inproxy::an_in_proxy_keeps_order;
 use law_role_outproxy::an_out_proxy_keeps_order;
-
-/// Whatever moves an in proxy makes, as long as no leg is marked and no head asks for an echo: on
-/// each ci leg that came up and is in use no more, IN_R1/A5 came.
-pub fn an_in_proxy_is_done_behind_a_mark()
-    ensures { (config : InProxyConfig) (moves : List Move)
-        → AreAllowed in_rules (started (first config)) moves
-        → AllByRecursion (LosesNone (AsksNoEcho true)) moves
-        → (let p = all_moved in_rules (started (first config)) moves in
-        (n : ℕ) → in_rules.was_up p.role (ci_leg n) ≡ true
-        → IsDoneBehindMark in_rules p.role (ci_leg n) (in_came p.came n)) }
-{
-    an_in_proxy_keeps_order();
-}
 
 /// And if legs are marked: on each ci leg that came up and is in use no more, IN_R1/A5 came, or
 /// END/A1 did there or on one of the ci legs before it, behind which no RPC PDU is taken.

@@ -1,14 +1,6 @@
 -- what is kept of all legs, with more known of the moves
-use Rattle.std.proofs.Common.{ℕ, List, Bool}
-use Rattle.std.specs.List.{AllByRecursion}
-use Rattle.std.specs.declared.option.Option.{Option}
-use Rattle.rh_rts.specs.declared.command.Cookie.{Cookie}
-use Rattle.rh_sig.specs.declared.name.Pipe.{Pipe}
-use Rattle.rh_line.specs.declared.leg.Leg.{Leg}
-use Rattle.rh_shell.specs.Rules.{Rules}
-use Rattle.rh_shell.specs.Shells.{Shell}
-use Rattle.law_moves.specs.Moves.{Move, Passage}
-use Rattle.law_moves.specs.Turns.{Stages}
+use Rattle.law_order.proofs.Vocabulary.{ℕ, List, Bool, AllByRecursion, Option}
+use Rattle.law_moves.proofs.Vocabulary.{Cookie, Pipe, Leg, Rules, Shell, Move, Passage, Stages}
 use Rattle.law_node_streams.proofs.Streams.Runs.{Ran}
 use Rattle.law_node_streams.proofs.Streams.Ways.{Lifts}
 

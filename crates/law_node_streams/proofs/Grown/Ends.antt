@@ -1,37 +1,14 @@
 -- the streams of an end behind each front of its events, event by event
-use Rattle.std.proofs.Common.{◌≡◌, inl, inr, ℕ, List, [], ◌∷◌, ◌++◌, append_assoc, Bool, false, ◌||◌, Some, None, Err, refl, sym, ap, ◌∙◌, subst}
-use Rattle.std.specs.declared.option.Option.{Option}
-use Rattle.std.specs.List.{AllByRecursion, list_any}
-use Rattle.std.proofs.lemmas.List.{append-nil}
-use Rattle.std.proofs.lemmas.List.Folds.{list_any-append}
-use mathlib.Core.List.{IsPrefix}
-use Rattle.law_order.proofs.ItemLists.{neither}
-use Rattle.law_order.proofs.Prefixes.{prefix_more, prefix_self, prefix_trans}
-use Rattle.rh_http.specs.declared.fault.HttpFault.{HttpFault}
-use Rattle.rh_rts.specs.declared.command.Cookie.{Cookie}
-use Rattle.rh_sig.specs.declared.name.Pipe.{Pipe}
-use Rattle.rh_line.specs.declared.cause.Cause.{Cause}
-use Rattle.rh_line.specs.declared.leg.Leg.{Leg}
-use Rattle.rh_line.specs.declared.state.State.{State}
+use Rattle.law_order.proofs.Vocabulary.{◌≡◌, inl, inr, ℕ, List, [], ◌∷◌, ◌++◌, append_assoc, Bool, false, ◌||◌, Some, None, Err, refl, sym, ap, ◌∙◌, subst, Option, AllByRecursion, list_any, append-nil, list_any-append, IsPrefix}
 use Rattle.rh_line.specs.declared.state.State.TheVariants as state
+use Rattle.rh_shell.specs.Ends.{given_by as told_of}
 use Rattle.rh_shell.specs.declared.answers.HeadRefused.TheVariants as head
-use Rattle.rh_shell.specs.declared.rooms.Rooms.{Rooms}
-use Rattle.law_moves.specs.Carrying.{accepted, handed_by, spelled}
-use Rattle.rh_shell.specs.Ends.{cause_of, give_where, given_by as told_of, take_where, close_where, recycle_where, with_role}
-use Rattle.law_moves.specs.Moves.{Move, Up, HeadCame, PduCame, PacketCame, Puts, IsDrawn, Marks, Pings, Moves, EndMove, EndPassage, Gives, Takes, Closes, Recycles, Passage, MayEndMove, MayMove, all_end_moved, end_moved, end_started, is_in_use, moved}
-use Rattle.law_moves.specs.Moving.{EndEvent, EndLeads, Event, Happens, Hears, IsClosed, IsGiven, IsRecycled, IsTaken, after_end_event, after_end_events, after_event}
-use Rattle.rh_shell.specs.Rules.{Rules, Acts}
-use Rattle.rh_shell.specs.Shells.{Shell, begun, state_of}
-use Rattle.law_moves.specs.Wires.{of_leg}
-use Rattle.law_moves.specs.Passages.Counted.{AreCountedAtEnd, IsCounted, IsCountedAtEnd}
-use Rattle.law_moves.specs.Passages.Rising.{AreUpFirst, CameUpWith, HasComeUp, IsUpFirst}
-use Rattle.law_moves.specs.ReadBack.Reading.{messages_read}
-use Rattle.law_node_history.specs.Carried.{AreAcceptedAtEnd, ComesUpOnceAtEnd, IsAcceptedAtEnd, came_up, drawn_at_end, drawn_in, end_drawn_on, happened, heard_in, heard_on, is_up_of}
-use Rattle.law_node_history.proofs.Appended.{came_append, end_accepted_append, end_drawn_append, happened_append, heard_append}
-use Rattle.law_node_history.proofs.Runs.{end_events_append}
-use Rattle.law_node_streams.specs.Streams.{EndStream, HearsInTurn, NeverRefuses, Seated, StaysUnusedAtEnd, all_given, all_taken, given_by, is_end_up_on, is_up_on, taken_by}
-use Rattle.law_moves.specs.Turns.{Stages, IsInTurn, stages_after}
-use Rattle.law_node_streams.proofs.Streams.AtEnds.{drawn_is, end_stays, is_open}
+use Rattle.law_moves.proofs.Vocabulary.{neither, prefix_more, prefix_self, prefix_trans, Cookie, Pipe, HttpFault, Cause, Leg, State, Rooms, cause_of, give_where, take_where, close_where, recycle_where, with_role, Rules, Acts, Shell, begun, state_of, accepted, handed_by, spelled, Move, Up, HeadCame, PduCame, PacketCame, Puts, IsDrawn, Marks, Pings, Moves, EndMove, EndPassage, Gives, Takes, Closes, Recycles, Passage, MayEndMove, MayMove, all_end_moved, end_moved, end_started}
+use Rattle.law_moves.proofs.Vocabulary.{is_in_use, moved, EndEvent, EndLeads, Event, Happens, Hears, IsClosed, IsGiven, IsRecycled, IsTaken, after_end_event, after_end_events, after_event, of_leg, AreCountedAtEnd, IsCounted, IsCountedAtEnd, AreUpFirst, CameUpWith, HasComeUp, IsUpFirst, messages_read, Stages, IsInTurn, stages_after}
+use Rattle.law_moves.proofs.Lemmas.{open_phase as is_open}
+use Rattle.law_node_history.proofs.Lemmas.{came_append, end_accepted_append, end_drawn_append, happened_append, heard_append, end_events_append}
+use Rattle.law_node_history.proofs.Vocabulary.{AreAcceptedAtEnd, ComesUpOnceAtEnd, IsAcceptedAtEnd, came_up, drawn_at_end, drawn_in, end_drawn_on, happened, heard_in, heard_on, is_up_of}
+use Rattle.law_node_streams.proofs.Streams.AtEnds.{drawn_is, end_stays}
 use Rattle.law_node_streams.proofs.Streams.Counts.{end_counted_append}
 use Rattle.law_node_streams.proofs.Streams.EndMoves.{Did, did_close, did_give, did_recycle, did_take, leads_one}
 use Rattle.law_node_streams.proofs.Streams.Going.{kept_seated}
@@ -40,8 +17,9 @@ use Rattle.law_node_streams.proofs.Streams.Runs.{IsFit, Ran, ran_as, ran_by, ran
 use Rattle.law_node_streams.proofs.Streams.Seats.{left_self, seat, silent_none, staged_on}
 use Rattle.law_node_streams.proofs.Streams.Turns.{Passes}
 use Rattle.law_node_streams.proofs.Streams.Ways.{Lifts, each_joined, each_of, or_false}
-use Rattle.law_node_streams.specs.Grown.{EndGrowing, EndGrows}
 use Rattle.law_node_streams.proofs.Grown.Based.{ran_with}
+use Rattle.law_node_streams.specs.Streams.{EndStream, HearsInTurn, NeverRefuses, Seated, StaysUnusedAtEnd, all_given, all_taken, given_by, is_end_up_on, is_up_on, taken_by}
+use Rattle.law_node_streams.specs.Grown.{EndGrowing, EndGrows}
 
 -- ---- more events
 
@@ -53,7 +31,7 @@ came_more (event ∷ events) later leg cookie (inr rest) =
     inr (came_more events later leg cookie rest)
 
 -- what is heard in turn in all events is so in the first
-turn_front : (events later : List Event) → HearsInTurn (events ++ later) → HearsInTurn events
+pub turn_front : (events later : List Event) → HearsInTurn (events ++ later) → HearsInTurn events
 turn_front events later turn before behind leg piece is =
     turn before (behind ++ later) leg piece
     (ap (λ x. x ++ later) is ∙ append_assoc before (Hears leg piece ∷ behind) later)

@@ -1,29 +1,15 @@
 -- the streams of a node behind each front of its events, event by event
-use Rattle.std.proofs.Common.{◌≡◌, List, [], ◌∷◌, ◌++◌, append_assoc, false, ◌||◌, refl, sym, ap, ◌∙◌, subst}
-use Rattle.std.specs.declared.option.Option.{Option}
-use Rattle.std.proofs.lemmas.List.{append-nil}
-use mathlib.Core.List.{IsPrefix}
-use Rattle.law_order.proofs.Prefixes.{prefix_more, prefix_self, prefix_trans}
-use Rattle.rh_rts.specs.declared.command.Cookie.{Cookie}
-use Rattle.rh_sig.specs.declared.name.Pipe.{Pipe}
-use Rattle.rh_line.specs.declared.leg.Leg.{Leg}
-use Rattle.rh_shell.specs.declared.rooms.Rooms.{Rooms}
-use Rattle.law_moves.specs.Moves.{Move, Passage, MayMove, moved}
-use Rattle.law_moves.specs.Moving.{Event, after_event, after_events}
-use Rattle.rh_shell.specs.Rules.{Rules}
-use Rattle.rh_shell.specs.Shells.{Shell, begun}
-use Rattle.law_moves.specs.Passages.Counted.{IsCounted}
-use Rattle.law_node_history.specs.Carried.{AreAccepted, ComesUpOnce, IsAccepted, came_up, drawn_in, drawn_on, heard_in, heard_on, is_up_of}
-use Rattle.law_node_history.proofs.Runs.{events_append}
-use Rattle.law_node_history.proofs.Appended.{accepted_append, came_append, drawn_append, heard_append}
-use Rattle.law_node_streams.specs.Streams.{HasPipes, HearsInTurn, StaysUnused, Stream, is_refused_on}
-use Rattle.law_moves.specs.Turns.{RefusesInTurn, Stages, IsInTurn, stages_after}
+use Rattle.law_order.proofs.Vocabulary.{◌≡◌, List, [], ◌∷◌, ◌++◌, append_assoc, false, ◌||◌, refl, sym, ap, ◌∙◌, subst, Option, append-nil, IsPrefix}
+use Rattle.law_moves.proofs.Vocabulary.{prefix_more, prefix_self, prefix_trans, Cookie, Pipe, Leg, Rooms, Rules, Shell, begun, Move, Passage, MayMove, moved, Event, after_event, after_events, IsCounted, RefusesInTurn, Stages, IsInTurn, stages_after}
+use Rattle.law_node_history.proofs.Lemmas.{events_append, accepted_append, came_append, drawn_append, heard_append}
+use Rattle.law_node_history.proofs.Vocabulary.{AreAccepted, ComesUpOnce, IsAccepted, came_up, drawn_in, drawn_on, heard_in, heard_on, is_up_of}
 use Rattle.law_node_streams.proofs.Streams.Going.{kept_seated}
 use Rattle.law_node_streams.proofs.Streams.Nodes.{IsReached, asked, drawn_is, more, piped, refused_is, stays, unreached}
 use Rattle.law_node_streams.proofs.Streams.Runs.{IsFit, Ran, ran_as, ran_event, ran_none}
 use Rattle.law_node_streams.proofs.Streams.Ways.{or_false}
-use Rattle.law_node_streams.specs.Grown.{Growing, Grows}
 use Rattle.law_node_streams.proofs.Grown.Based.{ran_with}
+use Rattle.law_node_streams.specs.Streams.{HasPipes, HearsInTurn, StaysUnused, Stream, is_refused_on}
+use Rattle.law_node_streams.specs.Grown.{Growing, Grows}
 
 module _ {S : Type 0} (rules : Rules S) (first : S) (rooms : Rooms) (pipe : Leg → Option Pipe)
     (has : HasPipes rules first pipe) (unused : StaysUnused rules first)

@@ -1,14 +1,6 @@
 -- along streams that grow: that behind more events, and how it goes on
-use Rattle.std.proofs.Common.{List, [], ◌∷◌, ◌++◌, append_assoc, sym, subst}
-use Rattle.std.specs.declared.option.Option.{Option}
-use Rattle.std.proofs.lemmas.List.{append-nil}
-use mathlib.Core.List.{IsPrefix}
-use Rattle.law_order.proofs.Prefixes.{prefix_self, prefix_trans}
-use Rattle.rh_sig.specs.declared.name.Pipe.{Pipe}
-use Rattle.rh_line.specs.declared.leg.Leg.{Leg}
-use Rattle.rh_shell.specs.declared.rooms.Rooms.{Rooms}
-use Rattle.law_moves.specs.Moving.{EndEvent, Event}
-use Rattle.rh_shell.specs.Rules.{Acts, Rules}
+use Rattle.law_order.proofs.Vocabulary.{List, [], ◌∷◌, ◌++◌, append_assoc, sym, subst, Option, append-nil, IsPrefix}
+use Rattle.law_moves.proofs.Vocabulary.{prefix_self, prefix_trans, Pipe, Leg, Rooms, Acts, Rules, EndEvent, Event}
 use Rattle.law_node_streams.specs.Streams.{EndStream, Stream}
 use Rattle.law_node_streams.specs.Grown.{EndGrows, Grows}
 

@@ -1,39 +1,16 @@
 -- the stream of an end, event by event
-use Rattle.std.proofs.Common.{◌≡◌, ◌⊎◌, inl, inr, ℕ, List, [], ◌∷◌, ◌++◌, append_assoc, Bool, false, ◌||◌, Some, None, Err, refl, sym, ap, ◌∙◌, subst}
-use Rattle.std.specs.declared.option.Option.{Option}
-use Rattle.std.specs.List.{AllByRecursion, list_any}
-use Rattle.std.proofs.lemmas.List.{append-nil}
-use Rattle.std.proofs.lemmas.List.Folds.{list_any-append}
-use mathlib.Core.List.{IsPrefix}
-use Rattle.rh_http.specs.declared.fault.HttpFault.{HttpFault}
-use Rattle.rh_rts.specs.declared.command.Cookie.{Cookie}
-use Rattle.rh_sig.specs.declared.name.Pipe.{Pipe}
-use Rattle.rh_line.specs.declared.cause.Cause.{Cause}
-use Rattle.rh_line.specs.declared.leg.Leg.{Leg}
-use Rattle.rh_line.specs.declared.state.State.{State}
+use Rattle.law_order.proofs.Vocabulary.{◌≡◌, ◌⊎◌, inl, inr, ℕ, List, [], ◌∷◌, ◌++◌, append_assoc, Bool, false, ◌||◌, Some, None, Err, refl, sym, ap, ◌∙◌, subst, Option, AllByRecursion, list_any, append-nil, list_any-append, IsPrefix}
 use Rattle.rh_line.specs.declared.state.State.TheVariants as state
+use Rattle.rh_shell.specs.Ends.{given_by as told_of}
 use Rattle.rh_shell.specs.declared.answers.HeadRefused.TheVariants as head
-use Rattle.rh_shell.specs.declared.answers.Phase.{Phase}
 use Rattle.rh_shell.specs.declared.answers.Phase.TheVariants as phase
-use Rattle.rh_shell.specs.declared.course.Course.{Course}
-use Rattle.rh_shell.specs.declared.course.Course.TheVariants.{Going, Closed, Refusing}
-use Rattle.rh_shell.specs.declared.rooms.Rooms.{Rooms}
-use Rattle.law_moves.specs.Carrying.{accepted, handed_by, spelled}
-use Rattle.rh_shell.specs.Ends.{cause_of, give_where, given_by as told_of, take_where, close_where, recycle_where, with_role}
-use Rattle.law_moves.specs.Moves.{Move, Moves, EndMove, EndPassage, Gives, Takes, Closes, Recycles, Passage, MayEndMove, MayMove, all_end_moved, end_moved, end_started, is_in_use, moved}
-use Rattle.law_moves.specs.Moving.{EndEvent, EndLeads, Event, Happens, IsClosed, IsGiven, IsRecycled, IsTaken, after_end_event, after_end_events, after_event}
-use Rattle.rh_shell.specs.Rules.{Rules, Acts}
-use Rattle.rh_shell.specs.Shells.{Shell, begun, may_up, state_by, state_of}
-use Rattle.law_moves.specs.Wires.{of_leg}
-use Rattle.law_node_history.specs.Carried.{AreAcceptedAtEnd, ComesUpOnceAtEnd, IsAcceptedAtEnd, came_up, drawn_at_end, drawn_in, end_drawn_on, happened, heard_in, heard_on, is_up_of}
-use Rattle.law_moves.specs.ReadBack.Reading.{messages_read}
-use Rattle.law_node_history.proofs.Appended.{came_append, end_drawn_append, heard_append, happened_append, end_accepted_append}
-use Rattle.law_node_streams.specs.Streams as streams
-use Rattle.law_node_streams.specs.Streams.{EndStream, HearsInTurn, NeverRefuses, Seated, StaysUnusedAtEnd, all_given, all_taken, is_end_up_on, is_up_on, taken_by}
-use Rattle.law_moves.specs.Turns.{Stages, IsInTurn, stages_after}
+use Rattle.law_moves.proofs.Vocabulary.{neither, Cookie, Pipe, HttpFault, Cause, Leg, State, Closed, Rooms, cause_of, give_where, take_where, close_where, recycle_where, with_role, Rules, Acts, Shell, begun, may_up, state_of, accepted, handed_by, spelled, Move, Moves, EndMove, EndPassage, Gives, Takes, Closes, Recycles, Passage, MayEndMove, MayMove, all_end_moved, end_moved, end_started, is_in_use, moved, EndEvent, EndLeads, Event, Happens, IsClosed, IsGiven, IsRecycled}
+use Rattle.law_moves.proofs.Vocabulary.{IsTaken, after_end_event, after_end_events, after_event, of_leg, messages_read, Stages, IsInTurn, stages_after, AreCountedAtEnd, IsCounted, IsCountedAtEnd, AreUpFirst, CameUpWith, HasComeUp, IsUpFirst}
+use Rattle.law_moves.proofs.Lemmas.{open_phase as is_open}
+use Rattle.law_node_history.proofs.Lemmas.{came_append, end_drawn_append, heard_append, happened_append, end_accepted_append, end_events_append}
+use Rattle.law_node_history.proofs.Vocabulary.{AreAcceptedAtEnd, ComesUpOnceAtEnd, IsAcceptedAtEnd, came_up, drawn_at_end, drawn_in, end_drawn_on, happened, heard_in, heard_on, is_up_of}
 use Rattle.law_node_streams.proofs.Streams.EndMoves.{Did, did_close, did_give, did_recycle, did_take, leads_one}
 use Rattle.law_node_streams.proofs.Streams.Seats.{left_self, seat, silent_none, staged_on}
-use Rattle.law_moves.specs.Passages.Counted.{AreCountedAtEnd, IsCounted, IsCountedAtEnd}
 use Rattle.law_node_streams.proofs.Streams.Counts.{end_counted_append}
 use Rattle.law_node_streams.proofs.Streams.Kept.{FrontOf}
 use Rattle.law_node_streams.proofs.Streams.Going.{kept_seated}
@@ -41,16 +18,8 @@ use Rattle.law_node_streams.proofs.Streams.Rising.{AreKnown, IsLifted, came_of, 
 use Rattle.law_node_streams.proofs.Streams.Runs.{IsFit, Ran, ran_as, ran_by, ran_event, ran_none}
 use Rattle.law_node_streams.proofs.Streams.Turns.{Passes}
 use Rattle.law_node_streams.proofs.Streams.Ways.{Lifts, each_joined, each_of, or_false}
-use Rattle.law_node_history.proofs.Runs.{end_events_append}
-use Rattle.law_moves.specs.Passages.Rising.{AreUpFirst, CameUpWith, HasComeUp, IsUpFirst}
-use Rattle.law_order.proofs.ItemLists.{neither}
-
-pub is_open : (c : Course) (f : Phase) → state_by c f ≡ state.Open → f ≡ phase.Open
-is_open Going phase.Opening e = absurd cc
-is_open Going phase.Open e = refl
-is_open Going phase.Ended e = absurd cc
-is_open (Closed why) f e = absurd cc
-is_open (Refusing why leg rest) f e = absurd cc
+use Rattle.law_node_streams.specs.Streams.{EndStream, HearsInTurn, NeverRefuses, Seated, StaysUnusedAtEnd, all_given, all_taken, is_end_up_on, is_up_on, taken_by}
+use Rattle.law_node_streams.specs.Streams as streams
 
 module _ {S : Type 0} (rules : Rules S) (acts : Acts S) (first : S) (rooms : Rooms)
     (pipe : Leg → Option Pipe) (piped : (s : S) (leg : Leg) → rules.pipe s leg ≡ pipe leg)

@@ -1,19 +1,9 @@
 -- a byte that a node hears, and what it is read as
-use Rattle.std.proofs.Common.{◌≡◌, ℕ, ◌<◌, ◌≤◌, List, [], ◌∷◌, ◌++◌, length, cond, Bool, true, false, nat_lt, Some, None, arith, refl, sym, ap, ◌∙◌}
-use Rattle.std.specs.declared.option.Option.{Option}
-use Rattle.std.proofs.lemmas.List.{append_assoc, length-append, take-append-le}
-use Rattle.std.proofs.lemmas.Bool.Decides.{nat_tests}
-use Rattle.rh_pdu.specs.Header.{frag_of, head_fault}
-use Rattle.rh_pdu.specs.Frames.{IsFrame, IsUnfinished}
-use Rattle.rh_pdu.specs.declared.fault.HeadFault.{HeadFault}
-use Rattle.rh_pdu.proofs.Headers.{frag_bounds, frag_same}
-use Rattle.rh_sig.specs.declared.name.Pipe.{Pipe}
-use Rattle.rh_shell.specs.declared.stage.Stage.{Stage}
+use Rattle.law_order.proofs.Vocabulary.{◌≡◌, ℕ, ◌<◌, ◌≤◌, List, [], ◌∷◌, ◌++◌, length, cond, Bool, true, false, nat_lt, Some, None, arith, refl, sym, ◌∙◌, Option, nat_tests}
+use Rattle.rh_shell.specs.Intakes.{Over, behind}
 use Rattle.rh_shell.specs.declared.stage.Stage.TheVariants as stage
-use Rattle.rh_shell.specs.Intakes.{Intake, Came, Nothing, Head, Greeting, Frame, Fault, Over, behind, counted, is_full, length_told, is_whole_head, is_whole_greeting, text_by, frame_by, frame_byte, byte_by, on_byte}
-use Rattle.rh_shell.specs.Rules.{Message}
-use Rattle.law_moves.specs.Carrying.{message_in}
-use Rattle.law_moves.specs.ReadBack.Reading.{Reading, reading, text_read, frame_read, read_by, read_byte, reading_after, messages_from}
+use Rattle.law_moves.proofs.Vocabulary.{frag_of, head_fault, IsFrame, IsUnfinished, HeadFault, Pipe, Stage, Intake, Came, Nothing, Head, Greeting, Frame, Fault, counted, is_full, length_told, is_whole_head, is_whole_greeting, text_by, frame_by, frame_byte, byte_by, on_byte, Message, message_in, Reading, reading, text_read, frame_read, read_by, read_byte, reading_after, messages_from}
+use Rattle.law_moves.proofs.Lemmas.{grown}
 use Rattle.law_node_streams.specs.Streams.{is_live}
 
 -- ---- a list of bytes behind another one
@@ -22,16 +12,6 @@ pub after_append : (pipe : Option Pipe) (r : Reading) (xs ys : List ℕ)
     → reading_after pipe r (xs ++ ys) ≡ reading_after pipe (reading_after pipe r xs) ys
 after_append pipe r [] ys = refl
 after_append pipe r (x ∷ xs) ys = after_append pipe (read_byte pipe r x).0 xs ys
-
-pub from_append : (pipe : Option Pipe) (r : Reading) (xs ys : List ℕ)
-    → messages_from pipe r (xs ++ ys)
-    ≡ messages_from pipe r xs ++ messages_from pipe (reading_after pipe r xs) ys
-from_append pipe r [] ys = refl
-from_append pipe r (x ∷ xs) ys =
-    ap (λ (l : List Message). (read_byte pipe r x).1 ++ l)
-    (from_append pipe (read_byte pipe r x).0 xs ys)
-    ∙ sym (append_assoc (read_byte pipe r x).1 (messages_from pipe (read_byte pipe r x).0 xs)
-    (messages_from pipe (reading_after pipe (read_byte pipe r x).0 xs) ys))
 
 -- ---- stages
 
@@ -67,23 +47,6 @@ ByteIs pipe st j (Frame place frame) r =
     × (j.held ≡ []) × (j.stage ≡ stage.Frames) × IsFrame frame
 ByteIs pipe st j (Fault place fault) r = j.stage ≡ stage.Shut
 ByteIs pipe st j (Over length) r = j.stage ≡ stage.Shut
-
--- a header that is whole, and bytes that are not more than its frame
-grown : (held : List ℕ) (b : ℕ) → IsUnfinished held → 16 ≤ length (held ++ b ∷ [])
-    → head_fault (held ++ b ∷ []) ≡ None → length (held ++ b ∷ []) ≤ frag_of (held ++ b ∷ [])
-grown held b u long head =
-    let size = length-append held (b ∷ []) in
-    elim (nat_lt (length held) 16) as (λ t. nat_lt (length held) 16 ≡ t
-    → length (held ++ b ∷ []) ≤ frag_of (held ++ b ∷ [])) [
-      | true ↦ λ e.
-          let short : length held < 16 = grind (arith, nat_tests) in
-          let bounds = frag_bounds (held ++ b ∷ []) head in
-          omega (arith, size, short, bounds.0)
-      | false ↦ λ e.
-          let past : 16 ≤ length held = grind (arith, nat_tests) in
-          let same = frag_same (held ++ b ∷ []) held (take-append-le 16 held (b ∷ []) past) in
-          omega (arith, size, (u past).1, same)
-    ] refl
 
 module _ (pipe : Option Pipe) where
   frame_byte_is : (held : List ℕ) (b : ℕ) (j : Intake) → IsUnfinished held

@@ -1,18 +1,9 @@
 -- packets that a node counts as they come
-use Rattle.std.proofs.Common.{◌≡◌, ◌+◌, ℕ, List, [], ◌∷◌, ◌++◌, cond, Ok, Err, arith, sym, ap, ◌∙◌, subst}
-use Rattle.std.specs.declared.result.Result.{Result}
-use Rattle.rh_sig.specs.declared.named.Named.{Named}
-use Rattle.rh_line.specs.declared.cause.Cause.{Cause}
-use Rattle.rh_line.specs.declared.leg.Leg.{Leg}
-use Rattle.rh_shell.specs.declared.answers.Count.{Count}
+use Rattle.law_order.proofs.Vocabulary.{◌≡◌, ◌+◌, ℕ, List, [], ◌∷◌, ◌++◌, cond, Ok, Err, arith, sym, ap, ◌∙◌, subst, Result}
 use Rattle.rh_shell.specs.declared.answers.Count.TheVariants as count
-use Rattle.rh_shell.specs.Hearing.{one_more}
-use Rattle.rh_shell.specs.Rules.{Rules, Acts, Message, Pdu, Packet}
-use Rattle.law_moves.specs.Moves.{Move, EndMove, OnLeg, Passage, EndPassage, moved, all_moved, end_moved, all_end_moved}
-use Rattle.law_moves.specs.Wires.{of_leg}
-use Rattle.law_moves.specs.Passages.Counted.{Tells, AreCounted, AreCountedAtEnd, is_any, packets}
-use Rattle.law_moves.proofs.Passages.Messages.{count_append, leg_more}
-use Rattle.law_node_history.proofs.Wired.{same_itself}
+use Rattle.law_moves.proofs.Vocabulary.{Named, Cause, Leg, Count, one_more, Rules, Acts, Message, Pdu, Packet, Move, EndMove, OnLeg, Passage, EndPassage, moved, all_moved, end_moved, all_end_moved, of_leg, Tells, AreCounted, AreCountedAtEnd, is_any, packets}
+use Rattle.law_moves.proofs.Lemmas.{count_append, leg_more}
+use Rattle.law_node_history.proofs.Lemmas.{same_itself}
 
 -- the count is of the packets that came on the leg
 abbrev pub TellsOn : {S : Type 0} → Passage S → Leg → Count → Type 0

@@ -1,16 +1,10 @@
 -- bytes that are drawn of a node: they spell what its role puts, by moves
-use Rattle.std.proofs.Common.{◌≡◌, ℕ, zero, suc, List, [], ◌∷◌, ◌++◌, append_assoc, cond, Bool, true, false, Some, None, refl, sym, ap, ◌∙◌, subst}
-use Rattle.std.specs.Prelude.{◌&&◌, not}
-use Rattle.std.specs.declared.option.Option.{Option}
-use Rattle.std.proofs.lemmas.List.{append-nil}
-use Rattle.std.proofs.lemmas.List.Concat.{flat_map-append}
-use Rattle.rh_line.specs.declared.leg.Leg.{Leg}
-use Rattle.rh_shell.specs.NearEnds.{NearEnd, is_empty, is_over}
-use Rattle.rh_shell.specs.Rules.{Rules, Message, put_into, spell}
-use Rattle.rh_shell.specs.Drawing.{Drawn, drawn, put_on, filled, left_by, next_byte, draw}
-use Rattle.law_moves.specs.Moves.{Move, Passage, OnLeg, IsDrawn, Puts, put_by, moved}
-use Rattle.law_moves.specs.Carrying.{on_leg, spelled}
-use Rattle.law_node_streams.proofs.Streams.Hears.{in_use, on_leg_append}
+use Rattle.law_order.proofs.Vocabulary.{◌≡◌, ℕ, zero, suc, List, [], ◌∷◌, ◌++◌, append_assoc, cond, Bool, true, false, Some, None, refl, sym, ap, ◌∙◌, subst, ◌&&◌, not, Option, append-nil, flat_map-append}
+use Rattle.rh_shell.specs.NearEnds.{is_empty}
+use Rattle.law_moves.proofs.Vocabulary.{Leg, NearEnd, is_over, Rules, Message, put_into, spell, Drawn, drawn, put_on, filled, left_by, next_byte, draw, Move, Passage, OnLeg, IsDrawn, Puts, put_by, moved, on_leg, spelled}
+use Rattle.law_moves.proofs.Lemmas.{empty_is, on_leg_append}
+use Rattle.law_moves.proofs.Puttings.{both}
+use Rattle.law_node_streams.proofs.Streams.Hears.{in_use}
 use Rattle.law_node_streams.proofs.Streams.Staging.{LeavesStages, is_reached, leaves_none, leaves_then}
 use Rattle.law_node_streams.proofs.Streams.Ways.{Way, nowhere, way_none, way_one, way_then}
 
@@ -47,15 +41,6 @@ pub record Drew {S : Type 0} (rules : Rules S) (p : Passage S) (end : NearEnd) (
   pub spells : end.begun ++ spelled messages ≡ d.bytes ++ d.end.begun
   pub beside : IsBeside end d.end
   pub leaves : Leaves rules p end.leg way.moves
-
-empty_is : (xs : List ℕ) → is_empty xs ≡ true → xs ≡ []
-empty_is [] h = refl
-empty_is (x ∷ xs) h = absurd cc
-
-both : (a b : Bool) → (a && not b) ≡ true → (a ≡ true) × (b ≡ false)
-both true true h = absurd cc
-both true false h = (refl, refl)
-both false b h = absurd cc
 
 module _ {S : Type 0} (rules : Rules S) where
   -- nothing is put

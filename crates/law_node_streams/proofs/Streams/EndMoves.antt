@@ -1,13 +1,7 @@
 -- what an act at an end is to its passage
-use Rattle.std.proofs.Common.{◌≡◌, ℕ, List, [], ◌∷◌, ◌++◌, Ok, Err, refl, sym, ap, ◌∙◌, subst}
-use Rattle.std.specs.declared.result.Result.{Result}
-use Rattle.std.proofs.lemmas.List.{append-nil}
-use Rattle.rh_shell.specs.declared.end_role.GiveRefused.{GiveRefused}
+use Rattle.law_order.proofs.Vocabulary.{◌≡◌, ℕ, List, [], ◌∷◌, ◌++◌, Ok, Err, refl, sym, ap, ◌∙◌, subst, Result, append-nil}
 use Rattle.rh_shell.specs.Ends as ends
-use Rattle.rh_shell.specs.Rules.{Rules, Acts}
-use Rattle.law_moves.specs.Carrying.{accepted, first_in}
-use Rattle.law_moves.specs.Moves.{EndMove, EndPassage, Gives, Takes, Closes, Recycles, AreAllowedAtEnd, MayEndMove, all_end_moved, end_moved, end_now_at, given_by, with_first}
-use Rattle.law_moves.specs.Moving.{EndLeads}
+use Rattle.law_moves.proofs.Vocabulary.{GiveRefused, Rules, Acts, accepted, first_in, EndMove, EndPassage, Gives, Takes, Closes, Recycles, AreAllowedAtEnd, MayEndMove, all_end_moved, end_moved, end_now_at, given_by, with_first, EndLeads}
 
 module _ {S : Type 0} (rules : Rules S) (acts : Acts S) where
   pub all_end_moved_append : (p : EndPassage S) (ms ns : List EndMove)

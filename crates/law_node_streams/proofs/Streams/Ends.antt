@@ -1,23 +1,8 @@
 -- the ends of a node: which one a leg has, and how it changes
-use Rattle.std.proofs.Common.{◌≡◌, ◌⊎◌, inl, inr, ℕ, zero, suc, ◌+◌, ◌<◌, List, [], ◌∷◌, ◌++◌, length, cond, Bool, true, false, nat_lt, Some, None, arith, refl, sym, ap, ◌∙◌, subst}
-use Rattle.std.specs.Prelude.{All, slice_get, slice_set}
-use Rattle.std.specs.declared.option.Option.{Option}
-use Rattle.std.proofs.lemmas.Bool.{true≢false}
-use Rattle.std.proofs.lemmas.Option.{slice_get_within, get_or_from_slice_get}
-use Rattle.std.proofs.lemmas.Bool.Decides.{nat_tests}
-use Rattle.rh_line.specs.declared.leg.Leg.{Leg}
-use Rattle.rh_shell.specs.NearEnds.{NearEnd}
-use Rattle.rh_shell.specs.Shells.{same_leg, first_where, place, seated_at}
-use Rattle.law_node_history.proofs.Wired.{cases_leg, same_itself}
-
--- ---- the same leg
-
-pub leg_is : (a b : Leg) → same_leg a b ≡ true → a ≡ b
-leg_is a b h = by (cases_leg a b)
-  where
-    by : (a ≡ b) ⊎ (same_leg a b ≡ false) → a ≡ b
-    by (inl e) = e
-    by (inr f) = absurd (true≢false (sym h ∙ f))
+use Rattle.law_order.proofs.Vocabulary.{◌≡◌, ◌⊎◌, inl, inr, ℕ, zero, suc, ◌+◌, ◌<◌, List, [], ◌∷◌, ◌++◌, length, cond, Bool, true, false, nat_lt, Some, None, arith, refl, sym, ap, ◌∙◌, subst, All, slice_get, slice_set, Option, slice_get_within, get_or_from_slice_get, nat_tests}
+use Rattle.law_moves.proofs.Vocabulary.{Leg, NearEnd, same_leg, first_where, place, seated_at}
+use Rattle.law_moves.proofs.Lemmas.{leg_is}
+use Rattle.law_node_history.proofs.Lemmas.{same_itself}
 
 -- ---- the first end of a leg
 
@@ -106,7 +91,7 @@ left_none a (Some end) l e = absurd (let bad : None ≡ Some end = sym e ∙ l i
 flip : (a b : Leg) → same_leg a b ≡ false → same_leg b a ≡ false
 flip a b e = grind (arith, nat_tests)
 
-none_in : (leg : Leg) (x : NearEnd) (xs : List NearEnd) → end_of leg (x ∷ xs) ≡ None
+pub none_in : (leg : Leg) (x : NearEnd) (xs : List NearEnd) → end_of leg (x ∷ xs) ≡ None
     → (same_leg x.leg leg ≡ false) × (end_of leg xs ≡ None)
 none_in leg x xs none = by (same_leg x.leg leg) none
   where

@@ -1,49 +1,25 @@
 -- what an event at a node is to each leg
-use Rattle.std.proofs.Common.{◌≡◌, ℕ, List, [], ◌∷◌, length, take, drop, cond, Bool, true, false, Some, None, refl, sym, ap, ◌∙◌, subst}
-use Rattle.std.specs.Prelude.{All, ◌&&◌, ◌||◌, is_some, not, nat_le}
-use Rattle.std.specs.List.{AllByRecursion, list_any}
-use Rattle.std.specs.declared.option.Option.{Option}
-use Rattle.std.proofs.lemmas.List.{take-append-drop}
-use Rattle.std.proofs.lemmas.List.Elements.{All-set}
-use Rattle.std.proofs.lemmas.Bool.{and_parts}
-use Rattle.law_order.proofs.ItemLists.{neither}
-use Rattle.rh_pdu.specs.Frames.{IsUnfinished}
-use Rattle.rh_rts.specs.declared.command.Cookie.{Cookie}
-use Rattle.rh_sig.specs.declared.name.Pipe.{Pipe}
-use Rattle.rh_http.specs.Texts.{refusal_text}
-use Rattle.rh_http.specs.declared.refusal.Refusal.TheVariants.{Unavailable}
-use Rattle.rh_line.specs.declared.leg.Leg.{Leg}
-use Rattle.rh_line.specs.declared.cause.Cause.{Cause}
+use Rattle.law_order.proofs.Vocabulary.{◌≡◌, ℕ, List, [], ◌∷◌, length, take, drop, cond, Bool, true, false, Some, None, refl, sym, ap, ◌∙◌, subst, All, ◌&&◌, ◌||◌, is_some, not, nat_le, AllByRecursion, list_any, Option, take-append-drop, All-set, and_parts}
 use Rattle.rh_line.specs.declared.cause.Cause.TheVariants as cause
-use Rattle.rh_shell.specs.declared.course.Course.{Course}
-use Rattle.rh_shell.specs.declared.course.Course.TheVariants.{Going, Closed, Refusing}
-use Rattle.rh_shell.specs.declared.stage.Stage.{Stage}
+use Rattle.rh_shell.specs.Shells.{drawn}
 use Rattle.rh_shell.specs.declared.stage.Stage.TheVariants as stage
-use Rattle.rh_shell.specs.Drawing.{Drawn, draw}
-use Rattle.rh_shell.specs.Hearing.{Turn, goes, hear, is_stopped}
-use Rattle.rh_shell.specs.Intakes.{Intake}
-use Rattle.rh_shell.specs.NearEnds.{NearEnd, first_stage, is_ended, is_finished, is_marked, marked, new_end}
-use Rattle.rh_shell.specs.Rules.{Rules}
-use Rattle.rh_shell.specs.Shells.{Shell, end_at, with_end, place, close, refuse, stopped, bytes_at, bytes_by, bytes, may_up, has_room, with_leg, seated_at, free_place, up, lose, lost, ended_at, ended_by, ended, wants, is_heard, unreached_by, unreached, broken_at, broken_by, broken, put_back, drawn_at, drawn_by, drawn, same_leg, first_silent, passed_by, passed, tick, is_working}
-use Rattle.law_moves.specs.Moves.{Move, Passage, Up, HeadCame, PduCame, PacketCame, Puts, IsDrawn, Marks, Pings, MayMove, moved}
-use Rattle.law_moves.specs.Moving.{Event, ComesUp, Hears, Ends, Breaks, Draws, Ticks, after_event, IsHeld, AreHeld}
-use Rattle.law_moves.specs.Wires.{of_leg}
-use Rattle.law_moves.specs.Passages.Counted.{AreCounted}
-use Rattle.law_moves.specs.Turns.{Stages, AreInTurnFrom}
-use Rattle.law_node_history.specs.Carried.{drawn_in, heard_in, is_up_of}
-use Rattle.law_node_history.proofs.Wired.{same_itself}
+use Rattle.law_moves.proofs.Vocabulary.{neither, IsUnfinished, Cookie, Pipe, refusal_text, Unavailable, Leg, Cause, Course, Going, Closed, Refusing, Stage, Drawn, draw, Turn, goes, hear, is_stopped, Intake, NearEnd, first_stage, is_ended, is_finished, is_marked, marked, new_end, Rules, Shell, end_at, with_end, place, close, refuse, stopped, bytes_at, bytes_by, bytes, may_up, has_room, with_leg, seated_at, free_place, up, lose, lost, ended_at, ended_by, ended, wants, is_heard}
+use Rattle.law_moves.proofs.Vocabulary.{unreached_by, unreached, broken_at, broken_by, broken, put_back, drawn_at, drawn_by, same_leg, first_silent, passed_by, passed, tick, is_working, Move, Passage, Up, HeadCame, PduCame, PacketCame, Puts, IsDrawn, Marks, Pings, MayMove, moved, Event, ComesUp, Hears, Ends, Breaks, Draws, Ticks, after_event, IsHeld, AreHeld, of_leg, AreCounted, Stages, AreInTurnFrom}
+use Rattle.law_moves.proofs.Lemmas.{leg_is, nothing_held, seated_held}
+use Rattle.law_node_history.proofs.Lemmas.{same_itself}
+use Rattle.law_node_history.proofs.Vocabulary.{drawn_in, heard_in, is_up_of}
 use Rattle.law_node_streams.proofs.Streams.Counts.{TellsOn}
 use Rattle.law_node_streams.proofs.Streams.Draws.{Drew, draw_drew}
-use Rattle.law_node_streams.proofs.Streams.Ends.{AreApart, end_has, end_is, end_leg, end_of, leg_is, same_apart, seated_apart, seated_new, seated_other}
-use Rattle.law_node_streams.proofs.Streams.Hears.{Heard, nothing_held}
+use Rattle.law_node_streams.proofs.Streams.Ends.{AreApart, end_has, end_is, end_leg, end_of, same_apart, seated_apart, seated_new, seated_other}
+use Rattle.law_node_streams.proofs.Streams.Hears.{Heard}
 use Rattle.law_node_streams.proofs.Streams.Pings.{pings}
 use Rattle.law_node_streams.proofs.Streams.Pieces.{piece_heard}
-use Rattle.law_node_streams.specs.Streams.{is_up_on}
 use Rattle.law_node_streams.proofs.Streams.Staging.{IsNext, LeavesStages, all_stages, anything, leaves_none, next_itself, reached_stays, stage_none, stage_other}
-use Rattle.law_node_streams.proofs.Streams.Seats.{StopKeeps, at_work, on_answers, on_left, on_stopped, staged_on, beside_seat, here_seat, left_as, left_of, left_self, marked_left, seat, seated_held, silent_closed, silent_none, stop_here, stop_keeps, stop_there, was_seat}
-use Rattle.law_node_streams.proofs.Streams.Turns as turns
+use Rattle.law_node_streams.proofs.Streams.Seats.{StopKeeps, at_work, on_answers, on_left, on_stopped, staged_on, beside_seat, here_seat, left_as, left_of, left_self, marked_left, seat, silent_closed, silent_none, stop_here, stop_keeps, stop_there, was_seat}
 use Rattle.law_node_streams.proofs.Streams.Turns.{Nowhere, Sits, Answers, IsOn, IsStaged, IsLeft, IsQuiet, IsSilent, Turns, Passes, Tells, Comes, Fails, more_there, seat_by}
 use Rattle.law_node_streams.proofs.Streams.Ways.{Way, IsRaised, Lifts, nowhere, or_false, way_none, way_one}
+use Rattle.law_node_streams.proofs.Streams.Turns as turns
+use Rattle.law_node_streams.specs.Streams.{is_up_on}
 
 pub no_lift : (With : Leg → Cookie → Type 0) (move : Move)
     → ((leg : Leg) → is_up_on leg move ≡ false) → Lifts With move

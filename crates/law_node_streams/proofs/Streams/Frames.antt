@@ -1,25 +1,6 @@
 -- a frame that a node hears is a packet or a PDU, and a row takes it or refuses it
-use Rattle.std.proofs.Common.{◌≡◌, ◌≢◌, ℕ, List, [], ◌∷◌, ◌++◌, cond, Bool, true, false, Ok, Err, arith, refl, sym}
-use Rattle.std.specs.Prelude.{◌==◌, ◌&&◌, IsTrue, slice_index}
-use Rattle.std.specs.declared.result.Result.{Result}
-use Rattle.std.proofs.lemmas.List.{append-nil}
-use Rattle.std.proofs.lemmas.Bool.Decides.{nat_tests}
-use Rattle.rh_pdu.specs.Header.{rts}
-use Rattle.rh_pdu.specs.Frames.{IsFrame}
-use Rattle.rh_sig.specs.declared.named.Named.{Named}
-use Rattle.rh_line.specs.declared.cause.Cause.{Cause}
-use Rattle.rh_line.specs.declared.leg.Leg.{Leg}
-use Rattle.rh_shell.specs.declared.answers.Count.{Count}
-use Rattle.rh_shell.specs.declared.heading.Heading.{Heading}
-use Rattle.rh_shell.specs.declared.reading.PacketFault.{PacketFault}
-use Rattle.rh_shell.specs.Hearing.{take_frame, take_packet, take_ping, close_row, is_ping, one_more, is_zero, is_upward}
-use Rattle.rh_shell.specs.Readings.{packet_of}
-use Rattle.rh_shell.specs.Rules.{Rules, Row, Message, Pdu, Packet}
-use Rattle.law_moves.specs.Carrying.{on_leg, message_in, named_messages}
-use Rattle.law_moves.specs.Moves.{Move, Passage, PduCame, PacketCame, taken_by, is_in_use}
-use Rattle.law_moves.specs.Wires.{of_leg}
-use Rattle.law_moves.specs.Passages.Counted.{Tells, AreCounted, packets}
-use Rattle.law_moves.specs.Turns.{Stages, AreInTurnFrom, none_up, takes_frames}
+use Rattle.law_order.proofs.Vocabulary.{◌≡◌, ◌≢◌, ℕ, List, [], ◌∷◌, ◌++◌, cond, Bool, true, false, Ok, Err, arith, refl, sym, ◌==◌, ◌&&◌, IsTrue, slice_index, Result, append-nil, nat_tests}
+use Rattle.law_moves.proofs.Vocabulary.{rts, IsFrame, Named, Cause, Leg, Count, Heading, PacketFault, take_frame, take_packet, take_ping, close_row, is_ping, one_more, is_zero, is_upward, packet_of, Rules, Row, Message, Pdu, Packet, on_leg, message_in, named_messages, Move, Passage, PduCame, PacketCame, taken_by, is_in_use, of_leg, Tells, AreCounted, packets, Stages, AreInTurnFrom, takes_frames}
 use Rattle.law_node_streams.proofs.Streams.Counts.{TellsOn, ToldBy, tells_packet, tells_pdu}
 use Rattle.law_node_streams.proofs.Streams.Staging.{LeavesStages, all_stages, leaves_none}
 use Rattle.law_node_streams.proofs.Streams.Ways.{Way, nowhere, way_none, way_one}

@@ -1,28 +1,12 @@
 -- what is known of a node that goes on
-use Rattle.std.proofs.Common.{◌≡◌, ℕ, List, [], ◌++◌, cond, Bool, true, false, Some, None, refl, sym, ap, ◌∙◌, subst}
-use Rattle.std.specs.Prelude.{◌&&◌, nat_le, take, drop}
-use Rattle.std.specs.declared.option.Option.{Option}
-use Rattle.std.proofs.lemmas.List.{append-nil}
-use mathlib.Core.List.{IsPrefix}
-use Rattle.rh_sig.specs.declared.name.Pipe.{Pipe}
-use Rattle.rh_line.specs.declared.cause.Cause.{Cause}
-use Rattle.rh_line.specs.declared.leg.Leg.{Leg}
-use Rattle.rh_shell.specs.declared.course.Course.{Course}
-use Rattle.rh_shell.specs.declared.course.Course.TheVariants.{Going, Closed, Refusing}
-use Rattle.law_moves.specs.Carrying.{spelled}
-use Rattle.law_moves.specs.Moves.{Move, Passage}
-use Rattle.law_moves.specs.Moving.{Event, ComesUp, Hears, Ends, Breaks, Draws, Ticks, after_event}
-use Rattle.rh_shell.specs.NearEnds.{NearEnd}
-use Rattle.rh_shell.specs.Rules.{Rules}
-use Rattle.rh_shell.specs.Shells.{Shell, bytes_by, broken_by, drawn_by, end_at, ended_by, is_working, may_up, passed, same_leg, up, with_leg}
-use Rattle.law_moves.specs.Wires.{of_leg}
-use Rattle.law_node_streams.specs.Streams.{Seated, is_refused_on}
+use Rattle.law_order.proofs.Vocabulary.{◌≡◌, ℕ, List, [], ◌++◌, cond, Bool, true, false, Some, None, refl, sym, ap, ◌∙◌, subst, ◌&&◌, nat_le, take, drop, Option, append-nil, and_parts, IsPrefix}
+use Rattle.law_moves.proofs.Vocabulary.{Pipe, Cause, Leg, Course, Going, Closed, Refusing, NearEnd, Rules, Shell, bytes_by, broken_by, drawn_by, end_at, ended_by, is_working, may_up, passed, same_leg, up, with_leg, spelled, Move, Passage, Event, ComesUp, Hears, Ends, Breaks, Draws, Ticks, after_event, of_leg}
 use Rattle.law_node_streams.proofs.Streams.Ends.{end_is, end_of}
 use Rattle.law_node_streams.proofs.Streams.Kept.{IsSeated, Kept}
 use Rattle.law_node_streams.proofs.Streams.Seats.{at_work, seat}
-use Rattle.law_node_streams.proofs.Streams.Turns as turns
 use Rattle.law_node_streams.proofs.Streams.Turns.{Answers, Nowhere, Sits, Turns, seat_by}
-use Rattle.std.proofs.lemmas.Bool.{and_parts}
+use Rattle.law_node_streams.proofs.Streams.Turns as turns
+use Rattle.law_node_streams.specs.Streams.{Seated, is_refused_on}
 
 -- ---- where a node refuses nobody it refused nobody before
 

@@ -1,22 +1,9 @@
 -- heads in the bytes of a leg: each stands behind what is held, whole, and no sooner
-use Rattle.std.proofs.Common.{◌≡◌, ℕ, zero, suc, ◌<◌, ◌≤◌, List, [], ◌∷◌, ◌++◌, append_assoc, length, take, cond, Bool, true, false, nat_lt, Some, None, arith, refl, sym, ap, ◌∙◌, subst}
-use Rattle.std.specs.List.{AllByRecursion, list_any}
-use Rattle.std.specs.declared.option.Option.{Option}
-use Rattle.std.proofs.lemmas.List.{append-nil}
-use Rattle.law_order.proofs.Prefixes.{prefix_more, prefix_trans}
-use Rattle.law_order.proofs.ItemLists.{neither}
-use Rattle.rh_pdu.specs.declared.fault.HeadFault.{HeadFault}
-use Rattle.rh_pdu.specs.Header.{frag_of, head_fault, header_length}
-use Rattle.rh_sig.specs.declared.name.Pipe.{Pipe}
-use Rattle.rh_line.specs.declared.leg.Leg.{Leg}
-use Rattle.rh_shell.specs.declared.stage.Stage.{Stage}
+use Rattle.law_order.proofs.Vocabulary.{◌≡◌, ℕ, zero, suc, ◌<◌, ◌≤◌, List, [], ◌∷◌, ◌++◌, append_assoc, length, take, cond, Bool, true, false, nat_lt, Some, None, arith, refl, sym, ap, ◌∙◌, subst, AllByRecursion, list_any, Option, append-nil}
+use Rattle.rh_shell.specs.Intakes.{Over}
 use Rattle.rh_shell.specs.declared.stage.Stage.TheVariants as stage
-use Rattle.rh_shell.specs.Intakes.{Intake, Came, Nothing, Head, Greeting, Frame, Fault, Over, byte_by, is_whole_head, is_whole_greeting, on_byte, text_by}
-use Rattle.rh_shell.specs.Rules.{Message}
-use Rattle.law_moves.specs.Carrying.{message_in}
-use Rattle.law_moves.specs.Moves.{Move, Up, HeadCame, PduCame, PacketCame, Puts, IsDrawn, Marks, Pings}
-use Rattle.law_moves.specs.ReadBack.Reading.{Reading, frame_read, read_by, read_byte, reading, reading_after, text_read}
-use Rattle.law_node_history.proofs.Wired.{same_itself}
+use Rattle.law_moves.proofs.Vocabulary.{prefix_more, prefix_trans, neither, HeadFault, frag_of, head_fault, header_length, Pipe, Leg, Stage, Intake, Came, Nothing, Head, Greeting, Frame, Fault, byte_by, is_whole_head, is_whole_greeting, on_byte, text_by, Message, message_in, Move, Up, HeadCame, PduCame, PacketCame, Puts, IsDrawn, Marks, Pings, Reading, frame_read, read_by, read_byte, reading, reading_after, text_read}
+use Rattle.law_node_history.proofs.Lemmas.{same_itself}
 use Rattle.law_node_streams.specs.Streams.{IsFirstHead, IsHeadOf, is_head_on}
 
 -- ---- a byte

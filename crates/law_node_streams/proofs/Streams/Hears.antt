@@ -1,52 +1,21 @@
 -- a piece that a node hears: what its role takes is what is read there
-use Rattle.std.proofs.Common.{◌≡◌, ◌⊎◌, inr, ℕ, List, [], ◌∷◌, ◌++◌, length, cond, Bool, true, false, ◌||◌, Some, None, Ok, Err, arith, refl, sym, ap, ◌∙◌, subst}
-use Rattle.std.specs.Prelude.{◌&&◌, not, IsTrue}
-use Rattle.std.specs.List.{AllByRecursion}
-use Rattle.std.specs.declared.option.Option.{Option}
-use Rattle.std.specs.declared.result.Result.{Result}
-use Rattle.std.proofs.lemmas.List.{append-nil}
-use mathlib.Core.List.{IsPrefix}
-use Rattle.rh_http.specs.declared.fault.HttpFault.{HttpFault}
-use Rattle.rh_http.specs.declared.refusal.Refusal.{Refusal}
-use Rattle.rh_pdu.specs.Frames.{IsUnfinished}
-use Rattle.rh_sig.specs.declared.name.Pipe.{Pipe}
-use Rattle.rh_line.specs.declared.cause.Cause.{Cause}
-use Rattle.rh_line.specs.declared.leg.Leg.{Leg}
-use Rattle.rh_shell.specs.declared.answers.Behind.{Behind}
+use Rattle.law_order.proofs.Vocabulary.{◌≡◌, ◌⊎◌, inr, ℕ, List, [], ◌∷◌, ◌++◌, length, cond, Bool, true, false, ◌||◌, Some, None, Ok, Err, arith, refl, sym, ap, ◌∙◌, subst, ◌&&◌, not, IsTrue, AllByRecursion, Option, Result, append-nil, IsPrefix}
+use Rattle.rh_shell.specs.Intakes.{Over}
 use Rattle.rh_shell.specs.declared.answers.Behind.TheVariants as passed
-use Rattle.rh_shell.specs.declared.answers.Count.{Count}
-use Rattle.rh_shell.specs.declared.answers.HeadRefused.{HeadRefused}
 use Rattle.rh_shell.specs.declared.answers.HeadRefused.TheVariants as head
-use Rattle.rh_shell.specs.declared.answers.HeadTaken.{HeadTaken}
-use Rattle.rh_shell.specs.declared.stage.Stage.{Stage}
 use Rattle.rh_shell.specs.declared.stage.Stage.TheVariants as stage
-use Rattle.rh_shell.specs.declared.stop.Stop.{Stop}
-use Rattle.law_moves.specs.Carrying.{on_leg, message_in, is_deaf}
-use Rattle.rh_shell.specs.Hearing.{Turn, goes, stops, stop_head, with_intake, touched, heading, take, take_next, take_frame, head_row, behind_head, behind_frame, begun_body, stage_of, is_greeting, is_stopped}
-use Rattle.rh_shell.specs.Intakes.{Intake, Came, Nothing, Head, Greeting, Frame, Fault, Over, on_byte}
-use Rattle.law_moves.specs.Moves.{Passage, OnLeg, HeadCame, moved, is_in_use}
-use Rattle.law_moves.specs.Moving.{IsHeld}
-use Rattle.rh_shell.specs.NearEnds.{NearEnd, is_over, is_ended, is_marked}
-use Rattle.rh_shell.specs.Rules.{Rules, Message}
-use Rattle.rh_shell.specs.Shells.{same_leg}
-use Rattle.law_moves.specs.Wires.{of_leg}
-use Rattle.law_moves.specs.Passages.Counted.{Tells, AreCounted, packets}
-use Rattle.law_moves.specs.ReadBack.Reading.{Reading, reading, read_byte, reading_after, messages_from}
-use Rattle.law_node_streams.specs.Streams.{is_live}
+use Rattle.law_moves.proofs.Vocabulary.{Pipe, HttpFault, Refusal, Cause, Leg, Behind, Count, HeadRefused, HeadTaken, Stage, Stop, Turn, goes, stops, stop_head, with_intake, touched, heading, take, take_next, take_frame, head_row, behind_head, behind_frame, begun_body, stage_of, is_greeting, is_stopped, Intake, Came, Nothing, Head, Greeting, Frame, Fault, on_byte, NearEnd, is_over, is_ended, is_marked, Rules, Message, same_leg, on_leg, message_in, is_deaf, Passage, OnLeg}
+use Rattle.law_moves.proofs.Vocabulary.{HeadCame, moved, is_in_use, IsHeld, of_leg, Tells, AreCounted, packets, Reading, reading, read_byte, reading_after, messages_from, Stages, AreInTurnFrom, takes_frames}
+use Rattle.law_moves.proofs.Lemmas.{nothing_held}
+use Rattle.law_moves.specs.Turns as turn
+use Rattle.law_node_history.proofs.Lemmas.{same_itself}
 use Rattle.law_node_streams.proofs.Streams.Counts.{TellsOn}
 use Rattle.law_node_streams.proofs.Streams.Bytes.{ByteIs, byte_is}
-use Rattle.law_moves.specs.Turns as turn
-use Rattle.law_moves.specs.Turns.{Stages, AreInTurnFrom, takes_frames}
 use Rattle.law_node_streams.proofs.Streams.Heads.{HeadBy, HeadIn, IsHead, head_whole, no_heads}
 use Rattle.law_node_streams.proofs.Streams.Staging.{IsNext, all_stages}
 use Rattle.law_node_streams.proofs.Streams.Ways.{Way, nowhere, way_as, way_none, way_one}
-use Rattle.law_node_history.proofs.Wired.{same_itself}
 use Rattle.law_node_streams.proofs.Streams.Frames.{FrameIs, frame_taken}
-
-pub on_leg_append : (leg : Leg) (xs ys : List Message)
-    → on_leg leg (xs ++ ys) ≡ on_leg leg xs ++ on_leg leg ys
-on_leg_append leg [] ys = refl
-on_leg_append leg (x ∷ xs) ys = ap (λ (l : List OnLeg). (leg, x) ∷ l) (on_leg_append leg xs ys)
+use Rattle.law_node_streams.specs.Streams.{is_live}
 
 -- a request is refused by a head
 abbrev pub IsRefusal : Option Refusal → Type 0
@@ -112,11 +81,6 @@ module _ {S : Type 0} (rules : Rules S) where
     pub held : IsHeld u.end
 
 -- ---- a byte
-
-pub nothing_held : (held : List ℕ) → held ≡ [] → IsUnfinished held
-nothing_held held none long =
-    absurd (let size : length held ≡ 0 = ap (λ (x : List ℕ). length x) none in
-    omega (arith, size, long))
 
 -- a leg that is heard is in use
 pub in_use : {S : Type 0} (rules : Rules S) (end : NearEnd) (role : S)

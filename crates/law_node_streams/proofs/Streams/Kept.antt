@@ -1,43 +1,22 @@
 -- what is kept of a leg: what its role took was read there, and what was drawn spells what it put
-use Rattle.std.proofs.Common.{◌≡◌, ◌⊎◌, inl, inr, ℕ, ◌<◌, List, [], ◌∷◌, ◌++◌, append_assoc, length, take, Bool, true, false, ◌||◌, Some, None, Err, refl, sym, ap, ◌∙◌, subst}
-use Rattle.std.specs.Prelude.{◌&&◌, not}
-use Rattle.std.specs.List.{AllByRecursion, list_any}
-use Rattle.std.specs.declared.option.Option.{Option}
-use Rattle.std.proofs.lemmas.List.{append-nil}
-use Rattle.std.proofs.lemmas.List.Concat.{flat_map-append}
-use mathlib.Core.List.{IsPrefix}
-use Rattle.rh_http.specs.declared.fault.HttpFault.{HttpFault}
-use Rattle.rh_http.specs.declared.refusal.Refusal.{Refusal}
-use Rattle.rh_http.specs.declared.refusal.Refusal.TheVariants.{Unavailable}
-use Rattle.rh_http.specs.Texts.{refusal_text}
-use Rattle.rh_sig.specs.declared.name.Pipe.{Pipe}
-use Rattle.rh_sig.specs.declared.name.Pipe.TheVariants.{CiU, IsU, IsD, CoU, CoD, OsU, OsD}
-use Rattle.rh_line.specs.declared.leg.Leg.{Leg}
+use Rattle.law_order.proofs.Vocabulary.{◌≡◌, ◌⊎◌, inl, inr, ℕ, ◌<◌, List, [], ◌∷◌, ◌++◌, append_assoc, length, take, Bool, true, false, ◌||◌, Some, None, Err, refl, sym, ap, ◌∙◌, subst, ◌&&◌, not, AllByRecursion, list_any, Option, append-nil, flat_map-append, IsPrefix}
+use Rattle.rh_shell.specs.declared.standing.Standing.{Standing}
+use Rattle.rh_shell.specs.Intakes.{fresh}
 use Rattle.rh_shell.specs.declared.answers.HeadRefused.TheVariants as head
 use Rattle.rh_shell.specs.declared.stage.Stage.TheVariants as stage
-use Rattle.rh_shell.specs.declared.standing.Standing.{Standing}
-use Rattle.rh_shell.specs.declared.stop.Stop.{Stop}
-use Rattle.law_moves.specs.Carrying.{spelled, is_deaf}
-use Rattle.rh_shell.specs.Hearing.{is_stopped}
-use Rattle.rh_shell.specs.Intakes.{Intake, fresh, is_whole_head}
-use Rattle.law_moves.specs.Moves.{Move, Passage, is_in_use}
-use Rattle.rh_shell.specs.NearEnds.{NearEnd, first_stage, is_ended, is_marked, is_over, new_end}
-use Rattle.rh_shell.specs.Rules.{Rules, Message, spell}
-use Rattle.law_moves.specs.Wires.{of_leg}
-use Rattle.law_moves.specs.ReadBack.Reading.{begin, messages_from, messages_read, reading}
-use Rattle.law_node_streams.specs.Streams.{IsFirstHead, IsHeadOf, RefusesText, is_head_on, is_live}
+use Rattle.law_moves.proofs.Vocabulary.{Pipe, CiU, IsU, IsD, CoU, CoD, OsU, OsD, HttpFault, Refusal, Unavailable, refusal_text, Leg, Stop, is_stopped, Intake, is_whole_head, NearEnd, first_stage, is_ended, is_marked, is_over, new_end, Rules, Message, spell, spelled, is_deaf, Move, Passage, is_in_use, of_leg, begin, messages_from, messages_read, reading, packets}
 use Rattle.law_moves.specs.Passages.Counted as counts
-use Rattle.law_moves.specs.Passages.Counted.{packets}
 use Rattle.law_node_streams.proofs.Streams.Counts.{TellsOn}
 use Rattle.law_node_streams.proofs.Streams.Heads.{HeadBy, each_as, first_more, head_as, head_of, head_then, heads_more, heads_none, waited}
 use Rattle.law_node_streams.proofs.Streams.Hears.{IsExact, IsRefusal, IsRefused, Judges}
 use Rattle.law_node_streams.proofs.Streams.Pieces.{exact_then, front_more, front_then}
 use Rattle.law_node_streams.proofs.Streams.Turns.{Seat, Nowhere, Sits, Answers, IsStill, IsLeft, IsSilent, seat_refused, seat_stopped, more_here, IsQuiet, IsAside, Hearing, Drawing, Answered, Coming, Unreached, Turns, Passes, Hears, Draws, Tells, Comes, Fails}
 use Rattle.law_node_streams.proofs.Streams.Ways.{any_none, each_joined}
+use Rattle.law_node_streams.specs.Streams.{IsFirstHead, IsHeadOf, RefusesText, is_head_on, is_live}
 
 -- ---- the invariant
 
-first_live : (pipe : Option Pipe) → is_live (first_stage pipe) ≡ true
+pub first_live : (pipe : Option Pipe) → is_live (first_stage pipe) ≡ true
 first_live None = refl
 first_live (Some CiU) = refl
 first_live (Some CoU) = refl

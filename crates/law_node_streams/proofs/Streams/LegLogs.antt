@@ -1,19 +1,8 @@
 -- the messages of one leg in a log, and what order sees of them
-use Rattle.std.proofs.Common.{◌≡◌, ◌⊎◌, inl, inr, Bool, true, false, if◌then◌else◌, List, [], ◌∷◌, ◌++◌, refl, sym, ap, ◌∙◌, subst}
-use Rattle.std.specs.List.{AllByRecursion}
-use Rattle.std.specs.declared.option.Option.{Option}
-use Rattle.law_order.specs.Items.{Item}
-use Rattle.law_order.specs.Logs.{seen}
-use Rattle.law_order.proofs.ByNumber.{by_test}
-use Rattle.rh_sig.specs.declared.name.Pipe.{Pipe}
-use Rattle.rh_line.specs.declared.leg.Leg.{Leg}
-use Rattle.rh_shell.specs.Rules.{Message}
-use Rattle.rh_shell.specs.Shells.{same_leg}
-use Rattle.law_moves.specs.Moves.{OnLeg}
-use Rattle.law_moves.specs.Wires.{of_leg}
-use Rattle.law_moves.specs.Legible.Legible.{ReadsBack, AllReadBack}
-use Rattle.law_node_history.proofs.Wired.{cases_leg}
-use Rattle.law_node_streams.proofs.Streams.Ends.{leg_is}
+use Rattle.law_order.proofs.Vocabulary.{◌≡◌, ◌⊎◌, inl, inr, Bool, true, false, if◌then◌else◌, List, [], ◌∷◌, ◌++◌, refl, sym, ◌∙◌, subst, AllByRecursion, Option, Item, seen}
+use Rattle.law_moves.proofs.Vocabulary.{by_test, Pipe, Leg, Message, same_leg, OnLeg, of_leg, ReadsBack, AllReadBack}
+use Rattle.law_moves.proofs.Lemmas.{leg_is}
+use Rattle.law_node_history.proofs.Lemmas.{cases_leg}
 
 -- ---- legs that are the same
 
@@ -66,26 +55,3 @@ on_leg pipe P leg (one ∷ log) all =
 pub leg_reads_back : (pipe : Leg → Option Pipe) (leg : Leg) (log : List OnLeg)
     → AllReadBack pipe log → AllByRecursion (ReadsBack (pipe leg)) (of_leg leg log)
 leg_reads_back pipe = on_leg pipe ReadsBack
-
--- ---- a message more
-
--- on another leg
-pub of_other : (leg : Leg) (log : List OnLeg) (one : OnLeg) → same_leg one.0 leg ≡ false
-    → of_leg leg (log ++ one ∷ []) ≡ of_leg leg log
-of_other leg [] one e = rw e refl
-of_other leg (other ∷ log) one e =
-    ap (λ (messages : List Message).
-    if same_leg other.0 leg then other.1 ∷ messages else messages) (of_other leg log one e)
-
--- on whichever leg
-pub one_more : (leg : Leg) (log : List OnLeg) (one : OnLeg)
-    → of_leg leg (log ++ one ∷ []) ≡ of_leg leg log ++ of_leg leg (one ∷ [])
-one_more leg [] one = refl
-one_more leg (first ∷ log) one =
-    by (same_leg first.0 leg) (one_more leg log one)
-  where
-    by : (b : Bool) → of_leg leg (log ++ one ∷ []) ≡ of_leg leg log ++ of_leg leg (one ∷ [])
-        → (if b then first.1 ∷ of_leg leg (log ++ one ∷ []) else of_leg leg (log ++ one ∷ []))
-        ≡ (if b then first.1 ∷ of_leg leg log else of_leg leg log) ++ of_leg leg (one ∷ [])
-    by true rest = ap (λ messages. first.1 ∷ messages) rest
-    by false rest = rest

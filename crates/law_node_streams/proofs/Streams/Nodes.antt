@@ -1,35 +1,17 @@
 -- the stream of a node, event by event
-use Rattle.std.proofs.Common.{◌≡◌, ◌⊎◌, inl, inr, ℕ, List, [], ◌∷◌, ◌++◌, append_assoc, true, false, ◌||◌, Some, Err, refl, sym, ap, ◌∙◌, subst}
-use Rattle.std.specs.List.{list_any}
-use Rattle.std.specs.declared.option.Option.{Option}
-use Rattle.std.proofs.lemmas.List.{append-nil}
-use mathlib.Core.List.{IsPrefix}
-use Rattle.rh_http.specs.declared.fault.HttpFault.{HttpFault}
-use Rattle.rh_rts.specs.declared.command.Cookie.{Cookie}
-use Rattle.rh_sig.specs.declared.name.Pipe.{Pipe}
-use Rattle.rh_line.specs.declared.leg.Leg.{Leg}
+use Rattle.law_order.proofs.Vocabulary.{◌≡◌, ◌⊎◌, inl, inr, ℕ, List, [], ◌∷◌, ◌++◌, append_assoc, true, false, ◌||◌, Some, Err, refl, sym, ap, ◌∙◌, subst, list_any, Option, append-nil, IsPrefix}
 use Rattle.rh_shell.specs.declared.answers.HeadRefused.TheVariants as head
-use Rattle.rh_shell.specs.declared.rooms.Rooms.{Rooms}
 use Rattle.rh_shell.specs.declared.stage.Stage.TheVariants as stage
-use Rattle.law_moves.specs.Carrying.{spelled}
-use Rattle.law_moves.specs.Moves.{Move, Passage, AreAllowed, MayMove, all_moved, is_in_use, moved, started}
-use Rattle.law_moves.specs.Moving.{Event, after_event, after_events}
-use Rattle.rh_shell.specs.NearEnds.{first_stage}
-use Rattle.rh_shell.specs.Rules.{Rules}
-use Rattle.rh_shell.specs.Shells.{Shell, begun, may_up}
-use Rattle.law_moves.specs.Wires.{of_leg}
-use Rattle.law_node_history.specs.Carried.{AreAccepted, ComesUpOnce, IsAccepted, came_up, drawn_in, drawn_on, heard_in, heard_on, is_up_of}
-use Rattle.law_node_history.proofs.Runs.{events_append}
-use Rattle.law_node_history.proofs.Appended.{accepted_append, came_append, drawn_append, heard_append}
-use Rattle.law_node_streams.specs.Streams.{HasPipes, HearsInTurn, IsDrawn, RefusalDrawn, StaysUnused, Stream, is_head_on, is_refused_on, is_up_on}
-use Rattle.law_moves.specs.Turns.{Stages, AreInTurn, IsInTurn, RefusesInTurn, none_up, stages_after}
+use Rattle.law_moves.proofs.Vocabulary.{Cookie, Pipe, HttpFault, Leg, Rooms, first_stage, Rules, Shell, begun, may_up, spelled, Move, Passage, AreAllowed, MayMove, all_moved, is_in_use, moved, started, Event, after_event, after_events, of_leg, Stages, AreInTurn, IsInTurn, RefusesInTurn, none_up, stages_after, AreCounted, IsCounted}
+use Rattle.law_node_history.proofs.Lemmas.{events_append, accepted_append, came_append, drawn_append, heard_append}
+use Rattle.law_node_history.proofs.Vocabulary.{AreAccepted, ComesUpOnce, IsAccepted, came_up, drawn_in, drawn_on, heard_in, heard_on, is_up_of}
 use Rattle.law_node_streams.proofs.Streams.Staging.{all_stages, all_stages_append, in_turn_append}
-use Rattle.law_moves.specs.Passages.Counted.{AreCounted, IsCounted}
 use Rattle.law_node_streams.proofs.Streams.Counts.{counted_append}
 use Rattle.law_node_streams.proofs.Streams.Kept.{FrontOf}
 use Rattle.law_node_streams.proofs.Streams.Going.{kept_seated}
 use Rattle.law_node_streams.proofs.Streams.Runs.{IsFit, Ran, ran_as, ran_event, ran_none}
 use Rattle.law_node_streams.proofs.Streams.Ways.{all_allowed_append, all_moved_append, or_false}
+use Rattle.law_node_streams.specs.Streams.{HasPipes, HearsInTurn, IsDrawn, RefusalDrawn, StaysUnused, Stream, is_head_on, is_refused_on, is_up_on}
 
 module _ {S : Type 0} (rules : Rules S) (first : S) (rooms : Rooms) (pipe : Leg → Option Pipe)
     (has : HasPipes rules first pipe) (unused : StaysUnused rules first)

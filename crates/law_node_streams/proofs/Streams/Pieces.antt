@@ -1,32 +1,15 @@
 -- bytes that a node hears one after the other
-use Rattle.std.proofs.Common.{◌≡◌, ◌⊎◌, inl, inr, ℕ, List, [], ◌∷◌, ◌++◌, append_assoc, Bool, true, false, Some, None, Err, refl, sym, ap, ◌∙◌, subst}
-use Rattle.std.specs.declared.option.Option.{Option}
-use Rattle.std.proofs.lemmas.List.{append-nil}
-use mathlib.Core.List.{IsPrefix}
-use Rattle.law_order.proofs.Prefixes.{prefix_more, prefix_trans, prefix_behind}
-use Rattle.rh_sig.specs.declared.name.Pipe.{Pipe}
-use Rattle.rh_line.specs.declared.leg.Leg.{Leg}
+use Rattle.law_order.proofs.Vocabulary.{◌≡◌, ◌⊎◌, inl, inr, ℕ, List, [], ◌∷◌, ◌++◌, append_assoc, Bool, true, false, Some, None, Err, refl, sym, ap, ◌∙◌, subst, Option, append-nil, IsPrefix}
 use Rattle.rh_shell.specs.declared.answers.HeadRefused.TheVariants as head
-use Rattle.rh_shell.specs.declared.stop.Stop.{Stop}
-use Rattle.law_moves.specs.Carrying.{on_leg, is_deaf}
-use Rattle.rh_shell.specs.Hearing.{Turn, hear, hear_byte, heard, is_stopped}
-use Rattle.rh_shell.specs.Intakes.{Intake}
-use Rattle.law_moves.specs.Moves.{Passage, OnLeg, all_moved}
-use Rattle.law_moves.specs.Moving.{IsHeld}
-use Rattle.rh_shell.specs.NearEnds.{NearEnd, is_over}
-use Rattle.rh_shell.specs.Rules.{Rules, Message}
-use Rattle.rh_shell.specs.Shells.{same_leg}
-use Rattle.law_moves.specs.ReadBack.Reading.{Reading, reading, reading_after, messages_from}
-use Rattle.law_node_streams.specs.Streams.{is_live}
-use Rattle.law_moves.specs.Passages.Counted.{AreCounted}
+use Rattle.law_moves.proofs.Vocabulary.{prefix_more, prefix_trans, prefix_behind, neither, Pipe, Leg, Stop, Turn, hear, hear_byte, heard, is_stopped, Intake, NearEnd, is_over, Rules, Message, same_leg, on_leg, is_deaf, Passage, OnLeg, all_moved, IsHeld, Reading, reading, reading_after, messages_from, AreCounted, Stages, AreInTurnFrom}
+use Rattle.law_moves.proofs.Lemmas.{read_behind as from_append, on_leg_append}
 use Rattle.law_node_streams.proofs.Streams.Counts.{TellsOn, counted_append}
-use Rattle.law_node_streams.proofs.Streams.Bytes.{after_append, dead_reads, from_append}
+use Rattle.law_node_streams.proofs.Streams.Bytes.{after_append, dead_reads}
 use Rattle.law_node_streams.proofs.Streams.Heads.{HeadBy, each_as, head_as, head_more, head_then, waited}
-use Rattle.law_node_streams.proofs.Streams.Hears.{Heard, IsExact, IsRefused, IsSame, Judges, byte_heard, on_leg_append}
-use Rattle.law_moves.specs.Turns.{Stages, AreInTurnFrom}
+use Rattle.law_node_streams.proofs.Streams.Hears.{Heard, IsExact, IsRefused, IsSame, Judges, byte_heard}
 use Rattle.law_node_streams.proofs.Streams.Staging.{IsNext, all_stages, all_stages_append, in_turn_append}
 use Rattle.law_node_streams.proofs.Streams.Ways.{each_joined, way_as, way_none, way_then}
-use Rattle.law_order.proofs.ItemLists.{neither}
+use Rattle.law_node_streams.specs.Streams.{is_live}
 
 pub prefix_of_none : (a : List Message) → IsPrefix a [] → a ≡ []
 prefix_of_none [] p = refl

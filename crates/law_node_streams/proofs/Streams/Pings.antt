@@ -1,13 +1,6 @@
 -- Pings that become due are moves, which log nothing
-use Rattle.std.proofs.Common.{◌≡◌, ℕ, List, [], ◌∷◌, cond, Bool, true, false, Some, None, refl, ap, ◌∙◌, sym, subst}
-use Rattle.std.specs.Prelude.{is_some, not}
-use Rattle.std.specs.declared.option.Option.{Option}
-use Rattle.std.proofs.lemmas.Bool.{and_parts}
-use Rattle.rh_line.specs.declared.leg.Leg.{Leg}
-use Rattle.rh_shell.specs.NearEnds.{NearEnd, is_finished}
-use Rattle.rh_shell.specs.Rules.{Rules}
-use Rattle.rh_shell.specs.Shells.{is_quiet, is_quiet_by, pinged}
-use Rattle.law_moves.specs.Moves.{Passage, Pings, moved}
+use Rattle.law_order.proofs.Vocabulary.{◌≡◌, ℕ, List, [], ◌∷◌, cond, Bool, true, false, Some, None, refl, ap, ◌∙◌, sym, subst, is_some, not, Option, and_parts}
+use Rattle.law_moves.proofs.Vocabulary.{Leg, NearEnd, is_finished, Rules, is_quiet, is_quiet_by, pinged, Passage, Pings, moved}
 use Rattle.law_node_streams.proofs.Streams.Staging.{LeavesStages, anything, leaves_none, leaves_then}
 use Rattle.law_node_streams.proofs.Streams.Ways.{Way, nowhere, way_none, way_one, way_then}
 

@@ -1,22 +1,11 @@
 -- legs that come up by the moves of an end, with their cookies
-use Rattle.std.proofs.Common.{◌≡◌, inl, inr, List, [], ◌∷◌, ◌++◌, append_assoc, cond, Bool, true, false, Some, None, refl, sym, subst}
-use Rattle.std.specs.List.{AllByRecursion}
-use Rattle.std.specs.declared.option.Option.{Option}
-use Rattle.std.proofs.lemmas.List.{append-nil}
-use Rattle.rh_rts.specs.declared.command.Cookie.{Cookie}
-use Rattle.rh_line.specs.declared.leg.Leg.{Leg}
-use Rattle.rh_shell.specs.declared.stage.Stage.{Stage}
+use Rattle.law_order.proofs.Vocabulary.{◌≡◌, inl, inr, List, [], ◌∷◌, ◌++◌, append_assoc, cond, Bool, true, false, Some, None, refl, sym, subst, AllByRecursion, Option, append-nil}
 use Rattle.rh_shell.specs.declared.stage.Stage.TheVariants as stage
-use Rattle.rh_shell.specs.NearEnds.{first_stage}
-use Rattle.rh_shell.specs.Rules.{Rules}
-use Rattle.rh_shell.specs.Shells.{same_leg}
-use Rattle.law_moves.specs.Moves.{Move, Up, HeadCame, PduCame, PacketCame, Puts, IsDrawn, Marks, Pings, EndMove, Moves, Gives, Takes, Closes, Recycles}
-use Rattle.law_moves.specs.Moving.{Event, ComesUp}
-use Rattle.law_moves.specs.Passages.Rising.{AreUpFirst, CameUpWith, HasComeUp, IsUpFirst, WasUp}
-use Rattle.law_moves.specs.Turns.{Stages, IsInTurn, behind_head, stages_after, takes_frames, with_stage}
-use Rattle.law_node_streams.specs.Streams.{ComesUpWith, IsCookie, RisesWith}
-use Rattle.law_node_streams.proofs.Streams.Ends.{leg_is}
+use Rattle.law_moves.proofs.Vocabulary.{Cookie, Leg, Stage, first_stage, Rules, same_leg, Move, Up, HeadCame, PduCame, PacketCame, Puts, IsDrawn, Marks, Pings, EndMove, Moves, Gives, Takes, Closes, Recycles, Event, ComesUp, AreUpFirst, CameUpWith, HasComeUp, IsUpFirst, WasUp, Stages, IsInTurn, stages_after, takes_frames, with_stage}
+use Rattle.law_moves.proofs.Lemmas.{leg_is}
+use Rattle.law_moves.specs.Turns.{behind_head}
 use Rattle.law_node_streams.proofs.Streams.Ways.{Lifts}
+use Rattle.law_node_streams.specs.Streams.{ComesUpWith, IsCookie, RisesWith}
 
 -- ---- cookies
 
@@ -78,7 +67,7 @@ has_cookies (move ∷ moves) has = (
 
 -- ---- more moves
 
-come_up_more : (ms ns : List EndMove) (leg : Leg) (cookie : Cookie) → HasComeUp ms leg cookie
+pub come_up_more : (ms ns : List EndMove) (leg : Leg) (cookie : Cookie) → HasComeUp ms leg cookie
     → HasComeUp (ms ++ ns) leg cookie
 come_up_more [] ns leg cookie rose = absurd rose
 come_up_more (m ∷ ms) ns leg cookie (inl is) = inl is

@@ -1,37 +1,19 @@
 -- what is kept of all legs over events
-use Rattle.std.proofs.Common.{◌≡◌, ℕ, List, [], ◌∷◌, ◌++◌, cond, Bool, true, false, ◌||◌, Some, Err, inl, refl, sym, ap, ◌∙◌, subst}
-use Rattle.std.specs.List.{AllByRecursion, list_any}
-use Rattle.std.specs.declared.option.Option.{Option}
-use Rattle.std.proofs.lemmas.List.Elements.{All-nil}
-use Rattle.std.proofs.lemmas.List.Folds.{list_any-append}
-use mathlib.Core.List.{IsPrefix}
-use Rattle.rh_http.specs.declared.fault.HttpFault.{HttpFault}
-use Rattle.rh_rts.specs.declared.command.Cookie.{Cookie}
-use Rattle.rh_sig.specs.declared.name.Pipe.{Pipe}
-use Rattle.rh_line.specs.declared.leg.Leg.{Leg}
+use Rattle.law_order.proofs.Vocabulary.{◌≡◌, ℕ, List, [], ◌∷◌, ◌++◌, cond, Bool, true, false, ◌||◌, Some, Err, inl, refl, sym, ap, ◌∙◌, subst, AllByRecursion, list_any, Option, All-nil, list_any-append, IsPrefix}
 use Rattle.rh_shell.specs.declared.answers.HeadRefused.TheVariants as head
-use Rattle.rh_shell.specs.declared.rooms.Rooms.{Rooms}
 use Rattle.rh_shell.specs.declared.stage.Stage.TheVariants as stage
-use Rattle.law_moves.specs.Carrying.{spelled}
-use Rattle.law_moves.specs.Moves.{Move, Passage, MayMove, is_in_use, moved, started}
-use Rattle.law_moves.specs.Moving.{AreHeld, Event, ComesUp, Hears, Ends, Breaks, Draws, Ticks, IsHeld, after_event}
-use Rattle.rh_shell.specs.NearEnds.{first_stage}
-use Rattle.rh_shell.specs.Rules.{Rules}
-use Rattle.rh_shell.specs.Shells.{Shell, begun, may_up, same_leg}
-use Rattle.law_moves.specs.Wires.{of_leg}
-use Rattle.law_node_history.specs.Carried.{IsAccepted, drawn_in, heard_in, is_up_of}
-use Rattle.law_node_streams.specs.Streams.{is_head_on, is_refused_on, is_up_on}
-use Rattle.law_moves.specs.Turns.{Stages, AreInTurnFrom, IsInTurn, none_up, stages_after}
-use Rattle.law_moves.specs.Passages.Counted.{AreCounted, IsCounted}
+use Rattle.law_moves.proofs.Vocabulary.{neither, Cookie, Pipe, HttpFault, Leg, Rooms, first_stage, Rules, Shell, begun, may_up, same_leg, spelled, Move, Passage, MayMove, is_in_use, moved, started, AreHeld, Event, ComesUp, Hears, Ends, Breaks, Draws, Ticks, IsHeld, after_event, of_leg, Stages, AreInTurnFrom, IsInTurn, none_up, stages_after, AreCounted, IsCounted}
+use Rattle.law_moves.proofs.Lemmas.{leg_is}
+use Rattle.law_node_history.proofs.Vocabulary.{IsAccepted, drawn_in, heard_in, is_up_of}
 use Rattle.law_node_streams.proofs.Streams.Staging.{all_stages, way_reached, way_stays}
-use Rattle.law_node_streams.proofs.Streams.Ends.{AreApart, leg_is}
+use Rattle.law_node_streams.proofs.Streams.Ends.{AreApart}
 use Rattle.law_node_streams.proofs.Streams.Events.{IsFresh, Steps, event_steps, ups_of}
 use Rattle.law_node_streams.proofs.Streams.Seats.{seat}
 use Rattle.law_node_streams.proofs.Streams.Kept.{IsSeated, Kept, turns_keep}
 use Rattle.law_node_streams.proofs.Streams.Going.{free_before, goes_keep}
 use Rattle.law_node_streams.proofs.Streams.Turns.{Nowhere, Sits, IsStaged, Turns}
 use Rattle.law_node_streams.proofs.Streams.Ways.{IsRaised, Lifts, each_joined}
-use Rattle.law_order.proofs.ItemLists.{neither}
+use Rattle.law_node_streams.specs.Streams.{is_head_on, is_refused_on, is_up_on}
 
 -- a passage with the node's role, which was reached, and what is kept of each leg; what each leg
 -- that came up has with its cookie; and what was drawn where the node refuses nobody

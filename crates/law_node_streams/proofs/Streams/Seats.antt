@@ -1,23 +1,9 @@
 -- what a node has of a leg, as its ends and its course change
-use Rattle.std.proofs.Common.{◌≡◌, ℕ, List, [], ◌∷◌, ◌++◌, length, cond, Bool, true, false, ◌||◌, Some, None, refl, sym, ap, ◌∙◌, subst}
-use Rattle.std.specs.Prelude.{All, slice_set, not, nat_lt, is_some}
-use Rattle.std.specs.declared.option.Option.{Option}
-use Rattle.std.proofs.lemmas.List.Elements.{All-set, All-push}
-use Rattle.rh_http.specs.Texts.{refusal_text}
-use Rattle.rh_http.specs.declared.refusal.Refusal.{Refusal}
-use Rattle.rh_line.specs.declared.leg.Leg.{Leg}
-use Rattle.rh_shell.specs.declared.answers.Phase.{Phase}
+use Rattle.law_order.proofs.Vocabulary.{◌≡◌, ℕ, List, [], cond, Bool, true, false, ◌||◌, Some, None, refl, sym, ap, ◌∙◌, subst, slice_set, not, is_some, Option}
 use Rattle.rh_shell.specs.declared.answers.Phase.TheVariants as phase
-use Rattle.rh_shell.specs.declared.course.Course.{Course}
-use Rattle.rh_shell.specs.declared.course.Course.TheVariants.{Going, Closed, Refusing}
-use Rattle.rh_shell.specs.declared.stage.Stage.{Stage}
-use Rattle.rh_shell.specs.declared.stop.Stop.{Stop}
-use Rattle.rh_shell.specs.Hearing.{is_stopped}
-use Rattle.rh_shell.specs.Intakes.{Intake}
-use Rattle.rh_shell.specs.NearEnds.{NearEnd, is_ended, marked}
-use Rattle.rh_shell.specs.Shells.{Shell, with_end, place, stop_by, stopped, bytes, seated_at, same_leg, is_working_by, state_by}
-use Rattle.law_moves.specs.Moving.{IsHeld}
-use Rattle.law_node_streams.proofs.Streams.Ends.{IsLeftOf, end_of, leg_is, set_beside, set_here}
+use Rattle.law_moves.proofs.Vocabulary.{refusal_text, Refusal, Leg, Phase, Course, Going, Closed, Refusing, Stage, Stop, is_stopped, Intake, NearEnd, is_ended, marked, Shell, with_end, place, stop_by, stopped, bytes, same_leg, is_working_by, state_by}
+use Rattle.law_moves.proofs.Lemmas.{leg_is}
+use Rattle.law_node_streams.proofs.Streams.Ends.{IsLeftOf, end_of, set_beside, set_here}
 use Rattle.law_node_streams.proofs.Streams.Staging.{IsNext}
 use Rattle.law_node_streams.proofs.Streams.Ways.{or_false}
 use Rattle.law_node_streams.proofs.Streams.Turns.{Seat, Nowhere, Sits, Answers, IsLeft, IsOn, IsStaged, IsSilent, IsStill, seat_by, seat_refused, seat_stopped}
@@ -29,14 +15,6 @@ at_work Going phase.Open h = (refl, refl)
 at_work Going phase.Ended h = absurd cc
 at_work (Closed why) f h = absurd cc
 at_work (Refusing why leg rest) f h = absurd cc
-
-pub seated_held : (legs : List NearEnd) (at : ℕ) (new : NearEnd) → All IsHeld legs → IsHeld new
-    → All IsHeld (seated_at legs at new)
-seated_held legs at new all one = by (nat_lt at (length legs))
-  where
-    by : (t : Bool) → All IsHeld (cond t (slice_set legs at new) (legs ++ new ∷ []))
-    by true = All-set IsHeld legs at new one all
-    by false = All-push IsHeld legs new all one
 
 -- ---- what a node has of a leg
 

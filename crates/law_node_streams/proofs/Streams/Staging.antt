@@ -1,23 +1,12 @@
 -- what comes next on each leg behind moves
-use Rattle.std.proofs.Common.{◌≡◌, ◌++◌, append_assoc, List, [], ◌∷◌, cond, Bool, true, false, Some, None, refl, sym, ap, ◌∙◌, subst}
-use Rattle.std.specs.Prelude.{is_some}
-use Rattle.std.specs.List.{list_any}
-use Rattle.std.specs.declared.option.Option.{Option}
-use Rattle.std.proofs.lemmas.List.{append-nil}
-use Rattle.law_order.proofs.ItemLists.{neither}
-use Rattle.rh_line.specs.declared.leg.Leg.{Leg}
-use Rattle.rh_shell.specs.declared.stage.Stage.{Stage}
+use Rattle.law_order.proofs.Vocabulary.{◌≡◌, ◌++◌, append_assoc, List, [], ◌∷◌, cond, Bool, true, false, Some, None, refl, sym, ap, ◌∙◌, subst, is_some, list_any, Option, append-nil}
 use Rattle.rh_shell.specs.declared.stage.Stage.TheVariants as stage
-use Rattle.rh_shell.specs.NearEnds.{first_stage}
-use Rattle.rh_shell.specs.Rules.{Rules}
-use Rattle.rh_shell.specs.Shells.{same_leg}
-use Rattle.law_moves.specs.Moves.{Move, Up, HeadCame, PduCame, PacketCame, Puts, IsDrawn, Marks, Pings, Passage, MayMove, AreAllowed, moved, all_moved, is_in_use}
-use Rattle.law_moves.specs.Turns.{Stages, AreInTurnFrom, IsInTurn, behind_head, is_head_on, stages_after, takes_frames}
-use Rattle.law_moves.specs.Passages.Counted.{AreCounted, IsCounted}
-use Rattle.law_node_streams.specs.Streams.{is_up_on}
-use Rattle.law_node_streams.proofs.Streams.Ends.{leg_is}
+use Rattle.law_moves.proofs.Vocabulary.{neither, Leg, Stage, first_stage, Rules, same_leg, Move, Up, HeadCame, PduCame, PacketCame, Puts, IsDrawn, Marks, Pings, Passage, MayMove, AreAllowed, moved, all_moved, is_in_use, Stages, AreInTurnFrom, IsInTurn, is_head_on, stages_after, takes_frames, AreCounted, IsCounted}
+use Rattle.law_moves.proofs.Lemmas.{leg_is}
+use Rattle.law_moves.specs.Turns.{behind_head}
 use Rattle.law_node_streams.proofs.Streams.Counts.{counted_append}
 use Rattle.law_node_streams.proofs.Streams.Ways.{Way}
+use Rattle.law_node_streams.specs.Streams.{is_up_on}
 
 -- behind all moves
 abbrev pub all_stages : {S : Type 0} → Rules S → Passage S → Stages → List Move → Stages

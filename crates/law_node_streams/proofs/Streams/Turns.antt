@@ -1,31 +1,12 @@
 -- what an event is to a leg
-use Rattle.std.proofs.Common.{◌≡◌, ℕ, List, [], ◌∷◌, ◌++◌, cond, Bool, true, false, Some, None, refl, ap, ◌∙◌}
-use Rattle.std.specs.Prelude.{is_some}
-use Rattle.std.specs.List.{list_any}
-use Rattle.std.specs.declared.option.Option.{Option}
-use Rattle.std.proofs.lemmas.List.{append-nil}
-use Rattle.rh_sig.specs.declared.name.Pipe.{Pipe}
-use Rattle.rh_http.specs.declared.refusal.Refusal.{Refusal}
-use Rattle.rh_http.specs.declared.refusal.Refusal.TheVariants.{Unavailable}
-use Rattle.rh_http.specs.Texts.{refusal_text}
-use Rattle.rh_line.specs.declared.leg.Leg.{Leg}
-use Rattle.rh_shell.specs.declared.course.Course.{Course}
-use Rattle.rh_shell.specs.declared.course.Course.TheVariants.{Going, Closed, Refusing}
-use Rattle.rh_shell.specs.declared.stage.Stage.{Stage}
-use Rattle.rh_shell.specs.declared.stop.Stop.{Stop}
-use Rattle.rh_shell.specs.Drawing.{Drawn}
-use Rattle.rh_shell.specs.Hearing.{Turn}
-use Rattle.rh_shell.specs.NearEnds.{NearEnd, is_marked, new_end}
-use Rattle.rh_shell.specs.Rules.{Rules, Message}
-use Rattle.rh_shell.specs.Shells.{same_leg}
-use Rattle.law_moves.specs.Carrying.{on_leg}
-use Rattle.law_moves.specs.Moves.{Move, Passage, OnLeg}
-use Rattle.law_moves.specs.Wires.{of_leg}
-use Rattle.law_node_history.proofs.Wired.{same_itself}
-use Rattle.law_node_streams.specs.Streams.{is_head_on}
+use Rattle.law_order.proofs.Vocabulary.{◌≡◌, ℕ, List, [], ◌∷◌, ◌++◌, cond, Bool, true, false, Some, None, refl, ap, ◌∙◌, is_some, list_any, Option, append-nil}
+use Rattle.law_moves.proofs.Vocabulary.{Pipe, Refusal, Unavailable, refusal_text, Leg, Course, Going, Closed, Refusing, Stage, Stop, Drawn, Turn, NearEnd, is_marked, new_end, Rules, Message, same_leg, on_leg, Move, Passage, OnLeg, of_leg}
+use Rattle.law_moves.proofs.Lemmas.{of_append}
+use Rattle.law_node_history.proofs.Lemmas.{same_itself}
 use Rattle.law_node_streams.proofs.Streams.Draws.{Drew}
 use Rattle.law_node_streams.proofs.Streams.Hears.{Heard}
 use Rattle.law_node_streams.proofs.Streams.Staging.{IsNext}
+use Rattle.law_node_streams.specs.Streams.{is_head_on}
 
 -- ---- what a node has of a leg
 
@@ -87,17 +68,6 @@ seat_stopped end None = Sits end
 seat_stopped end (Some why) = seat_refused why.refusal
 
 -- ---- logs
-
-of_append : (leg : Leg) (xs ys : List OnLeg)
-    → of_leg leg (xs ++ ys) ≡ of_leg leg xs ++ of_leg leg ys
-of_append leg [] ys = refl
-of_append leg (x ∷ xs) ys = by (same_leg x.0 leg) (of_append leg xs ys)
-  where
-    by : (t : Bool) → of_leg leg (xs ++ ys) ≡ of_leg leg xs ++ of_leg leg ys
-        → cond t (x.1 ∷ of_leg leg (xs ++ ys)) (of_leg leg (xs ++ ys))
-        ≡ cond t (x.1 ∷ of_leg leg xs) (of_leg leg xs) ++ of_leg leg ys
-    by true e = ap (λ (l : List Message). x.1 ∷ l) e
-    by false e = e
 
 of_on : (leg other : Leg) (ms : List Message)
     → of_leg leg (on_leg other ms) ≡ cond (same_leg other leg) ms []

@@ -1,12 +1,6 @@
 -- moves behind moves, and on which legs they bring heads and come up
-use Rattle.std.proofs.Common.{◌≡◌, List, [], ◌∷◌, ◌++◌, Bool, true, false, ◌||◌, refl, sym, ap, ◌∙◌, subst}
-use Rattle.std.specs.List.{AllByRecursion, list_any}
-use Rattle.std.proofs.lemmas.List.Folds.{list_any-append}
-use Rattle.rh_rts.specs.declared.command.Cookie.{Cookie}
-use Rattle.rh_line.specs.declared.leg.Leg.{Leg}
-use Rattle.rh_shell.specs.Rules.{Rules}
-use Rattle.law_moves.specs.Moves.{Move, Up, Passage, MayMove, AreAllowed, moved, all_moved}
-use Rattle.law_moves.specs.Moving.{Event, ComesUp}
+use Rattle.law_order.proofs.Vocabulary.{◌≡◌, List, [], ◌∷◌, ◌++◌, Bool, true, false, ◌||◌, refl, sym, ap, ◌∙◌, subst, AllByRecursion, list_any, list_any-append}
+use Rattle.law_moves.proofs.Vocabulary.{Cookie, Leg, Rules, Move, Up, Passage, MayMove, AreAllowed, moved, all_moved, Event, ComesUp}
 use Rattle.law_node_streams.specs.Streams.{is_head_on, is_up_on}
 
 -- heads came on these legs alone, and these alone came up

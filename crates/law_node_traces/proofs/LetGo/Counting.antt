@@ -1,42 +1,17 @@
 -- every change counts the legs of each proxy: no more are up for it than its place says
-use Rattle.std.proofs.Common.{◌≡◌, ◌⊎◌, ℕ, ◌+◌, List, true, false, min, IsTrue, refl, sym, ap, ◌∙◌, subst, inl, inr, ⊎_elim, arith}
-use Rattle.std.specs.Prelude.{◌≢◌}
-use Rattle.std.proofs.lemmas.Bool.{true≢false, false≢true, cases_eq, cases_lt, cases_Bool}
-use Rattle.rh_text.specs.declared.ends.Dir.TheVariants.{U}
-use Rattle.rh_text.specs.declared.ends.Side.{Side}
 use Rattle.rh_text.specs.declared.ends.Side.TheVariants as side
-use Rattle.rh_rts.specs.declared.command.Cookie.{Cookie}
-use Rattle.rh_line.specs.declared.leg.Leg.{Leg}
-use Rattle.rh_line.specs.declared.leg.LegKind.{LegKind}
-use Rattle.rh_line.specs.declared.leg.LegKind.TheVariants.{ClientOut, OutServer, ClientIn, InServer}
-use Rattle.rh_record.specs.declared.answer.Who.{Who}
-use Rattle.rh_record.specs.declared.answer.Who.TheVariants.{Client, In, Out}
+use Rattle.law_order.proofs.Vocabulary.{◌≡◌, ◌⊎◌, ℕ, ◌+◌, List, true, false, min, IsTrue, refl, sym, ap, ◌∙◌, subst, inl, inr, ⊎_elim, arith, ◌≢◌, true≢false, false≢true, cases_eq, cases_lt, cases_Bool}
 use Rattle.rh_shell.specs.Shells as shell
-use Rattle.rh_shell.specs.Shells.{Shell}
-use Rattle.rh_nodes.specs.declared.event.Event.TheVariants.{Comes}
-use Rattle.rh_nodes.specs.declared.legs.Legs.{Legs}
-use Rattle.rh_nodes.specs.declared.place.Place.TheVariants.{Absent}
-use Rattle.rh_nodes.specs.Company as company
-use Rattle.rh_nodes.specs.Company.{Company, Rulebook}
-use Rattle.rh_nodes.specs.Giving.{Deeds}
-use Rattle.rh_nodes.specs.Halves.{is_same}
-use Rattle.rh_nodes.specs.Legs as legs
-use Rattle.rh_nodes.specs.Opening.{Makers, at_moment, reader_before}
-use Rattle.rh_nodes.specs.Places.{is_absent, most_legs, one_fewer}
-use Rattle.rh_nodes.specs.Readers.{reader_of, with_reader}
-use Rattle.rh_nodes.specs.Settling.{leg_at}
-use Rattle.rh_nodes.specs.Wires as wires
-use Rattle.rh_nodes.specs.Wires.{sender, receiver}
-use Rattle.rh_nodes.specs.World.{World, at}
-use Rattle.law_node_history.specs.Changes.{Change, IsTold, IsFed, IsDrawn, GoesUp, RaisesAlone, GoesDown, OpensIn, OpensOut, OpensSame, Gives, Takes, Closes, MayChange, StandsAt, changed, may_have}
-use Rattle.law_node_history.specs.Histories.{History, in_place, out_place, noted}
-use Rattle.law_node_history.specs.Carried.{wire_at, end_node, came_up, events_of, is_of_client, IsTraced, LegsComeUpOnce}
-use Rattle.law_node_history.proofs.Ledgers.{who_itself}
-use Rattle.law_node_history.proofs.Lines.{same_who}
-use Rattle.law_node_history.proofs.NodeTraces.{may_come, never_up}
-use Rattle.law_node_history.proofs.Noting.{absent_is}
-use Rattle.law_node_history.proofs.Numbers.{asked}
-use Rattle.law_node_history.proofs.Wired.{is_up_at}
+use Rattle.rh_wires.specs.Legs as legs
+use Rattle.rh_wires.specs.Wires as wires
+use Rattle.rh_wires.specs.Legs as legs
+use Rattle.rh_wires.specs.Wires as wires
+use Rattle.rh_company.specs.Company as company
+use Rattle.rh_company.specs.Company as company
+use Rattle.law_moves.proofs.Vocabulary.{U, Side, Cookie, Leg, LegKind, ClientOut, OutServer, ClientIn, InServer, Shell}
+use Rattle.law_node_history.proofs.Vocabulary.{Who, Client, In, Out, Legs, reader_of, with_reader, sender, receiver, Comes, Absent, Company, Rulebook, is_absent, most_legs, one_fewer, Deeds, is_same, Makers, at_moment, reader_before, leg_at, World, at, Change, IsTold, IsFed, IsDrawn, GoesUp, RaisesAlone, GoesDown, OpensIn, OpensOut, OpensSame, Gives, Takes, Closes, MayChange, StandsAt, changed, may_have, History, in_place, out_place, noted, wire_at, end_node, came_up}
+use Rattle.law_node_history.proofs.Vocabulary.{events_of, is_of_client, IsTraced, LegsComeUpOnce}
+use Rattle.law_node_history.proofs.Lemmas.{who_itself, same_who, may_come, never_up, absent_is, asked, is_up_at, client_end}
 use Rattle.law_node_traces.proofs.LetGo.Lists.{AtMost, at_most_still, at_most_more, at_most_less}
 use Rattle.law_node_traces.proofs.LetGo.Standing.{IsUp, raised, lowered, put_is_up, taken_is_up, reader_here, read_is_up}
 use Rattle.law_node_traces.proofs.LetGo.Counts.{fewer_is, is_proxy, count_at, same_count, made_count, told_count, drawn_count, up_count, up_elsewhere, left_count, left_elsewhere}
@@ -51,18 +26,6 @@ pub record IsCounted {K C S I O : Type 0} (w : World K C S I O) (x : Who) : Type
 
 abbrev pub AreCounted : {K C S I O : Type 0} → World K C S I O → History → Type 0
 AreCounted w h = (x : Who) → is_proxy x ≡ true → IsCounted w x
-
--- the client has its own end of its legs
-client_end : (readers : List ℕ) (leg : Leg) → is_of_client leg.kind ≡ true
-    → end_node readers leg side.Client ≡ Client
-client_end readers leg own = by leg.kind own
-  where
-    by : (kind : LegKind) → is_of_client kind ≡ true
-        → end_node readers (leg_at kind leg.number) side.Client ≡ Client
-    by ClientOut own = refl
-    by OutServer own = absurd (false≢true own)
-    by ClientIn own = refl
-    by InServer own = absurd (false≢true own)
 
 -- no proxy is the client
 not_client : {A : Type 0} (x : Who) → is_proxy x ≡ true → Client ≡ x → A

@@ -1,26 +1,11 @@
 -- the count of the legs of a proxy, whatever happens to the nodes
-use Rattle.std.proofs.Common.{◌≡◌, ℕ, ◌+◌, ◌-◌, List, [], Bool, true, false, ◌||◌, if◌then◌else◌, get_or, min, None, refl, sym, ap, ◌∙◌, ⊎_elim, arith}
-use Rattle.std.specs.Prelude.{◌==◌, ◌≢◌, nat_lt}
-use Rattle.std.proofs.lemmas.Bool.{false≢true, cases_eq, eqb-false, ltb-false, ne_eqb}
-use Rattle.rh_rts.specs.declared.command.Cookie.{Cookie}
-use Rattle.rh_line.specs.declared.leg.Leg.{Leg}
-use Rattle.rh_record.specs.declared.answer.Who.{Who}
-use Rattle.rh_record.specs.declared.answer.Who.TheVariants.{Client, Server, In, Out}
-use Rattle.rh_shell.specs.Rules.{Rules}
-use Rattle.rh_shell.specs.Shells.{Shell}
-use Rattle.rh_nodes.specs.declared.event.Event.{Event}
-use Rattle.rh_nodes.specs.declared.place.Place.{Place}
-use Rattle.rh_nodes.specs.declared.place.Place.TheVariants.{Absent, Here, Gone}
-use Rattle.rh_nodes.specs.Company as company
-use Rattle.rh_nodes.specs.Company.{Company, Rulebook}
-use Rattle.rh_nodes.specs.Halves.{is_same}
-use Rattle.rh_nodes.specs.Numbered.{act, change, put_at}
-use Rattle.rh_nodes.specs.Places as places
-use Rattle.rh_nodes.specs.Places.{is_working, most_legs, one_fewer}
-use Rattle.law_node_history.specs.Histories.{in_place, out_place}
-use Rattle.law_node_history.proofs.NodeTraces.{in_may, out_may}
-use Rattle.law_node_history.proofs.Numbers.{acted, acts_elsewhere, changed_here, changes_elsewhere, put_here, put_elsewhere}
-use Rattle.law_node_traces.specs.LetGo.{is_gone, was_let_go}
+use Rattle.law_order.proofs.Vocabulary.{◌≡◌, ℕ, ◌+◌, ◌-◌, List, [], Bool, true, false, ◌||◌, if◌then◌else◌, get_or, min, None, refl, sym, ap, ◌∙◌, ⊎_elim, arith, ◌==◌, ◌≢◌, nat_lt, false≢true, cases_eq, eqb-false, ltb-false, ne_eqb}
+use Rattle.rh_company.specs.Company as company
+use Rattle.rh_company.specs.Places as places
+use Rattle.law_moves.proofs.Vocabulary.{Cookie, Leg, Rules, Shell}
+use Rattle.law_node_history.proofs.Vocabulary.{Who, Client, Server, In, Out, act, change, put_at, Event, Place, Absent, Here, Gone, Company, Rulebook, is_working, most_legs, one_fewer, is_same, in_place, out_place}
+use Rattle.law_node_history.proofs.Lemmas.{in_may, out_may, acted, acts_elsewhere, changed_here, changes_elsewhere, put_here, put_elsewhere}
+use Rattle.law_node_traces.proofs.Vocabulary.{is_gone, was_let_go}
 
 -- ---- a count that does not stand still
 

@@ -1,7 +1,6 @@
 -- lists that have all legs of a kind, and how long they are at least
-use Rattle.std.proofs.Common.{◌≡◌, ◌⊎◌, ◌≤◌, ℕ, suc, ◌+◌, ◌-◌, List, [], ◌∷◌, length, refl, sym, ap, ◌∙◌, inl, inr, ⊎_elim, arith}
-use Rattle.std.specs.Prelude.{◌≢◌}
-use Rattle.rh_line.specs.declared.leg.Leg.{Leg}
+use Rattle.law_order.proofs.Vocabulary.{◌≡◌, ◌⊎◌, ◌≤◌, ℕ, suc, ◌+◌, ◌-◌, List, [], ◌∷◌, length, refl, sym, ap, ◌∙◌, inl, inr, ⊎_elim, arith, ◌≢◌}
+use Rattle.law_moves.proofs.Vocabulary.{Leg}
 
 abbrev pub IsIn : Leg → List Leg → Type 0
 IsIn leg [] = ⊥

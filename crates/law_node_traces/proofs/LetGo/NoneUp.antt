@@ -1,27 +1,15 @@
 -- in all worlds that changes lead to, no leg is up for a proxy that was let go
-use Rattle.std.proofs.Common.{◌≡◌, [], true, false, refl, sym, ◌∙◌, subst, ⊎_elim, arith}
-use Rattle.std.proofs.lemmas.Bool.{cases_Bool}
-use Rattle.rh_text.specs.declared.ends.Side.{Side}
-use Rattle.rh_line.specs.declared.leg.Leg.{Leg}
-use Rattle.rh_record.specs.declared.answer.Who.{Who}
-use Rattle.rh_record.specs.declared.answer.Who.TheVariants.{Client}
-use Rattle.rh_nodes.specs.declared.legs.Legs.{Legs}
-use Rattle.rh_nodes.specs.Company.{Rulebook}
-use Rattle.rh_nodes.specs.Giving.{Deeds}
-use Rattle.rh_nodes.specs.Legs as legs
-use Rattle.rh_nodes.specs.Opening.{Makers}
-use Rattle.rh_nodes.specs.World.{World, at}
-use Rattle.law_node_history.specs.Changes.{Leads}
-use Rattle.law_node_history.specs.Histories.{nothing, IsNew}
-use Rattle.law_node_history.specs.Carried.{LegsComeUpOnce}
-use Rattle.law_node_history.proofs.Recordings.{traced_first}
-use Rattle.law_node_history.proofs.Wired.{is_up_at}
+use Rattle.law_order.proofs.Vocabulary.{◌≡◌, [], true, false, refl, sym, ◌∙◌, subst, ⊎_elim, arith, cases_Bool}
+use Rattle.rh_wires.specs.Legs as legs
+use Rattle.law_moves.proofs.Vocabulary.{Side, Leg}
+use Rattle.law_node_history.proofs.Vocabulary.{Who, Legs, Rulebook, Deeds, Makers, World, at, Leads, nothing, IsNew, LegsComeUpOnce}
+use Rattle.law_node_history.proofs.Lemmas.{traced_first, is_up_at}
 use Rattle.law_node_traces.proofs.Traced.Along.{kept_along}
-use Rattle.law_node_traces.specs.LetGo.{was_let_go}
 use Rattle.law_node_traces.proofs.LetGo.Lists.{AtMost, at_most_none}
 use Rattle.law_node_traces.proofs.LetGo.Standing.{IsUp, none_is_up}
 use Rattle.law_node_traces.proofs.LetGo.Counts.{count_at, let_go_has_none, let_go_is_proxy}
 use Rattle.law_node_traces.proofs.LetGo.Counting.{AreUp, IsCounted, AreCounted, change_counted}
+use Rattle.law_node_traces.proofs.Vocabulary.{was_let_go}
 
 module _ {K C S I O : Type 0} (r : Rulebook C S I O) (m : Makers K I O) (d : Deeds C S) where
   counted_first : (w : World K C S I O) → IsNew w → AreCounted w nothing

@@ -1,29 +1,13 @@
 -- the legs that are up for a node, where ends go up and down, bytes go by and readers are set
-use Rattle.std.proofs.Common.{◌≡◌, ◌⊎◌, ℕ, List, Bool, true, false, if◌then◌else◌, refl, sym, ap, ◌∙◌, inl, inr, ⊎_elim}
-use Rattle.std.specs.Prelude.{◌≢◌}
-use Rattle.std.proofs.lemmas.Bool.{true≢false, false≢true, cases_eq}
-use Rattle.rh_text.specs.declared.ends.Dir.{Dir}
-use Rattle.rh_text.specs.declared.ends.Dir.TheVariants.{U, D}
-use Rattle.rh_text.specs.declared.ends.Side.{Side}
 use Rattle.rh_text.specs.declared.ends.Side.TheVariants as side
-use Rattle.rh_line.specs.declared.leg.Leg.{Leg}
-use Rattle.rh_line.specs.declared.leg.LegKind.{LegKind}
-use Rattle.rh_line.specs.declared.leg.LegKind.TheVariants.{ClientOut, OutServer, ClientIn, InServer}
-use Rattle.rh_record.specs.declared.answer.Who.{Who}
+use Rattle.law_order.proofs.Vocabulary.{◌≡◌, ◌⊎◌, ℕ, List, Bool, true, false, if◌then◌else◌, refl, sym, ap, ◌∙◌, inl, inr, ⊎_elim, ◌≢◌, true≢false, false≢true, cases_eq}
 use Rattle.rh_record.specs.declared.answer.Who.TheVariants as who
-use Rattle.rh_shell.specs.Shells.{same_leg}
-use Rattle.rh_nodes.specs.declared.legs.Legs.{Legs}
-use Rattle.rh_nodes.specs.declared.wire.Wire.{Wire}
-use Rattle.rh_nodes.specs.Legs as legs
-use Rattle.rh_nodes.specs.Readers.{reader_of, with_reader}
-use Rattle.rh_nodes.specs.Settling.{leg_at}
-use Rattle.rh_nodes.specs.Wires as wires
-use Rattle.rh_nodes.specs.Wires.{blank}
-use Rattle.rh_nodes.specs.World.{node_by}
-use Rattle.law_node_history.specs.Carried.{wire_at, end_node}
-use Rattle.law_node_history.proofs.Numbers.{asked, put_here, put_elsewhere}
+use Rattle.rh_wires.specs.Legs as legs
+use Rattle.rh_wires.specs.Wires as wires
+use Rattle.law_moves.proofs.Vocabulary.{Dir, U, D, Side, Leg, LegKind, ClientOut, OutServer, ClientIn, InServer, same_leg}
+use Rattle.law_node_history.proofs.Vocabulary.{Who, Legs, Wire, reader_of, with_reader, blank, leg_at, node_by, wire_at, end_node}
+use Rattle.law_node_history.proofs.Lemmas.{asked, put_here, put_elsewhere, cases_leg, same_itself}
 use Rattle.law_node_history.proofs.Wired as wired
-use Rattle.law_node_history.proofs.Wired.{cases_leg, same_itself}
 
 -- a node stands at an end of the leg that is up for it
 pub record IsUp (all : Legs) (readers : List ℕ) (node : Who) (leg : Leg) : Type 0 where
@@ -197,7 +181,7 @@ pub reader_here : (readers : List ℕ) (k b : ℕ) → reader_of (with_reader re
 reader_here readers k b =
     asked 0 (λ n. n) (with_reader readers k b) k ∙ put_here 0 readers k b
 
-reader_elsewhere : (readers : List ℕ) (k b n : ℕ) → n ≢ k
+pub reader_elsewhere : (readers : List ℕ) (k b n : ℕ) → n ≢ k
     → reader_of (with_reader readers k b) n ≡ reader_of readers n
 reader_elsewhere readers k b n other =
     asked 0 (λ n. n) (with_reader readers k b) n ∙ put_elsewhere 0 readers k n b other

@@ -1,29 +1,15 @@
 -- where a node closes since what came was not to come there, it keeps an end of that leg; and a
 -- client does so on its OUT legs alone
-use Rattle.std.proofs.Common.{◌≡◌, inl, inr, ℕ, List, Some, None, refl, sym, ap, ◌∙◌, subst}
-use Rattle.std.specs.declared.option.Option.{Option}
-use Rattle.rh_http.specs.declared.refusal.Refusal.{Refusal}
-use Rattle.rh_line.specs.declared.cause.Cause.{Cause}
+use Rattle.law_order.proofs.Vocabulary.{◌≡◌, inl, inr, ℕ, List, Some, None, refl, sym, ap, ◌∙◌, subst, Option}
 use Rattle.rh_line.specs.declared.cause.Cause.TheVariants as cause
-use Rattle.rh_line.specs.declared.leg.Leg.{Leg}
-use Rattle.rh_line.specs.declared.leg.LegKind.TheVariants.{ClientOut}
-use Rattle.rh_shell.specs.declared.course.Course.{Course}
-use Rattle.rh_shell.specs.declared.course.Course.TheVariants.{Going, Closed, Refusing}
-use Rattle.rh_shell.specs.declared.stop.Stop.{Stop}
-use Rattle.rh_shell.specs.Hearing.{Turn, goes, hear}
-use Rattle.rh_shell.specs.NearEnds.{NearEnd}
-use Rattle.rh_shell.specs.Rules.{Rules}
-use Rattle.rh_shell.specs.Shells.{Shell, bytes_at, bytes_by, end_at, place, stop_by, stopped, with_end}
 use Rattle.rh_client.specs.declared.state.ClientRole.{ClientRole}
 use Rattle.rh_client.specs.Client as client
-use Rattle.rh_nodes.specs.declared.event.Event.{Event}
-use Rattle.rh_nodes.specs.declared.event.Event.TheVariants.{Comes}
-use Rattle.rh_nodes.specs.Telling.{tell}
-use Rattle.law_moves.specs.Laws.{ClosedWith}
+use Rattle.law_moves.proofs.Vocabulary.{Refusal, Cause, Leg, ClientOut, Course, Going, Closed, Refusing, Stop, Turn, goes, hear, NearEnd, Rules, Shell, bytes_at, bytes_by, end_at, place, stop_by, stopped, with_end, ClosedWith}
+use Rattle.law_node_history.proofs.Vocabulary.{Event, Comes, tell}
 use Rattle.law_node_causes.specs.Closings.{ClosesWith, ComesFrom, IsPiece, MayClose}
 use Rattle.law_node_causes.specs.Reasons.{ComesAmiss}
-use Rattle.law_node_traces.specs.OwnLegs.{IsAmissOn, IsOfClient, KeepsEnds, KeepsLegs}
 use Rattle.law_node_traces.proofs.OwnLegs.InLegs.{IsOfHead, StopsByHead, piece_waits}
+use Rattle.law_node_traces.proofs.Vocabulary.{IsAmissOn, IsOfClient, KeepsEnds, KeepsLegs}
 
 -- ---- the laws that this stands on
 

@@ -1,28 +1,10 @@
 -- what holds of each end that a node keeps, whatever happens at it
-use Rattle.std.proofs.Common.{◌≡◌, ℕ, zero, suc, List, [], ◌∷◌, ◌++◌, length, drop, take, cond, Bool, true, false, nat_lt, Some, None, refl, subst}
-use Rattle.std.specs.Prelude.{◌&&◌, ◌||◌, not, nat_le, slice_get, slice_set}
-use Rattle.std.specs.List.{AllByRecursion}
-use Rattle.std.specs.declared.option.Option.{Option}
-use Rattle.std.proofs.lemmas.Bool.{and_parts}
-use Rattle.rh_rts.specs.declared.command.Cookie.{Cookie}
-use Rattle.rh_http.specs.declared.refusal.Refusal.{Refusal}
-use Rattle.rh_http.specs.declared.refusal.Refusal.TheVariants.{Unavailable}
-use Rattle.rh_line.specs.declared.cause.Cause.{Cause}
+use Rattle.law_order.proofs.Vocabulary.{◌≡◌, ℕ, zero, suc, List, [], ◌∷◌, ◌++◌, length, drop, take, cond, Bool, true, false, nat_lt, Some, None, refl, subst, ◌&&◌, ◌||◌, not, nat_le, slice_get, slice_set, AllByRecursion, Option, and_parts}
 use Rattle.rh_line.specs.declared.cause.Cause.TheVariants as cause
-use Rattle.rh_line.specs.declared.leg.Leg.{Leg}
-use Rattle.rh_line.specs.declared.state.State.{State}
 use Rattle.rh_line.specs.declared.state.State.TheVariants as state
-use Rattle.rh_shell.specs.declared.course.Course.{Course}
-use Rattle.rh_shell.specs.declared.course.Course.TheVariants.{Going, Closed, Refusing}
-use Rattle.rh_shell.specs.declared.rooms.Rooms.{Rooms}
-use Rattle.rh_shell.specs.declared.stop.Stop.{Stop}
-use Rattle.rh_shell.specs.Drawing.{Drawn, draw, drawn, put_on, begun_now, filled, left_by, next_byte}
-use Rattle.rh_shell.specs.Ends.{cause_of, give_where, take_where, close_where, recycle_where}
-use Rattle.rh_shell.specs.Hearing.{Turn, goes, heard, hear, hear_byte, is_stopped}
-use Rattle.rh_shell.specs.NearEnds.{NearEnd, new_end, marked, is_empty, is_ended, is_finished, is_marked, is_over}
-use Rattle.rh_shell.specs.Rules.{Rules, Acts, put_into}
-use Rattle.rh_shell.specs.Shells.{Shell, begun, close, refuse, stop_by, stopped, end_at, with_end, place, free_place, has_room, is_working, state_of, may_up, with_leg, up, seated_at, bytes_at, bytes_by, lose, lost, ended_at, ended_by, wants, is_heard, unreached, unreached_by, broken_at, broken_by, put_back, drawn_at, drawn_by, same_leg, first_silent, passed, passed_by}
-use Rattle.law_moves.specs.Moving.{Event, ComesUp, Hears, Ends, Breaks, Draws, Ticks, after_event, after_events, EndEvent, Happens, IsGiven, IsTaken, IsClosed, IsRecycled, after_end_event, after_end_events}
+use Rattle.rh_shell.specs.NearEnds.{is_empty}
+use Rattle.law_moves.proofs.Vocabulary.{Cookie, Refusal, Unavailable, Cause, Leg, State, Course, Going, Closed, Refusing, Rooms, Stop, Drawn, draw, drawn, put_on, begun_now, filled, left_by, next_byte, cause_of, give_where, take_where, close_where, recycle_where, Turn, goes, heard, hear, hear_byte, is_stopped, NearEnd, new_end, marked, is_ended, is_finished, is_marked, is_over, Rules, Acts, put_into, Shell, begun, close, refuse, stop_by, stopped, end_at, with_end, place}
+use Rattle.law_moves.proofs.Vocabulary.{free_place, has_room, is_working, state_of, may_up, with_leg, up, seated_at, bytes_at, bytes_by, lose, lost, ended_at, ended_by, wants, is_heard, unreached, unreached_by, broken_at, broken_by, put_back, drawn_at, drawn_by, same_leg, first_silent, passed, passed_by, Event, ComesUp, Hears, Ends, Breaks, Draws, Ticks, after_event, after_events, EndEvent, Happens, IsGiven, IsTaken, IsClosed, IsRecycled, after_end_event, after_end_events}
 use Rattle.law_node_causes.specs.Reasons.{StandsIn}
 
 -- ---- lists of ends

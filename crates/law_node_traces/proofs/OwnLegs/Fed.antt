@@ -1,40 +1,21 @@
 -- a node of a world that closes since what came was not to come there stands at that leg
-use Rattle.std.proofs.Common.{◌≡◌, ◌⊎◌, inl, inr, ℕ, List, Some, None, refl, sym, ap, ◌∙◌, subst}
-use Rattle.std.specs.declared.option.Option.{Option}
-use Rattle.rh_text.specs.declared.ends.Dir.{Dir}
-use Rattle.rh_text.specs.declared.ends.Side.{Side}
 use Rattle.rh_text.specs.declared.ends.Side.TheVariants as side
-use Rattle.rh_line.specs.declared.cause.Cause.{Cause}
-use Rattle.rh_line.specs.declared.leg.Leg.{Leg}
-use Rattle.rh_line.specs.declared.leg.LegKind.{LegKind}
-use Rattle.rh_line.specs.declared.leg.LegKind.TheVariants.{ClientOut, OutServer, ClientIn, InServer}
-use Rattle.rh_record.specs.declared.answer.Who.{Who}
+use Rattle.law_order.proofs.Vocabulary.{◌≡◌, ◌⊎◌, inl, inr, ℕ, List, Some, None, refl, sym, ap, ◌∙◌, subst, Option}
 use Rattle.rh_record.specs.declared.answer.Who.TheVariants as who
-use Rattle.rh_shell.specs.Rules.{Rules}
-use Rattle.rh_shell.specs.Shells.{Shell}
 use Rattle.rh_inproxy.specs.State.{InProxy}
-use Rattle.rh_outproxy.specs.Machine as out_proxy
 use Rattle.rh_outproxy.specs.OutProxy.{OutProxy}
+use Rattle.rh_outproxy.specs.Machine as out_proxy
 use Rattle.rh_client.specs.declared.state.ClientRole.{ClientRole}
-use Rattle.rh_server.specs.Servers as server
 use Rattle.rh_server.specs.States.{Server}
-use Rattle.rh_nodes.specs.declared.event.Event.{Event}
-use Rattle.rh_nodes.specs.declared.event.Event.TheVariants.{Comes}
-use Rattle.rh_nodes.specs.declared.place.Place.{Place}
-use Rattle.rh_nodes.specs.declared.place.Place.TheVariants.{Absent, Here, Gone}
-use Rattle.rh_nodes.specs.Company as company
-use Rattle.rh_nodes.specs.Places as places
-use Rattle.rh_nodes.specs.Readers.{reader_of}
-use Rattle.rh_nodes.specs.Wires.{receiver}
-use Rattle.rh_nodes.specs.World.{World, at, node_by}
-use Rattle.law_node_history.specs.Changes.{Change, IsTold, IsFed, IsDrawn, GoesUp, RaisesAlone, GoesDown, OpensIn, OpensOut, OpensSame, Gives, Takes, Closes, RecyclesIn, RecyclesOut, MovesTo, Draws, Reports, MayChange}
-use Rattle.law_node_history.specs.Closes.{ClosesNode}
-use Rattle.law_node_history.specs.Histories.{out_place}
-use Rattle.law_node_history.proofs.Numbers.{answered}
+use Rattle.rh_server.specs.Servers as server
+use Rattle.rh_company.specs.Company as company
+use Rattle.rh_company.specs.Places as places
+use Rattle.law_moves.proofs.Vocabulary.{Dir, Side, Cause, Leg, LegKind, ClientOut, OutServer, ClientIn, InServer, Rules, Shell}
+use Rattle.law_node_history.proofs.Vocabulary.{Who, reader_of, receiver, Event, Comes, Place, Absent, Here, Gone, World, at, node_by, Change, IsTold, IsFed, IsDrawn, GoesUp, RaisesAlone, GoesDown, OpensIn, OpensOut, OpensSame, Gives, Takes, Closes, RecyclesIn, RecyclesOut, MovesTo, Draws, Reports, MayChange, ClosesNode, out_place}
+use Rattle.law_node_history.proofs.Lemmas.{answered}
 use Rattle.law_node_causes.specs.Closings.{ClosesWith}
-use Rattle.law_node_traces.specs.Traced.Ours.{rules}
-use Rattle.law_node_traces.specs.OwnLegs.{IsAmissOn, IsOfOutProxy, IsOfServer}
 use Rattle.law_node_traces.proofs.OwnLegs.Amiss.{ClosesBy, came_on}
+use Rattle.law_node_traces.proofs.Vocabulary.{rules, IsAmissOn, IsOfOutProxy, IsOfServer}
 
 -- ---- a piece came on the leg
 

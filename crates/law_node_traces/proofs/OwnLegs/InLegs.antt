@@ -1,32 +1,17 @@
 -- on an IN leg a client waits for a head as long as it goes on, and refuses any that is whole
 -- (MS-RPCH 2.1.2)
-use Rattle.std.proofs.Common.{◌≡◌, ◌⊎◌, inl, inr, ℕ, List, ◌∷◌, [], ◌++◌, length, Bool, true, false, Some, None, Ok, Err, refl, sym, ap, ◌∙◌, subst}
-use Rattle.std.specs.declared.option.Option.{Option}
-use Rattle.std.specs.declared.result.Result.{Result}
-use Rattle.rh_http.specs.declared.config.ClientConfig.{ClientConfig}
-use Rattle.rh_http.specs.declared.fault.HttpFault.{HttpFault}
-use Rattle.rh_http.specs.declared.response.Response.{Response}
-use Rattle.rh_http.specs.Heads.Verdicts.{response_verdict}
-use Rattle.rh_line.specs.declared.cause.Cause.{Cause}
+use Rattle.law_order.proofs.Vocabulary.{◌≡◌, ◌⊎◌, inl, inr, ℕ, List, ◌∷◌, [], ◌++◌, length, Bool, true, false, Some, None, Ok, Err, refl, sym, ap, ◌∙◌, subst, Option, Result}
 use Rattle.rh_line.specs.declared.cause.Cause.TheVariants as cause
-use Rattle.rh_line.specs.declared.leg.Leg.{Leg}
-use Rattle.rh_line.specs.declared.leg.LegKind.{LegKind}
-use Rattle.rh_line.specs.declared.leg.LegKind.TheVariants.{ClientOut, OutServer, ClientIn, InServer}
-use Rattle.rh_shell.specs.declared.stage.Stage.{Stage}
+use Rattle.rh_shell.specs.Intakes.{Over}
 use Rattle.rh_shell.specs.declared.stage.Stage.TheVariants as stage
-use Rattle.rh_shell.specs.declared.stop.Stop.{Stop}
-use Rattle.rh_shell.specs.Hearing.{Turn, behind_head, goes, head_row, hear, heard, touched, with_intake}
-use Rattle.rh_shell.specs.Hearing.{take as taken}
-use Rattle.rh_shell.specs.Intakes.{Intake, Came, Nothing, Head, Greeting, Frame, Fault, Over, byte_by, is_whole_head, on_byte, text_by}
-use Rattle.rh_shell.specs.NearEnds.{NearEnd, first_stage, new_end}
 use Rattle.rh_client.specs.declared.state.ClientRole.{ClientRole}
-use Rattle.rh_client.specs.Client as client
 use Rattle.rh_client.specs.Opening.{head_by, pipe_by, wants_by}
+use Rattle.rh_client.specs.Client as client
 use Rattle.rh_client.specs.State as client_state
-use Rattle.law_moves.specs.Moving.{EndEvent, after_end_events}
-use Rattle.law_node_traces.specs.OwnLegs.{IsOfClient, KeepsEnds}
+use Rattle.law_moves.proofs.Vocabulary.{ClientConfig, HttpFault, Response, response_verdict, Cause, Leg, LegKind, ClientOut, OutServer, ClientIn, InServer, Stage, Stop, Turn, behind_head, goes, head_row, hear, heard, touched, with_intake, take as taken, Intake, Came, Nothing, Head, Greeting, Frame, Fault, byte_by, is_whole_head, on_byte, text_by, NearEnd, first_stage, new_end, EndEvent, after_end_events}
 use Rattle.law_node_traces.proofs.OwnLegs.Ends.{StaysSo, each_there, new_end_so, piece_so}
 use Rattle.law_node_traces.proofs.OwnLegs.LegKinds.{heard_leg}
+use Rattle.law_node_traces.proofs.Vocabulary.{IsOfClient, KeepsEnds}
 
 -- ---- a byte where a head is waited for
 

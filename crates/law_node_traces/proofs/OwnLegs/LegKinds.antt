@@ -1,46 +1,22 @@
 -- of which legs each role keeps ends
-use Rattle.std.proofs.Common.{◌≡◌, ◌⊎◌, inl, inr, ℕ, length, cond, Bool, true, false, Ok, Err, refl, sym, ap, subst, ⊎_elim}
-use Rattle.std.specs.Prelude.{◌&&◌}
-use Rattle.std.specs.declared.result.Result.{Result}
-use Rattle.std.proofs.lemmas.Bool.{and_parts, or_cases}
-use Rattle.rh_line.specs.declared.cause.Cause.{Cause}
-use Rattle.rh_line.specs.declared.leg.Leg.{Leg}
-use Rattle.rh_line.specs.declared.leg.LegKind.{LegKind}
-use Rattle.rh_line.specs.declared.leg.LegKind.TheVariants.{ClientOut, OutServer, ClientIn, InServer}
-use Rattle.rh_shell.specs.declared.answers.Count.{Count}
-use Rattle.rh_shell.specs.declared.answers.HeadRefused.{HeadRefused}
-use Rattle.rh_shell.specs.declared.answers.HeadTaken.{HeadTaken}
-use Rattle.rh_shell.specs.Hearing.{Turn, behind_frame, behind_head, head_row, heading, heard, is_greeting, take_frame, touched, with_intake}
-use Rattle.rh_shell.specs.Hearing.{take as taken}
-use Rattle.rh_shell.specs.Intakes.{Came, Nothing, Head, Greeting, Frame, Fault, Over, on_byte}
-use Rattle.rh_shell.specs.NearEnds.{NearEnd}
-use Rattle.rh_shell.specs.Rules.{Rules}
-use Rattle.rh_shell.specs.Shells.{same_leg}
+use Rattle.law_order.proofs.Vocabulary.{◌≡◌, ◌⊎◌, inl, inr, ℕ, length, cond, Bool, true, false, refl, sym, ap, subst, ⊎_elim, ◌&&◌, and_parts, or_cases}
+use Rattle.rh_shell.specs.Intakes.{Over}
+use Rattle.rh_inproxy.specs.State.{InProxy, is_client_leg, is_server_leg}
 use Rattle.rh_inproxy.specs.Machine as in_proxy
 use Rattle.rh_inproxy.specs.Opening as in_opening
-use Rattle.rh_inproxy.specs.State.{InProxy, is_client_leg, is_server_leg}
-use Rattle.rh_outproxy.specs.Machine as out_proxy
-use Rattle.rh_outproxy.specs.Opening as out_opening
 use Rattle.rh_outproxy.specs.OutProxy.{OutProxy, is_client_down}
 use Rattle.rh_outproxy.specs.Rows.{co, is_co, is_os, os}
+use Rattle.rh_outproxy.specs.Machine as out_proxy
+use Rattle.rh_outproxy.specs.Opening as out_opening
 use Rattle.rh_server.specs.Opening.{may_up_by}
-use Rattle.rh_server.specs.Servers as server
 use Rattle.rh_server.specs.States.{Server}
-use Rattle.law_node_streams.proofs.Streams.Ends.{leg_is}
-use Rattle.law_node_traces.specs.OwnLegs.{IsOfInProxy, IsOfOutProxy, IsOfServer}
+use Rattle.rh_server.specs.Servers as server
+use Rattle.law_moves.proofs.Vocabulary.{Leg, LegKind, ClientOut, OutServer, ClientIn, InServer, Turn, heading, heard, is_greeting, take_frame, touched, with_intake, take as taken, Came, Nothing, Head, Greeting, Frame, Fault, on_byte, NearEnd, Rules, same_leg}
+use Rattle.law_moves.proofs.Lemmas.{head_leg, frame_leg, leg_is}
 use Rattle.law_node_traces.proofs.OwnLegs.Ends.{StaysSo}
+use Rattle.law_node_traces.proofs.Vocabulary.{IsOfInProxy, IsOfOutProxy, IsOfServer}
 
 -- ---- the leg of an end stays where a byte is heard
-
-head_leg : {S : Type 0} (end : NearEnd) (leg : Leg) (n : ℕ) (x : S × Result HeadTaken HeadRefused)
-    → (behind_head end (head_row leg n x)).end.leg ≡ end.leg
-head_leg end leg n (role, Ok t) = refl
-head_leg end leg n (role, Err why) = refl
-
-frame_leg : {S : Type 0} (end : NearEnd) (x : S × Result Count Cause)
-    → (behind_frame end x).end.leg ≡ end.leg
-frame_leg end (role, Ok next) = refl
-frame_leg end (role, Err why) = refl
 
 greeting_leg : {S : Type 0} (t : Bool) (a b : Turn S) (leg : Leg) → a.end.leg ≡ leg
     → b.end.leg ≡ leg → (cond t a b).end.leg ≡ leg

@@ -1,16 +1,7 @@
 -- what each change from a traced world keeps of the world and its history, lists of changes keep
-use Rattle.std.proofs.Common.{◌≡◌, Bool, true, List, [], ◌∷◌, refl, sym, subst}
-use Rattle.std.specs.List.{list_all}
-use Rattle.std.proofs.lemmas.Bool.{and_parts}
-use Rattle.rh_nodes.specs.Company.{Company, Rulebook}
-use Rattle.rh_nodes.specs.Giving.{Deeds}
-use Rattle.rh_nodes.specs.Opening.{Makers}
-use Rattle.rh_nodes.specs.World.{World}
-use Rattle.law_node_history.specs.Changes.{Change, MayChange, AreAllowed, changed, all_changed, Leads, WorksBy}
-use Rattle.law_node_history.specs.Histories.{History, noted, all_noted}
-use Rattle.law_node_history.specs.Carried.{IsTraced, LegsComeUpOnce}
-use Rattle.law_node_history.proofs.Leading.{cast_stays}
-use Rattle.law_node_history.proofs.Tracing.{change_is_traced}
+use Rattle.law_order.proofs.Vocabulary.{◌≡◌, Bool, true, List, [], ◌∷◌, refl, sym, subst, list_all, and_parts}
+use Rattle.law_node_history.proofs.Vocabulary.{Company, Rulebook, Deeds, Makers, World, Change, MayChange, AreAllowed, changed, all_changed, Leads, WorksBy, History, noted, all_noted, IsTraced, LegsComeUpOnce}
+use Rattle.law_node_history.proofs.Lemmas.{cast_stays, change_is_traced}
 
 all_true : (changes : List Change) → list_all (λ (change : Change). true) changes ≡ true
 all_true [] = refl

@@ -1,20 +1,10 @@
 -- lines and half steps are changes with whole cookies
-use Rattle.std.proofs.Common.{◌≡◌, true, List, [], ◌∷◌, refl}
-use Rattle.std.specs.List.{list_all}
-use Rattle.std.proofs.lemmas.Bool.{and_parts}
-use Rattle.rh_rts.specs.declared.command.Cookie.{Cookie}
-use Rattle.rh_nodes.specs.declared.half.Half.{Half}
+use Rattle.law_order.proofs.Vocabulary.{◌≡◌, true, List, [], ◌∷◌, refl, list_all, and_parts}
 use Rattle.rh_nodes.specs.declared.half.Half.TheVariants as halves
-use Rattle.rh_nodes.specs.Company.{Rulebook}
-use Rattle.rh_nodes.specs.Giving.{Deeds}
-use Rattle.rh_nodes.specs.Halves.{half}
-use Rattle.rh_nodes.specs.Opening.{Makers}
-use Rattle.rh_nodes.specs.World.{World}
-use Rattle.law_node_history.specs.Changes.{Change, RaisesAlone, Turn, IsLine, IsHalf, ByLines, is_whole, of_line, after_turn, after_turns}
-use Rattle.law_node_history.proofs.Halves.{HalfFits, MakeHalves, half_works}
-use Rattle.law_node_history.proofs.Lines.{step_by_lines}
-use Rattle.law_node_history.proofs.Working.{all_wider, quiet_work, work_of_line, works_none, works_then}
-use Rattle.law_node_traces.specs.Traced.Cookies.{AreWhole, ByChanges, has_whole_cookie, is_whole_half, is_whole_turn}
+use Rattle.law_moves.proofs.Vocabulary.{Cookie}
+use Rattle.law_node_history.proofs.Vocabulary.{Rulebook, Half, Deeds, half, Makers, World, Change, RaisesAlone, Turn, IsLine, IsHalf, ByLines, is_whole, of_line, after_turn, after_turns}
+use Rattle.law_node_history.proofs.Lemmas.{HalfFits, MakeHalves, half_works, step_by_lines, all_wider, quiet_work, work_of_line, works_none, works_then}
+use Rattle.law_node_traces.proofs.Vocabulary.{AreWhole, ByChanges, has_whole_cookie, is_whole_half, is_whole_turn}
 
 pub line_whole : (change : Change) → of_line change ≡ true → has_whole_cookie change ≡ true
 line_whole (RaisesAlone node leg end cookie) line = absurd cc

@@ -1,38 +1,11 @@
 -- what a node heard was drawn before the change by which it did
-use Rattle.std.proofs.Common.{◌≡◌, ◌≢◌, ℕ, List, [], ◌++◌, Bool, true, false, refl, sym, ap, ◌∙◌, subst, ⊎_elim}
-use mathlib.Core.List.{IsPrefix}
-use Rattle.std.proofs.lemmas.Bool.{cases_eq}
-use Rattle.std.proofs.lemmas.List.{append-nil}
-use Rattle.rh_text.specs.declared.ends.Dir.{Dir}
-use Rattle.rh_text.specs.declared.ends.Dir.TheVariants.{U}
-use Rattle.rh_text.specs.declared.ends.Side.{Side}
 use Rattle.rh_text.specs.declared.ends.Side.TheVariants as side
-use Rattle.rh_line.specs.declared.leg.Leg.{Leg}
-use Rattle.rh_line.specs.declared.leg.LegKind.{LegKind}
-use Rattle.rh_line.specs.declared.leg.LegKind.TheVariants.{ClientOut, ClientIn}
-use Rattle.rh_record.specs.declared.answer.Who.{Who}
-use Rattle.rh_record.specs.declared.answer.Who.TheVariants.{Client, Server, In, Out}
+use Rattle.law_order.proofs.Vocabulary.{◌≡◌, ◌≢◌, ℕ, List, [], ◌++◌, Bool, true, false, refl, sym, ap, ◌∙◌, subst, ⊎_elim, cases_eq, append-nil, IsPrefix}
+use Rattle.rh_wires.specs.Legs as legs
+use Rattle.law_moves.proofs.Vocabulary.{Dir, U, Side, Leg, LegKind, ClientOut, ClientIn, Rules}
 use Rattle.law_moves.specs.Moving as moving
-use Rattle.rh_shell.specs.Rules.{Rules}
-use Rattle.rh_nodes.specs.declared.place.Place.{Place}
-use Rattle.rh_nodes.specs.declared.place.Place.TheVariants.{Absent, Here, Gone}
-use Rattle.rh_nodes.specs.Company.{Company, Rulebook}
-use Rattle.rh_nodes.specs.Giving.{Deeds}
-use Rattle.rh_nodes.specs.Halves.{is_same}
-use Rattle.rh_nodes.specs.Legs as legs
-use Rattle.rh_nodes.specs.Opening.{Makers, reader_before}
-use Rattle.rh_nodes.specs.Readers.{reader_of}
-use Rattle.rh_nodes.specs.Settling.{leg_at}
-use Rattle.rh_nodes.specs.Wires.{sender, receiver}
-use Rattle.rh_nodes.specs.World.{World}
-use Rattle.law_node_history.specs.Changes.{Change, IsTold, IsFed, IsDrawn, GoesUp, RaisesAlone, OpensIn, OpensOut, OpensSame, MayChange, changed}
-use Rattle.law_node_history.specs.Histories.{History, heard, to_node, told_to, made_by, at_place, in_place, out_place, noted}
-use Rattle.law_node_history.specs.Carried.{drawn_by, heard_on, happened, events_of, end_node, IsTraced, LegsComeUpOnce}
-use Rattle.law_node_history.proofs.Appended.{heard_append, happened_more}
-use Rattle.law_node_history.proofs.HeardAll.{unheard}
-use Rattle.law_node_history.proofs.NodeTraces.{none_drawn, drawn_more, moments}
-use Rattle.law_node_history.proofs.Recordings.{heard_was_drawn, elsewhere}
-use Rattle.law_node_history.proofs.Tracing.{change_is_traced}
+use Rattle.law_node_history.proofs.Vocabulary.{Who, Client, Server, In, Out, reader_of, sender, receiver, Place, Absent, Here, Gone, Company, Rulebook, Deeds, is_same, Makers, reader_before, leg_at, World, Change, IsTold, IsFed, IsDrawn, GoesUp, RaisesAlone, OpensIn, OpensOut, OpensSame, MayChange, changed, History, heard, to_node, told_to, made_by, at_place, in_place, out_place, noted, drawn_by, heard_on, happened, events_of, end_node, IsTraced, LegsComeUpOnce}
+use Rattle.law_node_history.proofs.Lemmas.{heard_append, happened_more, unheard, none_drawn, drawn_more, moments, heard_was_drawn, elsewhere, change_is_traced}
 use Rattle.law_node_traces.proofs.Traced.InTurn.{told_unheard}
 
 -- a change that feeds a piece

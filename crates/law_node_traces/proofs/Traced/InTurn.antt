@@ -1,37 +1,16 @@
 -- each node hears pieces only on legs that came up for it before
-use Rattle.std.proofs.Common.{◌≡◌, ℕ, List, [], ◌∷◌, ◌++◌, Bool, true, false, if◌then◌else◌, refl, sym, ap, ◌∙◌, subst, append_assoc}
-use Rattle.std.proofs.lemmas.Bool.{true≢false}
-use Rattle.std.proofs.lemmas.List.{append-nil}
-use Rattle.rh_text.specs.declared.ends.Dir.{Dir}
 use Rattle.rh_text.specs.declared.ends.Side.TheVariants as side
-use Rattle.rh_line.specs.declared.leg.Leg.{Leg}
-use Rattle.rh_line.specs.declared.leg.LegKind.TheVariants.{ClientOut, ClientIn}
-use Rattle.rh_record.specs.declared.answer.Who.{Who}
-use Rattle.rh_record.specs.declared.answer.Who.TheVariants.{Client, Server, In, Out}
-use Rattle.rh_nodes.specs.declared.event.Event.{Event}
-use Rattle.rh_nodes.specs.declared.event.Event.TheVariants.{Comes, Ends, Breaks, Passes}
-use Rattle.rh_nodes.specs.declared.place.Place.{Place}
-use Rattle.rh_nodes.specs.declared.place.Place.TheVariants.{Absent, Here, Gone}
-use Rattle.rh_nodes.specs.Company.{Company, Rulebook}
-use Rattle.rh_nodes.specs.Giving.{Deeds}
-use Rattle.rh_nodes.specs.Halves.{is_same}
-use Rattle.rh_nodes.specs.Legs as legs
-use Rattle.rh_nodes.specs.Opening.{Makers, reader_before}
-use Rattle.rh_nodes.specs.Settling.{leg_at}
-use Rattle.rh_nodes.specs.Wires.{sender, receiver}
-use Rattle.rh_nodes.specs.World.{World, at}
+use Rattle.law_order.proofs.Vocabulary.{◌≡◌, ℕ, List, [], ◌∷◌, ◌++◌, Bool, true, false, if◌then◌else◌, refl, sym, ap, ◌∙◌, subst, append_assoc, true≢false, append-nil}
+use Rattle.rh_wires.specs.Legs as legs
+use Rattle.law_moves.proofs.Vocabulary.{Dir, Leg, ClientOut, ClientIn}
 use Rattle.law_moves.specs.Moving as moving
-use Rattle.law_node_history.specs.Changes.{Change, IsTold, IsFed, IsDrawn, GoesUp, RaisesAlone, OpensIn, OpensOut, OpensSame, MayChange, Leads}
-use Rattle.law_node_history.specs.Histories.{History, heard, to_node, told_to, made_by, at_place, in_place, out_place, noted, all_noted, nothing, IsNew}
-use Rattle.law_node_history.specs.Carried.{came_up, happened, events_of, IsTraced, LegsComeUpOnce}
-use Rattle.law_node_history.proofs.Appended.{happened_more}
-use Rattle.law_node_history.proofs.HeardAll.{is_hears}
-use Rattle.law_node_history.proofs.Lines.{same_who}
-use Rattle.law_node_history.proofs.Recordings.{traced_first}
+use Rattle.law_node_history.proofs.Vocabulary.{Who, Client, Server, In, Out, sender, receiver, Event, Comes, Ends, Breaks, Passes, Place, Absent, Here, Gone, Company, Rulebook, Deeds, is_same, Makers, reader_before, leg_at, World, at, Change, IsTold, IsFed, IsDrawn, GoesUp, RaisesAlone, OpensIn, OpensOut, OpensSame, MayChange, Leads, History, heard, to_node, told_to, made_by, at_place, in_place, out_place, noted, all_noted, nothing, IsNew, came_up, happened, events_of}
+use Rattle.law_node_history.proofs.Vocabulary.{IsTraced, LegsComeUpOnce}
+use Rattle.law_node_history.proofs.Lemmas.{happened_more, is_hears, same_who, traced_first}
 use Rattle.law_node_history.proofs.Wired as wired
 use Rattle.law_node_streams.specs.Streams.{HearsInTurn}
-use Rattle.law_node_traces.specs.Traced.Turns.{HearInTurn}
 use Rattle.law_node_traces.proofs.Traced.Along.{kept_along}
+use Rattle.law_node_traces.proofs.Vocabulary.{HearInTurn}
 
 -- ---- by recursion on the events
 

@@ -1,45 +1,16 @@
 -- changes that lines make have each channel read, and each leg of an in proxy with one that was
 -- made
-use Rattle.std.proofs.Common.{◌≡◌, ℕ, Bool, true, false, not, ◌&&◌, ◌||◌, IsTrue, refl, sym, ap, ◌∙◌, subst, ⊎_elim, arith}
-use Rattle.std.specs.Prelude.{◌≢◌, ◌<◌}
-use Rattle.std.proofs.lemmas.Bool.{true≢false, and_parts, or_cases, eqb-true, lt-ltb}
-use Rattle.rh_text.specs.declared.ends.Side.{Side}
-use Rattle.rh_rts.specs.declared.command.Cookie.{Cookie}
-use Rattle.rh_line.specs.declared.leg.Leg.{Leg}
-use Rattle.rh_line.specs.declared.leg.LegKind.TheVariants.{InServer}
-use Rattle.rh_record.specs.declared.answer.Who.{Who}
-use Rattle.rh_record.specs.declared.answer.Who.TheVariants.{Client, Server, In}
-use Rattle.rh_shell.specs.Shells.{same_leg}
-use Rattle.rh_nodes.specs.declared.event.Event.{Event}
-use Rattle.rh_nodes.specs.declared.event.Event.TheVariants.{Comes, Ends, Breaks, Passes}
-use Rattle.rh_nodes.specs.declared.place.Place.TheVariants.{Absent}
-use Rattle.rh_nodes.specs.Company.{Company, Rulebook}
-use Rattle.rh_nodes.specs.Giving.{Deeds}
-use Rattle.rh_nodes.specs.Halves.{is_same}
-use Rattle.rh_nodes.specs.Legs as legs
-use Rattle.rh_nodes.specs.Numbered.{ask}
-use Rattle.rh_nodes.specs.Opening.{Makers, reader_before}
-use Rattle.rh_nodes.specs.Places.{is_absent}
-use Rattle.rh_nodes.specs.Readers.{reader_of}
-use Rattle.rh_nodes.specs.Settling.{leg_at}
-use Rattle.rh_nodes.specs.Wires.{sender, receiver}
-use Rattle.rh_nodes.specs.World.{World, at}
+use Rattle.law_order.proofs.Vocabulary.{◌≡◌, ℕ, Bool, true, false, not, ◌&&◌, ◌||◌, IsTrue, refl, sym, ap, ◌∙◌, subst, ⊎_elim, arith, ◌≢◌, ◌<◌, true≢false, and_parts, or_cases, eqb-true, lt-ltb}
+use Rattle.rh_wires.specs.Legs as legs
+use Rattle.law_moves.proofs.Vocabulary.{Side, Cookie, Leg, InServer, same_leg}
 use Rattle.law_moves.specs.Moving as moving
-use Rattle.law_node_history.specs.Changes.{Change, is_led, of_line, IsTold, IsFed, IsDrawn, GoesUp, RaisesAlone, OpensIn, OpensOut, OpensSame, MayChange, changed, ByLines}
-use Rattle.law_node_history.specs.Histories.{History, heard, told_to, noted, all_noted, nothing, IsNew}
-use Rattle.law_node_history.specs.Carried.{came_up, events_of, IsTraced, LegsComeUpOnce}
-use Rattle.law_node_history.proofs.Connecting.{or_right}
-use Rattle.law_node_history.proofs.Ledgers.{here_itself}
-use Rattle.law_node_history.proofs.Lines.{same_who}
-use Rattle.law_node_history.proofs.NodeTraces.{is_comes, up_of, up_more, up_there, none_up, silent_up, may_come}
-use Rattle.law_node_history.proofs.Numbers.{asked}
-use Rattle.law_node_history.proofs.Recordings.{traced_first}
-use Rattle.law_node_history.proofs.Tracing.{change_is_traced}
-use Rattle.law_node_history.proofs.Wired.{cases_leg}
-use Rattle.law_node_traces.specs.Traced.Numbers.{is_made, AreRead, AreLed, AreJoined, ComeUpByLines}
+use Rattle.law_node_history.proofs.Vocabulary.{Who, Client, Server, In, ask, reader_of, sender, receiver, Event, Comes, Ends, Breaks, Passes, Absent, Company, Rulebook, is_absent, Deeds, is_same, Makers, reader_before, leg_at, World, at, Change, is_led, of_line, IsTold, IsFed, IsDrawn, GoesUp, RaisesAlone, OpensIn, OpensOut, OpensSame, MayChange, changed, ByLines, History, heard, told_to, noted, all_noted, nothing, IsNew, came_up, events_of, IsTraced, LegsComeUpOnce}
+use Rattle.law_node_history.proofs.Lemmas.{or_right, here_itself, same_who, is_comes, up_of, up_more, up_there, none_up, silent_up, may_come, asked, traced_first, change_is_traced, cases_leg}
 use Rattle.law_node_traces.proofs.Traced.Along.{kept_by}
 use Rattle.law_node_traces.proofs.Traced.Openings.{ci, made_stays, settled}
-use Rattle.law_node_traces.proofs.Traced.Readers.{reader_here, change_read, new_read}
+use Rattle.law_node_traces.proofs.Traced.Readers.{change_read, new_read}
+use Rattle.law_node_traces.proofs.LetGo.Standing.{reader_here}
+use Rattle.law_node_traces.proofs.Vocabulary.{is_made, AreRead, AreLed, AreJoined, ComeUpByLines}
 
 abbrev is_leg : ℕ → Leg
 is_leg n = leg_at InServer n

@@ -1,35 +1,13 @@
 -- a node that closed because a leg broke was told so
-use Rattle.std.proofs.Common.{◌≡◌, ℕ, List, [], ◌∷◌, Bool, true, false, if◌then◌else◌, Some, None, refl, sym, ap, ◌∙◌, subst, inl, inr}
-use Rattle.std.specs.declared.option.Option.{Option}
-use Rattle.std.proofs.lemmas.Bool.{true≢false}
-use Rattle.rh_rts.specs.declared.command.Cookie.{Cookie}
-use Rattle.rh_line.specs.declared.cause.Cause.{Cause}
+use Rattle.law_order.proofs.Vocabulary.{◌≡◌, ℕ, List, [], Bool, true, false, if◌then◌else◌, Some, None, refl, sym, ap, ◌∙◌, subst, Option, true≢false}
 use Rattle.rh_line.specs.declared.cause.Cause.TheVariants as cause
-use Rattle.rh_line.specs.declared.leg.Leg.{Leg}
-use Rattle.rh_line.specs.declared.leg.LegKind.{LegKind}
-use Rattle.rh_line.specs.declared.state.Verdict.{Verdict}
 use Rattle.rh_line.specs.declared.state.Verdict.TheVariants as verdict
-use Rattle.rh_shell.specs.declared.answers.Phase.{Phase}
 use Rattle.rh_shell.specs.declared.answers.Phase.TheVariants as phase
-use Rattle.rh_shell.specs.declared.course.Course.{Course}
-use Rattle.rh_shell.specs.declared.course.Course.TheVariants.{Going, Closed, Refusing}
-use Rattle.rh_shell.specs.Drawing.{draw}
-use Rattle.rh_shell.specs.NearEnds.{NearEnd, is_marked}
-use Rattle.rh_shell.specs.Rules.{Rules}
-use Rattle.rh_shell.specs.Shells.{Shell, state_by, state_of, verdict_by, with_verdict, may_up, with_leg, end_at, drawn_at, drawn_by, put_back}
-use Rattle.rh_nodes.specs.declared.event.Event.{Event}
-use Rattle.rh_nodes.specs.declared.event.Event.TheVariants.{Comes, Ends, Breaks, Passes}
-use Rattle.rh_nodes.specs.declared.place.Place.{Place}
-use Rattle.rh_nodes.specs.declared.place.Place.TheVariants.{Here}
-use Rattle.rh_nodes.specs.Settling.{leg_at}
-use Rattle.rh_nodes.specs.Telling.{cause_in, closing, told}
-use Rattle.law_moves.specs.Laws.{ClosedWith}
+use Rattle.rh_company.specs.Telling.{told}
+use Rattle.law_moves.proofs.Vocabulary.{Cookie, Cause, Leg, Verdict, Phase, Course, Going, Closed, Refusing, draw, NearEnd, is_marked, Rules, Shell, state_by, state_of, verdict_by, with_verdict, may_up, with_leg, end_at, drawn_at, drawn_by, put_back, ClosedWith, after_event, after_events}
 use Rattle.law_moves.specs.Moving as moving
-use Rattle.law_moves.specs.Moving.{after_event, after_events}
-use Rattle.law_node_history.specs.Histories.{IsRun, heard}
+use Rattle.law_node_history.proofs.Vocabulary.{Event, Comes, Ends, Breaks, Passes, cause_in, closing, heard}
 use Rattle.law_node_causes.specs.Closings.{ClosesWith}
-use Rattle.law_node_causes.specs.Refusals.{MayRefuseOn}
-use Rattle.law_node_traces.specs.Traced.Refusals.{IsAmong, HasReason}
 
 pub one_cause : (c : Course) (a b : Cause) → ClosedWith a c → ClosedWith b c → a ≡ b
 one_cause Going a b h k = absurd h
@@ -146,75 +124,3 @@ module _ {S : Type 0} (rules : Rules S)
   broke_now s going leg e h =
       let now = closes_now rules s going (cause.LegBroken leg) e h in
       sym now.is ∙ ap heard (comes_from s now.news leg now.closing)
-
-  -- the first event that closed the node, or one behind it
-  broke_here : (s : Shell S) (e : moving.Event) (events : List moving.Event) (leg : Leg)
-      → s.course ≡ Going
-      → ClosedWith (cause.LegBroken leg) (after_events rules s (e ∷ events)).course
-      → ((after_event rules s e).course ≡ Going → IsAmong (moving.Breaks leg) events)
-      → IsAmong (moving.Breaks leg) (e ∷ events)
-  broke_here s e events leg going h later = by (after_event rules s e).course refl
-    where
-      now : (first : Cause) → ClosedWith first (after_event rules s e).course
-          → IsAmong (moving.Breaks leg) (e ∷ events)
-      now first closed =
-          let same = one_cause (after_events rules s (e ∷ events)).course first
-          (cause.LegBroken leg) (kept (after_event rules s e) first events closed) h in
-          record {
-            before = [];
-            behind = events;
-            split = ap (λ x. x ∷ events) (broke_now s going leg e
-                (subst (λ x. ClosedWith x (after_event rules s e).course) same closed));
-          }
-
-      by : (c : Course) → (after_event rules s e).course ≡ c
-          → IsAmong (moving.Breaks leg) (e ∷ events)
-      by Going is =
-          let among = later is in
-          record {
-            before = e ∷ among.before;
-            behind = among.behind;
-            split = ap (λ x. e ∷ x) among.split;
-          }
-      by (Closed first) is = now first (subst (ClosedWith first) (sym is) refl)
-      by (Refusing first client rest) is = now first (subst (ClosedWith first) (sym is) refl)
-
-  pub broke : (s : Shell S) (events : List moving.Event) (leg : Leg) → s.course ≡ Going
-      → ClosedWith (cause.LegBroken leg) (after_events rules s events).course
-      → IsAmong (moving.Breaks leg) events
-  broke s [] leg going h = absurd (subst (ClosedWith (cause.LegBroken leg)) going h)
-  broke s (e ∷ events) leg going h =
-      broke_here s e events leg going h
-      (λ next. broke (after_event rules s e) events leg next h)
-
--- so a proxy has its reason
-pub has_reason : (client server : Leg) (events : List moving.Event) (course : Course)
-    → MayRefuseOn client server course
-    → (ClosedWith (cause.LegBroken server) course → IsAmong (moving.Breaks server) events)
-    → HasReason client server events course
-has_reason client server events Going may among = tt
-has_reason client server events (Closed first) may among = tt
-has_reason client server events (Refusing first leg rest) (inl request) among = inl request
-has_reason client server events (Refusing first leg rest) (inr tells) among =
-    inr (tells, among tells.cause)
-
--- and so has one that is there in a world, by the legs of its number
-pub has_reason_at : {S : Type 0} (rules : Rules S) (made first node : Shell S) (legs : ℕ)
-    (place : Place S) (client server : LegKind) (number n : ℕ) (events : List moving.Event)
-    → made ≡ first → place ≡ Here node legs → IsRun rules made events place → number ≡ n
-    → MayRefuseOn (leg_at client number) (leg_at server number)
-    (after_events rules first events).course
-    → (ClosedWith (cause.LegBroken (leg_at server number))
-    (after_events rules first events).course
-    → IsAmong (moving.Breaks (leg_at server number)) events)
-    → HasReason (leg_at client n) (leg_at server n) events node.course
-has_reason_at {S} rules made first node legs place client server number n events is there run own
-    may among =
-    let ran : node ≡ after_events rules made events =
-    subst (λ (p : Place S). IsRun rules made events p) there run in
-    subst (λ (s : Shell S). HasReason (leg_at client n) (leg_at server n) events s.course)
-    (ap (λ (s : Shell S). after_events rules s events) (sym is) ∙ sym ran)
-    (subst (λ (k : ℕ). HasReason (leg_at client k) (leg_at server k) events
-    (after_events rules first events).course) own
-    (has_reason (leg_at client number) (leg_at server number) events
-    (after_events rules first events).course may among))

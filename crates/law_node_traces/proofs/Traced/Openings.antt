@@ -1,44 +1,16 @@
 -- each change keeps where channels came up
-use Rattle.std.proofs.Common.{◌≡◌, ◌⊎◌, ℕ, ◌-◌, List, [], ◌∷◌, ◌++◌, length, Bool, true, false, not, if◌then◌else◌, refl, sym, ap, ◌∙◌, subst, inl, inr, ⊎_elim, arith}
-use Rattle.std.specs.Prelude.{◌≢◌}
-use Rattle.std.proofs.lemmas.Bool.{true≢false, cases_eq, eqb-true, eq-eqb, ne_eqb}
-use Rattle.rh_text.specs.declared.ends.Side.{Side}
 use Rattle.rh_text.specs.declared.ends.Side.TheVariants as side
-use Rattle.rh_rts.specs.declared.command.Cookie.{Cookie}
-use Rattle.rh_line.specs.declared.leg.Leg.{Leg}
-use Rattle.rh_line.specs.declared.leg.LegKind.TheVariants.{ClientIn}
-use Rattle.rh_record.specs.declared.answer.Who.{Who}
-use Rattle.rh_record.specs.declared.answer.Who.TheVariants.{Client, In}
-use Rattle.rh_shell.specs.Rules.{Rules}
-use Rattle.rh_shell.specs.Shells.{Shell}
-use Rattle.rh_nodes.specs.declared.event.Event.{Event}
-use Rattle.rh_nodes.specs.declared.event.Event.TheVariants.{Comes, Ends, Breaks, Passes}
-use Rattle.rh_nodes.specs.declared.place.Place.{Place}
-use Rattle.rh_nodes.specs.declared.place.Place.TheVariants.{Absent, Here, Gone}
-use Rattle.rh_nodes.specs.Company.{Company, Rulebook}
-use Rattle.rh_nodes.specs.Giving.{Deeds}
-use Rattle.rh_nodes.specs.Halves.{is_same}
-use Rattle.rh_nodes.specs.Legs as legs
-use Rattle.rh_nodes.specs.Opening.{Makers, at_moment, reader_before}
-use Rattle.rh_nodes.specs.Places.{is_absent}
-use Rattle.rh_nodes.specs.Readers.{reader_of, with_reader}
-use Rattle.rh_nodes.specs.Settling.{leg_at}
-use Rattle.rh_nodes.specs.Wires.{sender, receiver}
-use Rattle.rh_nodes.specs.World.{World, at}
+use Rattle.law_order.proofs.Vocabulary.{◌≡◌, ◌⊎◌, ℕ, ◌-◌, List, [], ◌∷◌, ◌++◌, length, Bool, true, false, not, if◌then◌else◌, refl, sym, ap, ◌∙◌, subst, inl, inr, ⊎_elim, arith, ◌≢◌, true≢false, cases_eq, eqb-true, eq-eqb, ne_eqb}
+use Rattle.rh_wires.specs.Legs as legs
+use Rattle.law_moves.proofs.Vocabulary.{Side, Cookie, Leg, ClientIn, Rules, Shell}
 use Rattle.law_moves.specs.Moving as moving
-use Rattle.law_node_history.specs.Changes.{Change, IsTold, IsFed, IsDrawn, GoesUp, RaisesAlone, OpensIn, OpensOut, OpensSame, Gives, Takes, Closes, MayChange, changed}
-use Rattle.law_node_history.specs.Histories.{History, heard, told_to, in_place, noted, all_noted, nothing, IsNew, IsRun}
-use Rattle.law_node_history.specs.Carried.{came_up, end_node, happened, IsTraced, LegsComeUpOnce}
-use Rattle.law_node_history.proofs.Connecting.{or_left, or_right}
-use Rattle.law_node_history.proofs.Ledgers.{here_itself}
-use Rattle.law_node_history.proofs.NodeTraces.{up_of, up_more, up_there, may_come}
-use Rattle.law_node_history.proofs.Numbers.{put_here, put_elsewhere}
-use Rattle.law_node_history.proofs.Recordings.{changes_are_traced, traced_first}
-use Rattle.law_node_history.proofs.Appended.{happened_more}
-use Rattle.law_node_traces.specs.Traced.Cookies.{ByChanges, has_whole_cookie}
-use Rattle.law_node_traces.specs.Traced.Numbers.{is_made, AreRead, AreOpened, HasWholeCookie, HaveWholeCookies, ComeUpInOrder}
+use Rattle.law_node_history.proofs.Vocabulary.{Who, Client, In, reader_of, with_reader, sender, receiver, Event, Comes, Ends, Breaks, Passes, Place, Absent, Here, Gone, Company, Rulebook, is_absent, Deeds, is_same, Makers, at_moment, reader_before, leg_at, World, at, Change, IsTold, IsFed, IsDrawn, GoesUp, RaisesAlone, OpensIn, OpensOut, OpensSame, Gives, Takes, Closes, MayChange, changed, History, heard, told_to, in_place, noted, all_noted, nothing, IsNew, IsRun, came_up}
+use Rattle.law_node_history.proofs.Vocabulary.{end_node, happened, IsTraced, LegsComeUpOnce}
+use Rattle.law_node_history.proofs.Lemmas.{or_left, or_right, here_itself, up_of, up_more, up_there, may_come, put_here, put_elsewhere, changes_are_traced, traced_first, happened_more}
 use Rattle.law_node_traces.proofs.Traced.Along.{kept_by}
-use Rattle.law_node_traces.proofs.Traced.Readers.{reader_here, reader_elsewhere, same_made, unread_at, change_read, new_read}
+use Rattle.law_node_traces.proofs.Traced.Readers.{same_made, unread_at, change_read, new_read}
+use Rattle.law_node_traces.proofs.LetGo.Standing.{reader_here, reader_elsewhere}
+use Rattle.law_node_traces.proofs.Vocabulary.{ByChanges, has_whole_cookie, is_made, AreRead, AreOpened, HasWholeCookie, HaveWholeCookies, ComeUpInOrder}
 
 abbrev pub ci : ℕ → Leg
 ci n = leg_at ClientIn n

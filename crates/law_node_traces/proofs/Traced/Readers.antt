@@ -1,49 +1,19 @@
 -- every change keeps the numbers of in proxies and of the channels that they read
-use Rattle.std.proofs.Common.{◌≡◌, ℕ, ◌-◌, ◌≤◌, List, Bool, true, false, not, if◌then◌else◌, IsTrue, get_or, refl, sym, ap, ◌∙◌, subst, ◌⊎◌, inl, inr, ⊎_elim, arith}
-use Rattle.std.specs.Prelude.{◌<◌, ◌≢◌, ◌||◌, nat_lt}
-use Rattle.std.proofs.lemmas.Bool.{true≢false, cases_eq, ltb-true, eq-eqb, ne_eqb}
 use Rattle.rh_text.specs.declared.ends.Side.TheVariants as side
-use Rattle.rh_rts.specs.declared.command.Cookie.{Cookie}
-use Rattle.rh_line.specs.declared.leg.LegKind.TheVariants.{ClientIn}
-use Rattle.rh_record.specs.declared.answer.Who.TheVariants.{Client, Server, In, Out}
-use Rattle.rh_shell.specs.Rules.{Rules}
-use Rattle.rh_nodes.specs.declared.event.Event.TheVariants.{Comes}
-use Rattle.rh_nodes.specs.declared.place.Place.{Place}
-use Rattle.rh_nodes.specs.declared.place.Place.TheVariants.{Absent, Here, Gone}
-use Rattle.rh_nodes.specs.Company as company
-use Rattle.rh_nodes.specs.Company.{Company, Rulebook}
-use Rattle.rh_nodes.specs.Giving.{Deeds}
-use Rattle.rh_nodes.specs.Legs as legs
-use Rattle.rh_nodes.specs.Numbered.{change, put_at}
-use Rattle.rh_nodes.specs.Opening.{Makers, at_moment, reader_before}
-use Rattle.rh_nodes.specs.Places as places
-use Rattle.rh_nodes.specs.Places.{is_absent, is_working, one_fewer}
-use Rattle.rh_nodes.specs.Readers.{reader_of, with_reader}
-use Rattle.rh_nodes.specs.Settling.{leg_at}
-use Rattle.rh_nodes.specs.Wires.{sender, receiver}
-use Rattle.rh_nodes.specs.World.{World, at}
+use Rattle.law_order.proofs.Vocabulary.{◌≡◌, ℕ, ◌-◌, ◌≤◌, List, Bool, true, false, not, if◌then◌else◌, IsTrue, get_or, refl, sym, ap, ◌∙◌, subst, ◌⊎◌, inl, inr, ⊎_elim, arith, ◌<◌, ◌≢◌, ◌||◌, nat_lt, true≢false, cases_eq, ltb-true, eq-eqb, ne_eqb}
+use Rattle.rh_wires.specs.Legs as legs
+use Rattle.rh_company.specs.Company as company
+use Rattle.rh_company.specs.Places as places
+use Rattle.law_moves.proofs.Vocabulary.{Cookie, ClientIn, Rules}
 use Rattle.law_moves.specs.Moving as moving
-use Rattle.law_node_history.specs.Changes.{Change, may_have, IsTold, IsFed, IsDrawn, GoesUp, RaisesAlone, GoesDown, OpensIn, OpensOut, OpensSame, Gives, Takes, Closes, RecyclesIn, RecyclesOut, MovesTo, Draws, Reports, MayChange, changed, Leads}
-use Rattle.law_node_history.specs.Histories.{History, in_place, nothing, IsNew}
-use Rattle.law_node_history.specs.Carried.{came_up, events_of, IsTraced, LegsComeUpOnce}
-use Rattle.law_node_history.proofs.NodeTraces.{may_come, never_up}
-use Rattle.law_node_history.proofs.Numbers.{asked, put_here, put_elsewhere, changed_here, changes_elsewhere}
-use Rattle.law_node_history.proofs.Recordings.{traced_first}
-use Rattle.law_node_history.proofs.Runs.{Runs, tell_meets, draw_meets, up_meets}
-use Rattle.law_node_traces.specs.Traced.Numbers.{is_made, IsRead, AreRead}
+use Rattle.law_node_history.proofs.Vocabulary.{Client, Server, In, Out, change, put_at, reader_of, with_reader, sender, receiver, Comes, Place, Absent, Here, Gone, Company, Rulebook, is_absent, is_working, one_fewer, Deeds, Makers, at_moment, reader_before, leg_at, World, at, Change, may_have, IsTold, IsFed, IsDrawn, GoesUp, RaisesAlone, GoesDown, OpensIn, OpensOut, OpensSame, Gives, Takes, Closes, RecyclesIn, RecyclesOut, MovesTo, Draws, Reports, MayChange, changed, Leads}
+use Rattle.law_node_history.proofs.Vocabulary.{History, in_place, nothing, IsNew, came_up, events_of, IsTraced, LegsComeUpOnce}
+use Rattle.law_node_history.proofs.Lemmas.{may_come, never_up, put_here, put_elsewhere, changed_here, changes_elsewhere, traced_first, Runs, tell_meets, draw_meets, up_meets}
 use Rattle.law_node_traces.proofs.Traced.Along.{kept_along}
+use Rattle.law_node_traces.proofs.LetGo.Standing.{reader_elsewhere, reader_here}
+use Rattle.law_node_traces.proofs.Vocabulary.{is_made, IsRead, AreRead}
 
 -- ---- readers
-
-pub reader_here : (readers : List ℕ) (k b : ℕ) → reader_of (with_reader readers k b) k ≡ b
-reader_here readers k b =
-    asked 0 (λ n. n) (with_reader readers k b) k ∙ put_here 0 readers k b
-
-pub reader_elsewhere : (readers : List ℕ) (k b n : ℕ) → n ≢ k
-    → reader_of (with_reader readers k b) n ≡ reader_of readers n
-reader_elsewhere readers k b n other =
-    asked 0 (λ n. n) (with_reader readers k b) n ∙ put_elsewhere 0 readers k n b other
-    ∙ sym (asked 0 (λ n. n) readers n)
 
 -- the same readers, and the same proxies that were made
 same_read : (readers : List ℕ) (made later : ℕ → Bool) → ((n : ℕ) → later n ≡ made n)

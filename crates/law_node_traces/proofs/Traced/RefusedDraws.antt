@@ -1,43 +1,17 @@
 -- what a node draws while it goes on, and behind that of a refusal
-use Rattle.std.proofs.Common.{◌≡◌, ◌⊎◌, ℕ, ◌-◌, List, [], ◌∷◌, ◌++◌, length, take, drop, Bool, true, false, if◌then◌else◌, Some, None, arith, refl, sym, ap, ◌∙◌, subst, inl, inr, ⊎_elim, append_assoc}
-use Rattle.std.specs.Prelude.{◌&&◌, nat_le}
-use Rattle.std.specs.declared.option.Option.{Option}
-use mathlib.Core.List.{IsPrefix}
-use Rattle.std.proofs.lemmas.Bool.{true≢false}
-use Rattle.std.proofs.lemmas.List.{take-append-drop, length-drop}
-use Rattle.rh_http.specs.declared.fault.HttpFault.{HttpFault}
+use Rattle.law_order.proofs.Vocabulary.{◌≡◌, ◌⊎◌, ℕ, ◌-◌, List, [], ◌∷◌, ◌++◌, length, take, drop, Bool, true, false, if◌then◌else◌, Some, None, arith, refl, sym, ap, ◌∙◌, subst, inl, inr, ⊎_elim, append_assoc, ◌&&◌, nat_le, Option, true≢false, take-append-drop, length-drop, IsPrefix}
 use Rattle.rh_http.specs.declared.fault.HttpFault.TheVariants as faults
-use Rattle.rh_http.specs.declared.refusal.Refusal.{Refusal}
-use Rattle.rh_http.specs.declared.refusal.Refusal.TheVariants.{Bad, Missing, Unavailable}
-use Rattle.rh_http.specs.Refusals.{refusal_of}
-use Rattle.rh_http.specs.Texts.{refusal_text}
-use Rattle.rh_line.specs.declared.cause.Cause.{Cause}
 use Rattle.rh_line.specs.declared.cause.Cause.TheVariants as cause
-use Rattle.rh_line.specs.declared.leg.Leg.{Leg}
-use Rattle.rh_line.specs.declared.leg.LegKind.{LegKind}
-use Rattle.rh_shell.specs.declared.course.Course.{Course}
-use Rattle.rh_shell.specs.declared.course.Course.TheVariants.{Going, Closed, Refusing}
-use Rattle.rh_shell.specs.declared.stop.Stop.{Stop}
-use Rattle.rh_shell.specs.Hearing.{goes, hear}
+use Rattle.law_moves.proofs.Vocabulary.{prefix_behind, HttpFault, Refusal, Bad, Missing, Unavailable, refusal_of, refusal_text, Cause, Leg, LegKind, Course, Going, Closed, Refusing, Stop, goes, hear, NearEnd, is_ended, is_finished, marked, Rules, Shell, same_leg, state_by, is_working, has_room, wants, with_leg, with_end, end_at, stopped, bytes_at, bytes_by, lost, ended_at, ended_by, is_heard, unreached_by, unreached, broken_at, broken_by, drawn_by, passed, passed_by}
+use Rattle.law_moves.proofs.Vocabulary.{first_silent, close, stop_by, refuse, is_going, is_working_by, after_event, after_events, ClosedWith}
 use Rattle.law_moves.specs.Moving as moving
-use Rattle.law_moves.specs.Moving.{after_event, after_events}
-use Rattle.rh_shell.specs.NearEnds.{NearEnd, is_ended, is_finished, marked}
-use Rattle.rh_shell.specs.Rules.{Rules}
-use Rattle.rh_shell.specs.Shells.{Shell, same_leg, state_by, is_working, has_room, wants, with_leg, with_end, end_at, stopped, bytes_at, bytes_by, lost, ended_at, ended_by, is_heard, unreached_by, unreached, broken_at, broken_by, drawn_by, passed, passed_by, first_silent, close, stop_by, refuse}
-use Rattle.rh_nodes.specs.Settling.{leg_at}
-use Rattle.law_node_history.specs.Carried.{drawn_in, drawn_on}
-use Rattle.law_node_history.proofs.Wired.{cases_leg, same_itself}
-use Rattle.rh_nodes.specs.declared.event.Event.{Event}
-use Rattle.law_node_history.proofs.NodeTraces.{is_draws, draws_none}
-use Rattle.law_order.proofs.Prefixes.{prefix_behind}
+use Rattle.law_node_history.proofs.Vocabulary.{Event, Breaks, leg_at, drawn_in, drawn_on}
+use Rattle.law_node_history.proofs.Lemmas.{cases_leg, same_itself, is_draws, events_append}
+use Rattle.law_node_history.proofs.NodeTraces.{draws_none}
 use Rattle.law_node_causes.specs.Closings.{ClosesWith}
-use Rattle.law_moves.specs.Laws.{ClosedWith}
-use Rattle.rh_shell.specs.Shells.{is_going, is_working_by}
-use Rattle.rh_nodes.specs.declared.event.Event.TheVariants.{Breaks}
-use Rattle.law_node_history.proofs.Runs.{events_append}
 use Rattle.law_node_causes.specs.Refusals.{MayRefuse, MayRefuseOn}
-use Rattle.law_node_traces.specs.Traced.Refusals.{DrawsGoing, DrawsRefusal, DrawsRightly}
 use Rattle.law_node_traces.proofs.Traced.LostLegs.{goes_on, broke_now}
+use Rattle.law_node_traces.proofs.Vocabulary.{DrawsGoing, DrawsRefusal, DrawsRightly}
 
 -- ---- refusals
 

@@ -1,26 +1,17 @@
 -- each role knows which legs were up
-use Rattle.std.proofs.Common.{◌≡◌, ℕ, List, [], true, ◌&&◌, refl}
-use Rattle.std.proofs.lemmas.Bool.{false≢true, and_parts}
-use Rattle.rh_rts.specs.declared.command.Cookie.{Cookie}
-use Rattle.rh_line.specs.declared.leg.Leg.{Leg}
-use Rattle.rh_line.specs.declared.leg.LegKind.{LegKind}
-use Rattle.rh_line.specs.declared.leg.LegKind.TheVariants.{ClientOut, OutServer, ClientIn, InServer}
-use Rattle.rh_shell.specs.Rules.{Rules, Acts}
-use Rattle.rh_shell.specs.Shells.{Shell, has_room, is_working, may_up}
+use Rattle.law_order.proofs.Vocabulary.{◌≡◌, ℕ, List, [], true, ◌&&◌, refl, false≢true, and_parts}
 use Rattle.rh_inproxy.specs.State.{InProxy}
 use Rattle.rh_inproxy.specs.Opening as ins
-use Rattle.rh_outproxy.specs.OutProxy.{OutProxy}
-use Rattle.rh_outproxy.specs.Opening as outs
+use Rattle.rh_outproxy.specs.OutProxy.{OutProxy, is_client_down}
 use Rattle.rh_outproxy.specs.Rows.{is_co}
-use Rattle.rh_outproxy.specs.OutProxy.{is_client_down}
+use Rattle.rh_outproxy.specs.Opening as outs
 use Rattle.rh_client.specs.declared.state.ClientRole.{ClientRole}
-use Rattle.rh_client.specs.Client as client
 use Rattle.rh_client.specs.Opening.{wants_by}
+use Rattle.rh_client.specs.Client as client
+use Rattle.law_moves.proofs.Vocabulary.{Cookie, Leg, LegKind, ClientOut, OutServer, ClientIn, InServer, Rules, Acts, Shell, has_room, is_working, may_up, EndEvent, after_event, after_events, after_end_events}
 use Rattle.law_moves.specs.Moving as moving
-use Rattle.law_moves.specs.Moving.{EndEvent, after_event, after_events, after_end_events}
-use Rattle.law_node_history.specs.Carried.{ComesUpOnce, ComesUpOnceAtEnd, is_of_client}
-use Rattle.law_node_history.proofs.Connecting.{or_left}
-use Rattle.law_node_history.proofs.Once.{once_remembered, once_remembered_at_end}
+use Rattle.law_node_history.proofs.Lemmas.{or_left, once_remembered, once_remembered_at_end}
+use Rattle.law_node_history.proofs.Vocabulary.{ComesUpOnce, ComesUpOnceAtEnd, is_of_client}
 use Rattle.law_node_causes.specs.Once.{WasUp}
 
 module _ {S : Type 0} (rules : Rules S) (first : Shell S)

@@ -1,9 +1,9 @@
 -- changes and turns whose cookies have 16 bytes, as each cookie of its type has (MS-RPCH 2.2.3.1)
 use Rattle.std.specs.Prelude.{◌≡◌, List, Bool, true}
 use Rattle.std.specs.List.{list_all}
+use Rattle.rh_company.specs.Company.{Rulebook}
 use Rattle.rh_nodes.specs.declared.half.Half.{Half}
 use Rattle.rh_nodes.specs.declared.half.Half.TheVariants.{Up}
-use Rattle.rh_nodes.specs.Company.{Rulebook}
 use Rattle.rh_nodes.specs.Giving.{Deeds}
 use Rattle.rh_nodes.specs.Opening.{Makers}
 use Rattle.rh_nodes.specs.World.{World}

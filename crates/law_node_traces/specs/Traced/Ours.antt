@@ -13,7 +13,7 @@ use Rattle.rh_client.specs.declared.state.ClientRole.{ClientRole}
 use Rattle.rh_client.specs.Client as client
 use Rattle.rh_server.specs.States.{Server}
 use Rattle.rh_server.specs.Servers as server
-use Rattle.rh_nodes.specs.Company.{Company, Rulebook, rules_of}
+use Rattle.rh_company.specs.Company.{Company, Rulebook, rules_of}
 use Rattle.rh_nodes.specs.Giving.{Deeds, deeds_of}
 use Rattle.rh_nodes.specs.Opening.{Makers}
 

@@ -8,28 +8,11 @@ use Rattle.rh_http.specs.Texts.{refusal_text}
 use Rattle.rh_line.specs.declared.cause.Cause.{Cause}
 use Rattle.rh_line.specs.declared.cause.Cause.TheVariants as cause
 use Rattle.rh_line.specs.declared.leg.Leg.{Leg}
-use Rattle.rh_shell.specs.declared.course.Course.{Course}
-use Rattle.rh_shell.specs.declared.course.Course.TheVariants.{Going, Closed, Refusing}
+use Rattle.rh_shell.specs.declared.course.Course.TheVariants.{Going, Refusing}
 use Rattle.law_moves.specs.Moving.{Event, Breaks, after_event, after_events}
 use Rattle.rh_shell.specs.Rules.{Rules}
 use Rattle.rh_shell.specs.Shells.{Shell}
 use Rattle.law_node_history.specs.Carried.{drawn_on}
-use Rattle.law_node_causes.specs.Refusals.{RefusesClient, TellsClient}
-
--- one of the events
-pub record IsAmong (event : Event) (events : List Event) : Type 0 where
-  pub before : List Event
-  pub behind : List Event
-  pub split : events ≡ before ++ event ∷ behind
-
--- a proxy that has these legs refuses its client: a request of that client broke a rule; or the
--- proxy was told that its leg to the server broke, and says so by a head of status 503
-abbrev pub HasReason : Leg → Leg → List Event → Course → Type 0
-HasReason client server events Going = Unit {0}
-HasReason client server events (Closed why) = Unit {0}
-HasReason client server events (Refusing why leg rest) =
-    RefusesClient client why leg rest
-    ⊎ (TellsClient client server why leg rest × IsAmong (Breaks server) events)
 
 -- ---- what is drawn on a leg
 

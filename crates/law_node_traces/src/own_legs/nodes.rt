@@ -15,7 +15,7 @@ ghost use Rattle.rh_outproxy.specs.OutProxy.{new_proxy};
 ghost use Rattle.rh_outproxy.specs.Machine as out_proxy;
 ghost use Rattle.rh_client.specs.Client as client;
 ghost use Rattle.rh_server.specs.Servers as server;
-ghost use Rattle.rh_nodes.specs.declared.event.Event as told;
+ghost use Rattle.rh_company.specs.declared.event.Event as told;
 ghost use Rattle.law_moves.specs.Moving.{EndEvent, Event, after_end_events, after_events};
 ghost use Rattle.law_node_causes.specs.Closings.{ClosesWith};
 ghost use Rattle.law_node_traces.specs.OwnLegs.{IsAmissOn, IsOfClient, IsOfInProxy, IsOfOutProxy};

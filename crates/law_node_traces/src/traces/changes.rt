@@ -1,8 +1,8 @@
 //! Lines and half steps as changes. The function does nothing: its contract is the law.
 
 ghost use Rattle.std.specs.Prelude.{◌≡◌, List, true};
+ghost use Rattle.rh_company.specs.Company.{Rulebook};
 ghost use Rattle.rh_nodes.specs.declared.half.Half.{Half};
-ghost use Rattle.rh_nodes.specs.Company.{Rulebook};
 ghost use Rattle.rh_nodes.specs.Giving.{Deeds};
 ghost use Rattle.rh_nodes.specs.Halves.{half};
 ghost use Rattle.rh_nodes.specs.Opening.{Makers};

@@ -3,10 +3,10 @@
 ghost use Rattle.std.specs.Prelude.{◌≡◌, ◌≢◌, ℕ, true};
 ghost use Rattle.rh_line.specs.declared.leg.LegKind.TheVariants.{ClientIn};
 ghost use Rattle.rh_record.specs.declared.answer.Who.TheVariants.{Client};
-ghost use Rattle.rh_nodes.specs.Company.{Company, Rulebook};
+ghost use Rattle.rh_wires.specs.Readers.{reader_of};
+ghost use Rattle.rh_company.specs.Company.{Company, Rulebook};
 ghost use Rattle.rh_nodes.specs.Giving.{Deeds};
 ghost use Rattle.rh_nodes.specs.Opening.{Makers};
-ghost use Rattle.rh_nodes.specs.Readers.{reader_of};
 ghost use Rattle.rh_nodes.specs.Settling.{leg_at};
 ghost use Rattle.rh_nodes.specs.World.{World};
 ghost use Rattle.law_node_history.specs.Carried.{IsTraced, LegsComeUpOnce, came_up, events_of};

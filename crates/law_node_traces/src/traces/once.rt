@@ -5,7 +5,7 @@ ghost use Rattle.rh_inproxy.specs.State.{InProxy};
 ghost use Rattle.rh_outproxy.specs.OutProxy.{OutProxy};
 ghost use Rattle.rh_client.specs.declared.state.ClientRole.{ClientRole};
 ghost use Rattle.rh_server.specs.States.{Server};
-ghost use Rattle.rh_nodes.specs.Company.{Company};
+ghost use Rattle.rh_company.specs.Company.{Company};
 ghost use Rattle.rh_nodes.specs.Opening.{Makers};
 ghost use Rattle.law_node_history.specs.Carried.{LegsComeUpOnce};
 ghost use Rattle.law_node_traces.specs.Traced.Ours.{AreOurs, deeds, rules};

@@ -1,13 +1,12 @@
 //! What each node hears, in its turn. These functions do nothing: their contracts are the laws.
 
-ghost use Rattle.std.specs.Prelude.{List};
 ghost use mathlib.Core.List.{IsPrefix};
 ghost use Rattle.rh_text.specs.declared.ends.Dir.{Dir};
 ghost use Rattle.rh_line.specs.declared.leg.Leg.{Leg};
-ghost use Rattle.rh_nodes.specs.Company.{Company, Rulebook};
+ghost use Rattle.rh_wires.specs.Wires.{receiver, sender};
+ghost use Rattle.rh_company.specs.Company.{Company, Rulebook};
 ghost use Rattle.rh_nodes.specs.Giving.{Deeds};
 ghost use Rattle.rh_nodes.specs.Opening.{Makers};
-ghost use Rattle.rh_nodes.specs.Wires.{receiver, sender};
 ghost use Rattle.rh_nodes.specs.World.{World};
 ghost use Rattle.law_node_history.specs.Carried.{IsTraced, LegsComeUpOnce};
 ghost use Rattle.law_node_history.specs.Carried.{drawn_by, end_node, events_of, heard_on};

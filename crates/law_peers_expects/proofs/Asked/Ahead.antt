@@ -1,15 +1,7 @@
 -- what may be next of what a client puts on the leg of an OUT channel
-use Rattle.std.proofs.Common.{◌≡◌, ◌⊎◌, inl, inr, ℕ, zero, suc, List, [], ◌∷◌, ◌++◌, refl, ap, ◌∙◌, subst}
-use mathlib.Core.List.{IsPrefix}
-use Rattle.rh_rts.specs.declared.command.Cookie.{Cookie}
-use Rattle.rh_http.specs.declared.config.ClientConfig.{ClientConfig}
-use Rattle.rh_http.specs.Texts.{out_request}
-use Rattle.rh_sig.specs.declared.named.Named.{Named}
-use Rattle.rh_sig.specs.declared.named.Named.TheVariants.{ConnA1, OutR1A3, OutR2C1}
-use Rattle.rh_line.specs.declared.leg.Leg.{Leg}
-use Rattle.rh_shell.specs.Rules.{Message, Text, Pdu, Packet}
+use Rattle.law_order.proofs.Vocabulary.{◌≡◌, ◌⊎◌, inl, inr, ℕ, zero, suc, List, [], ◌∷◌, ◌++◌, refl, ap, ◌∙◌, subst, IsPrefix}
+use Rattle.law_moves.proofs.Vocabulary.{Cookie, Named, ConnA1, OutR1A3, OutR2C1, ClientConfig, out_request, Leg, Message, Text, Pdu, Packet, all_read_of}
 use Rattle.law_role_client_rows.specs.Putting.{Begins, IsChannel, OutRest, out_length, out_way}
-use Rattle.law_moves.specs.ReadBack.Reading.{all_read_of}
 
 -- ---- the next of a short list
 

@@ -1,11 +1,8 @@
 -- the answer to an echo request is no response of success alone
-use Rattle.std.proofs.Common.{◌≡◌, ℕ, ◌+◌, ◌<◌, List, [], ◌∷◌, length, length-append, take, true, true≢false, arith, refl, sym, ap, ◌∙◌}
-use Rattle.std.proofs.Math.Seq.{take-append_seam}
-use Rattle.rh_http.specs.Texts.{response_text, echo_length}
-use Rattle.rh_shell.specs.Intakes.{ends_head, is_whole_head}
-use Rattle.rh_shell.specs.Rules.{Message, Text}
-use Rattle.rh_outproxy.specs.Putting.{echo_packet, echo_text}
-use Rattle.law_moves.specs.ReadBack.Reading.{IsWholeText}
+use Rattle.std.proofs.Common.{length-append}
+use Rattle.law_order.proofs.Vocabulary.{◌≡◌, ℕ, ◌+◌, ◌<◌, List, [], ◌∷◌, length, take, true, true≢false, arith, refl, sym, ap, ◌∙◌, take-append_seam}
+use Rattle.law_moves.proofs.Vocabulary.{response_text, echo_length, ends_head, is_whole_head, Message, Text, IsWholeText}
+use Rattle.law_role_outproxy.proofs.Vocabulary.{echo_packet, echo_text}
 
 abbrev pub IsNoEcho : Message → Type 0
 IsNoEcho m = m ≡ Text echo_text → ⊥

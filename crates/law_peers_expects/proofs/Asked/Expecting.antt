@@ -1,31 +1,13 @@
 -- what comes next to an out proxy from its client is no reason to refuse it
-use Rattle.std.proofs.Common.{◌≡◌, ◌⊎◌, inl, inr, ℕ, suc, ◌≤◌, true, false, true≢false, List, [], None, Err, sym, ap, ◌∙◌, subst, arith}
-use Rattle.rh_rts.specs.declared.command.Cookie.{Cookie}
-use Rattle.rh_sig.specs.declared.named.Named.{Named}
-use Rattle.rh_sig.specs.declared.named.Named.TheVariants.{ConnA1, OutR1A3, OutR2C1}
-use Rattle.rh_http.specs.declared.config.ClientConfig.{ClientConfig}
-use Rattle.rh_line.specs.declared.leg.Leg.{Leg}
-use Rattle.rh_shell.specs.declared.answers.Count.{Count}
-use Rattle.rh_shell.specs.declared.answers.Refused.{Refused}
+use Rattle.law_order.proofs.Vocabulary.{◌≡◌, ◌⊎◌, inl, inr, ℕ, suc, ◌≤◌, true, false, true≢false, List, [], None, Err, sym, ap, ◌∙◌, subst, arith}
 use Rattle.rh_shell.specs.declared.answers.Refused.TheVariants as refused
-use Rattle.rh_shell.specs.Rules.{Message, Pdu, Packet}
-use Rattle.rh_outproxy.specs.declared.state.OutProxyConfig.{OutProxyConfig}
-use Rattle.rh_outproxy.specs.Machine.{rules as out_rules}
-use Rattle.rh_outproxy.specs.Opening.{told_length}
-use Rattle.rh_outproxy.specs.OutProxy.{OutProxy, new_proxy}
-use Rattle.law_moves.specs.Moves.{Move, Passage, all_moved, started}
-use Rattle.law_moves.specs.Passages.Counted.{Tells, packets}
-use Rattle.law_moves.specs.Passages.Passing.{count_of}
-use Rattle.law_moves.specs.PacketKinds.{is_out_r1_a3}
-use Rattle.law_moves.specs.ReadBack.Reading.{all_read_of}
-use Rattle.law_moves.specs.Turns.{AreInTurn}
-use Rattle.law_role_outproxy.specs.Counted.{co_leg}
-use Rattle.law_role_outproxy.specs.Refusing.{RefusesFor, UnexpectedFromClient, from_client, last_asked}
+use Rattle.law_moves.proofs.Vocabulary.{Cookie, Named, ConnA1, OutR1A3, OutR2C1, ClientConfig, Leg, Count, Refused, Message, Pdu, Packet, Move, Passage, all_moved, started, Tells, packets, count_of, is_out_r1_a3, all_read_of, AreInTurn}
+use Rattle.law_role_outproxy.proofs.Vocabulary.{OutProxyConfig, rules as out_rules, told_length, OutProxy, new_proxy, co_leg, RefusesFor, UnexpectedFromClient, from_client, last_asked}
 use Rattle.law_role_client_rows.specs.Putting.{IsChannel, out_length, out_way}
 use Rattle.law_peers_moments.specs.Expecting.{Expects, IsAhead, IsAmiss}
-use Rattle.law_peers_expects.specs.Asked.Requests.{HasAsked}
 use Rattle.law_peers_expects.proofs.Asked.Ahead.{IsNewNext, IsNext, IsSecondNext, IsSuccessorNext, channel_next}
 use Rattle.law_peers_expects.proofs.Asked.Requests.{told_own}
+use Rattle.law_peers_expects.specs.Asked.Requests.{HasAsked}
 
 module _ (config : OutProxyConfig) (moves : List Move)
     (turn : AreInTurn out_rules (new_proxy config) moves) where

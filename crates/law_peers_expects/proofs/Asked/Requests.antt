@@ -1,34 +1,14 @@
 -- where each head that came is the client's request, an out proxy was told the length of its
 -- channel
-use Rattle.std.proofs.Common.{◌≡◌, ℕ, zero, suc, true, false, List, [], ◌∷◌, Some, None, is_some, Ok, Err, refl, sym, ap, ◌∙◌, subst, arith, rules}
-use Rattle.std.proofs.lemmas.Bool.{eq-eqb}
-use Rattle.std.specs.List.{AllByRecursion}
-use Rattle.std.specs.Prelude.{nat_le, IfSome}
-use Rattle.std.specs.declared.option.Option.{Option}
-use Rattle.std.specs.declared.result.Result.{Result}
-use Rattle.law_order.proofs.ByNumber.{by_test}
-use Rattle.rh_http.specs.declared.fault.HttpFault.{HttpFault}
-use Rattle.rh_http.specs.Lengths.{greatest_echo}
-use Rattle.rh_http.specs.Heads.Verdicts.{Asked, request_verdict}
-use Rattle.rh_line.specs.declared.leg.Leg.{Leg}
-use Rattle.rh_shell.specs.Rules.{Message, Pdu, Packet}
-use Rattle.rh_shell.specs.Shells.{same_leg}
-use Rattle.rh_outproxy.specs.declared.state.OutProxyConfig.{OutProxyConfig}
-use Rattle.rh_outproxy.specs.OutProxy.{OutProxy, new_proxy}
-use Rattle.rh_outproxy.specs.Rows.{Done}
-use Rattle.rh_outproxy.specs.Opening.{head, told_length}
-use Rattle.rh_outproxy.specs.Putting.{Pick}
-use Rattle.rh_outproxy.specs.Putting.{put as put_of}
-use Rattle.rh_outproxy.specs.Machine.{pdu, packet}
-use Rattle.rh_outproxy.specs.Machine.{rules as proxy_rules}
-use Rattle.law_moves.specs.Moves.{Move, Up, HeadCame, PduCame, PacketCame, Puts, IsDrawn, Marks, Pings, Passage, started, moved, all_moved, taken_by, put_by}
-use Rattle.law_moves.specs.Turns.{Stages, none_up, stages_after, AreInTurn, AreInTurnFrom, IsInTurn}
-use Rattle.law_role_outproxy.specs.Counted.{co_leg}
-use Rattle.law_role_outproxy.specs.Refusing.{asked_after, asked_by, last_asked}
+use Rattle.law_order.proofs.Vocabulary.{◌≡◌, ℕ, zero, suc, true, false, List, [], ◌∷◌, Some, None, is_some, Ok, Err, refl, sym, ap, ◌∙◌, subst, arith, eq-eqb, AllByRecursion, nat_le, IfSome, Option, Result}
+use Rattle.law_moves.proofs.Vocabulary.{by_test, HttpFault, greatest_echo, Asked, request_verdict, Leg, Message, same_leg, Move, Up, HeadCame, PduCame, PacketCame, Puts, IsDrawn, Marks, Pings, Passage, started, moved, all_moved, taken_by, put_by, Stages, none_up, stages_after, AreInTurn, AreInTurnFrom, IsInTurn}
+use Rattle.law_moves.proofs.Lemmas.{itself}
+use Rattle.law_role_outproxy.proofs.Vocabulary.{OutProxyConfig, OutProxy, new_proxy, Done, told_length, Pick, rules as proxy_rules, co_leg, asked_after, asked_by, last_asked}
+use Rattle.law_role_outproxy.proofs.Refusing.Law.{moves_ask}
 use Rattle.law_role_client_rows.specs.Putting.{out_length}
+use Rattle.law_peers_expects.proofs.Asked.Standing.{Core, Seen, seen, IsQuiet, Stands, move_stands, starts}
 use Rattle.law_peers_expects.specs.Asked.Asking.{AsksNoEcho}
 use Rattle.law_peers_expects.specs.Asked.Requests.{AsksFor, IsRequest}
-use Rattle.law_peers_expects.proofs.Asked.Standing.{Core, Seen, seen, IsQuiet, itself, same_up, same_drawn, same_mark, same_packet, same_pdu, same_put, Stands, move_stands, starts}
 
 -- ---- no such request is one for an echo
 
@@ -58,10 +38,6 @@ ask_no_echo n (move ∷ moves) all = (asks_no_echo n move all.0, ask_no_echo n m
 
 -- ---- the request of the role is the last that its moves asked for
 
-head_asks : (s : OutProxy) (leg : Leg) (text : List ℕ)
-    → (head s leg text).0.request ≡ asked_after s.request (HeadCame leg text)
-head_asks s leg text = search rules
-
 by_row : (p : Passage OutProxy) (leg : Leg) (m : Message) (x : Done) → seen x.0 ≡ seen p.role
     → (taken_by p leg m x).role.request ≡ p.role.request
 by_row p leg m (t, Ok taken) same = ap (λ (k : Seen). k.request) same
@@ -71,26 +47,6 @@ by_put : (p : Passage OutProxy) (leg : Leg) (pick : Pick) → IsQuiet p.role pic
     → (put_by p leg pick).role.request ≡ p.role.request
 by_put p leg None same = refl
 by_put p leg (Some one) same = ap (λ (k : Core). k.request) same
-
-move_asks : (p : Passage OutProxy) (move : Move)
-    → (moved proxy_rules p move).role.request ≡ asked_after p.role.request move
-move_asks p (Up leg cookie) = ap (λ (k : Core). k.request) (same_up p.role leg cookie)
-move_asks p (HeadCame leg text) = head_asks p.role leg text
-move_asks p (PduCame leg count bytes) =
-    by_row p leg (Pdu bytes) (pdu p.role leg count bytes) (same_pdu p.role leg count bytes)
-move_asks p (PacketCame leg count m) =
-    by_row p leg (Packet m) (packet p.role leg count m) (same_packet p.role leg count m)
-move_asks p (Puts leg) = by_put p leg (put_of p.role leg) (same_put p.role leg)
-move_asks p (IsDrawn leg) = ap (λ (k : Core). k.request) (same_drawn p.role leg)
-move_asks p (Marks leg) = ap (λ (k : Seen). k.request) (same_mark p.role leg)
-move_asks p (Pings leg) = refl
-
-moves_ask : (p : Passage OutProxy) (moves : List Move)
-    → (all_moved proxy_rules p moves).role.request ≡ last_asked p.role.request moves
-moves_ask p [] = refl
-moves_ask p (move ∷ moves) =
-    moves_ask (moved proxy_rules p move) moves
-    ∙ ap (λ (before : Option Asked). last_asked before moves) (move_asks p move)
 
 -- ---- which tells the length of its channel
 

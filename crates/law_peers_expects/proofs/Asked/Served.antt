@@ -1,20 +1,10 @@
 -- what an out proxy puts to its client where no head asks for an echo, and how it reads
-use Rattle.std.proofs.Common.{◌≡◌, inl, inr, ℕ, ◌+◌, Bool, true, false, if◌then◌else◌, List, [], ◌∷◌, Some, refl, sym, subst}
-use Rattle.std.specs.List.{AllByRecursion}
-use Rattle.rh_sig.specs.declared.name.Pipe.TheVariants.{CoD}
-use Rattle.rh_http.specs.Texts.{response_text}
-use Rattle.rh_line.specs.declared.leg.Leg.{Leg}
-use Rattle.rh_shell.specs.Rules.{Message, Text, Pdu, Packet}
-use Rattle.rh_shell.specs.Shells.{same_leg}
-use Rattle.rh_outproxy.specs.declared.state.OutProxyConfig.{OutProxyConfig}
-use Rattle.rh_outproxy.specs.Putting.{ping_room}
-use Rattle.law_moves.specs.Moves.{OnLeg}
-use Rattle.law_moves.specs.Wires.{of_leg}
-use Rattle.law_moves.specs.ReadBack.Well.{Answers, IsWellText, TextIsWell}
-use Rattle.law_role_outproxy.specs.Putting.{IsEcho, IsNew, IsOpening, IsPassed, IsSuccessor, IsToClient, response}
-use Rattle.law_peers_expects.specs.Asked.Asking.{IsServed}
+use Rattle.law_order.proofs.Vocabulary.{◌≡◌, inl, inr, ℕ, ◌+◌, Bool, true, false, if◌then◌else◌, List, [], ◌∷◌, Some, refl, sym, subst, AllByRecursion}
+use Rattle.law_moves.proofs.Vocabulary.{CoD, response_text, Leg, Message, Text, Pdu, Packet, same_leg, OnLeg, of_leg, Answers, IsWellText, TextIsWell}
+use Rattle.law_role_outproxy.proofs.Vocabulary.{OutProxyConfig, ping_room, IsEcho, IsNew, IsOpening, IsPassed, IsSuccessor, IsToClient, response}
 use Rattle.law_peers_expects.proofs.Asked.EchoTexts.{IsNoEcho}
 use Rattle.law_peers_expects.proofs.Asked.Serving.{NoEchoes}
+use Rattle.law_peers_expects.specs.Asked.Asking.{IsServed}
 
 -- ---- no answer to an echo request
 

@@ -1,49 +1,14 @@
 -- an out proxy of which no head asks for an echo puts no answer to one
-use Rattle.std.proofs.Common.{◌≡◌, ℕ, ◌+◌, ◌&&◌, Bool, true, false, true≢false, if◌then◌else◌, List, [], ◌∷◌, length, Some, None, Ok, Err, refl, sym, ap, ◌∙◌, subst}
-use Rattle.std.proofs.lemmas.Bool.{and_parts}
-use Rattle.std.specs.List.{AllByRecursion}
-use Rattle.std.specs.Prelude.{nat_le, IfSome}
-use Rattle.std.specs.declared.option.Option.{Option}
-use Rattle.std.specs.declared.result.Result.{Result}
-use Rattle.rh_window.specs.Sending.{may_send}
-use Rattle.rh_window.specs.declared.recv_window.Ack.{Ack}
-use Rattle.law_order.proofs.ByNumber.{by_test}
-use Rattle.rh_rts.specs.declared.command.Cookie.{Cookie}
-use Rattle.rh_sig.specs.declared.named.Named.{Named}
-use Rattle.rh_http.specs.declared.fault.HttpFault.{HttpFault}
-use Rattle.rh_http.specs.Lengths.{greatest_echo}
-use Rattle.rh_http.specs.Texts.{response_text}
-use Rattle.rh_http.specs.Heads.Verdicts.{Asked, request_verdict}
-use Rattle.rh_line.specs.declared.leg.Leg.{Leg}
-use Rattle.rh_line.specs.Lines.{is_empty}
-use Rattle.rh_shell.specs.declared.answers.HeadRefused.{HeadRefused}
-use Rattle.rh_shell.specs.declared.answers.HeadTaken.{HeadTaken}
-use Rattle.rh_shell.specs.declared.due.Due.{Due}
-use Rattle.rh_shell.specs.Intakes.{is_whole_head}
-use Rattle.rh_shell.specs.Rules.{Message, Pdu, Packet}
-use Rattle.rh_shell.specs.Shells.{same_leg}
-use Rattle.rh_outproxy.specs.declared.state.Answer.{Answer}
+use Rattle.law_order.proofs.Vocabulary.{◌≡◌, ℕ, ◌+◌, ◌&&◌, Bool, true, false, true≢false, if◌then◌else◌, List, [], ◌∷◌, length, Some, None, Ok, Err, refl, sym, ap, ◌∙◌, subst, and_parts, AllByRecursion, nat_le, IfSome, Option, Result}
 use Rattle.rh_outproxy.specs.declared.state.Answer.TheVariants as answers
-use Rattle.rh_outproxy.specs.declared.state.Channel.{Channel}
 use Rattle.rh_outproxy.specs.declared.state.Channel.TheVariants as channels
-use Rattle.rh_outproxy.specs.declared.state.OutProxyConfig.{OutProxyConfig}
-use Rattle.rh_outproxy.specs.OutProxy.{OutProxy, is_due, is_echo_put, is_ping_due, is_server_first, joined, new_proxy}
-use Rattle.rh_outproxy.specs.Rows.{Done, is_co, is_os}
-use Rattle.rh_outproxy.specs.Opening.{up, head_by, first_packet}
-use Rattle.rh_outproxy.specs.Acknowledging.{ack_due}
-use Rattle.rh_outproxy.specs.Ending.{drawn}
-use Rattle.rh_outproxy.specs.Putting.{Pick, ping_room, or_else, answer_by, behind_response, put_answer, waiting_by, put_waiting, pdu_by, put_pdu, put_end, put_handover, put_mark, put_ping, next_co, first_by, put_first, ack_by, put_ack, next_os}
-use Rattle.rh_outproxy.specs.Putting.{put as put_of}
-use Rattle.rh_outproxy.specs.Machine.{pdu, packet}
-use Rattle.rh_outproxy.specs.Machine.{rules as proxy_rules}
-use Rattle.law_moves.specs.Moves.{OnLeg, Move, Up, HeadCame, PduCame, PacketCame, Puts, IsDrawn, Marks, Pings, Passage, started, moved, all_moved, taken_by, put_by}
-use Rattle.law_moves.proofs.Passages.Messages.{all_append}
-use Rattle.law_moves.specs.ReadBack.Reading.{IsWholeText}
-use Rattle.law_moves.specs.Turns.{Stages, none_up, stages_after, IsInTurn, AreInTurn, AreInTurnFrom}
-use Rattle.law_role_outproxy.specs.Counted.{co_leg}
-use Rattle.law_peers_expects.specs.Asked.Asking.{AsksNoEcho}
+use Rattle.law_moves.proofs.Vocabulary.{may_send, Ack, by_test, Cookie, Named, HttpFault, greatest_echo, response_text, Asked, request_verdict, Leg, is_empty, HeadRefused, HeadTaken, Due, is_whole_head, Message, Pdu, Packet, same_leg, OnLeg, Move, Up, HeadCame, PduCame, PacketCame, Puts, IsDrawn, Marks, Pings, Passage, started, moved, all_moved, taken_by, put_by, IsWholeText, Stages, none_up, stages_after, IsInTurn, AreInTurn, AreInTurnFrom}
+use Rattle.law_moves.proofs.Lemmas.{all_append, itself}
+use Rattle.law_role_outproxy.proofs.Vocabulary.{Answer, Channel, OutProxyConfig, OutProxy, is_due, is_echo_put, is_ping_due, is_server_first, joined, new_proxy, Done, is_co, is_os, up, head_by, first_packet, ack_due, drawn, Pick, ping_room, or_else, answer_by, behind_response, put_answer, waiting_by, put_waiting, pdu_by, put_pdu, put_end, put_handover, put_mark, put_ping, next_co, first_by, put_first, ack_by, put_ack, next_os, put as put_of, pdu, packet, rules as proxy_rules}
+use Rattle.law_role_outproxy.proofs.Vocabulary.{co_leg}
 use Rattle.law_peers_expects.proofs.Asked.EchoTexts.{IsNoEcho, other_message}
-use Rattle.law_peers_expects.proofs.Asked.Standing.{Seen, seen, same_pdu, same_packet, same_mark, itself, Stands, starts, move_stands}
+use Rattle.law_peers_expects.proofs.Asked.Standing.{Seen, seen, same_pdu, same_packet, same_mark, Stands, starts, move_stands}
+use Rattle.law_peers_expects.specs.Asked.Asking.{AsksNoEcho}
 
 abbrev is_echo : Answer → Bool
 is_echo answers.EchoDue = true

@@ -1,44 +1,12 @@
 -- what holds of an out proxy whose moves are in their turn: no leg but its client's begins with a
 -- head, and frames come there behind a request that it took
-use Rattle.std.proofs.Common.{◌≡◌, ℕ, Bool, true, false, true≢false, if◌then◌else◌, List, [], ◌∷◌, Some, None, is_some, Ok, Err, refl, sym, ap, ◌∙◌, arith, rules}
-use Rattle.std.proofs.lemmas.Bool.Decides.{nat_tests}
-use Rattle.std.specs.Prelude.{nat_le, IfSome}
-use Rattle.std.specs.declared.option.Option.{Option}
-use Rattle.std.specs.declared.result.Result.{Result}
-use Rattle.rh_window.specs.declared.recv_window.Ack.{Ack}
-use Rattle.law_order.proofs.ByNumber.{by_test}
-use Rattle.rh_rts.specs.declared.command.Cookie.{Cookie}
-use Rattle.rh_sig.specs.declared.name.Pipe.TheVariants.{CoU, OsD}
-use Rattle.rh_sig.specs.declared.named.Named.{Named}
-use Rattle.rh_http.specs.declared.fault.HttpFault.{HttpFault}
-use Rattle.rh_http.specs.Lengths.{greatest_echo}
-use Rattle.rh_http.specs.Heads.Verdicts.{Asked, request_verdict}
-use Rattle.rh_line.specs.declared.leg.Leg.{Leg}
-use Rattle.rh_shell.specs.declared.answers.Count.{Count}
-use Rattle.rh_shell.specs.declared.answers.HeadRefused.{HeadRefused}
-use Rattle.rh_shell.specs.declared.answers.HeadTaken.{HeadTaken}
-use Rattle.rh_shell.specs.declared.due.Due.{Due}
-use Rattle.rh_shell.specs.declared.stage.Stage.{Stage}
+use Rattle.law_order.proofs.Vocabulary.{◌≡◌, ℕ, Bool, true, false, true≢false, if◌then◌else◌, List, [], ◌∷◌, Some, None, is_some, Ok, Err, refl, sym, ap, ◌∙◌, rules, nat_le, IfSome, Option, Result}
 use Rattle.rh_shell.specs.declared.stage.Stage.TheVariants as stage
-use Rattle.rh_shell.specs.NearEnds.{first_stage}
-use Rattle.rh_shell.specs.Rules.{Message, Pdu, Packet}
-use Rattle.rh_shell.specs.Shells.{same_leg}
-use Rattle.rh_outproxy.specs.declared.state.Answer.{Answer}
-use Rattle.rh_outproxy.specs.declared.state.OutProxyConfig.{OutProxyConfig}
-use Rattle.rh_outproxy.specs.OutProxy.{OutProxy, joined, new_proxy}
-use Rattle.rh_outproxy.specs.Rows.{Done, is_co, is_os, unexpected}
-use Rattle.rh_outproxy.specs.Opening.{up, head_by}
-use Rattle.rh_outproxy.specs.Acknowledging.{ack_due}
-use Rattle.rh_outproxy.specs.Ending.{drawn, mark}
-use Rattle.rh_outproxy.specs.Time.{ping}
-use Rattle.rh_outproxy.specs.Putting.{Pick, or_else, answer_by, put_answer, waiting_by, put_waiting, pdu_by, put_pdu, put_mark, put_ping, next_co, put_first, ack_by, put_ack, next_os}
-use Rattle.rh_outproxy.specs.Putting.{put as put_of}
-use Rattle.rh_outproxy.specs.Machine.{pdu, packet, on_co, on_os}
-use Rattle.rh_outproxy.specs.Machine.{rules as proxy_rules}
-use Rattle.law_moves.specs.Moves.{Move, Up, HeadCame, PduCame, PacketCame, Puts, IsDrawn, Marks, Pings, Passage, started, moved, all_moved, taken_by, put_by}
-use Rattle.law_moves.proofs.PacketKinds.Counts.{leg_is}
-use Rattle.law_moves.specs.Turns.{Stages, none_up, with_stage, behind_head, stages_after, takes_frames}
-use Rattle.law_role_outproxy.specs.Counted.{co_leg}
+use Rattle.law_moves.proofs.Vocabulary.{Ack, by_test, Cookie, CoU, OsD, Named, HttpFault, greatest_echo, Asked, request_verdict, Leg, Count, HeadRefused, HeadTaken, Due, Stage, first_stage, Message, Pdu, Packet, same_leg, Move, Up, HeadCame, PduCame, PacketCame, Puts, IsDrawn, Marks, Pings, Passage, started, moved, all_moved, taken_by, put_by, Stages, none_up, with_stage, stages_after, takes_frames}
+use Rattle.law_moves.proofs.Lemmas.{leg_is, itself}
+use Rattle.law_moves.specs.Turns.{behind_head}
+use Rattle.law_role_outproxy.proofs.Vocabulary.{Answer, OutProxyConfig, OutProxy, joined, new_proxy, Done, is_co, is_os, unexpected, up, head_by, ack_due, drawn, mark, ping, Pick, or_else, answer_by, put_answer, waiting_by, put_waiting, pdu_by, put_pdu, put_mark, put_ping, next_co, put_first, ack_by, put_ack, next_os, put as put_of, pdu, packet, on_co, on_os, rules as proxy_rules, co_leg}
+use Rattle.law_role_outproxy.proofs.Putting.Turns.{stage_each}
 use Rattle.law_node_streams.proofs.Streams.Staging.{all_stages}
 
 -- ---- what rows leave alone
@@ -131,15 +99,6 @@ same_put s leg =
     (λ f. tt))
 
 -- ---- what comes next
-
-pub itself : (leg : Leg) → same_leg leg leg ≡ true
-itself leg = grind (arith, nat_tests)
-
-stage_each : (P : Option Stage → Type 0) (leg other : Leg) (next : Stage) (g : Stages)
-    → (leg ≡ other → P (Some next)) → (same_leg leg other ≡ false → P (g other))
-    → P (with_stage leg next g other)
-stage_each P leg other next g at apart =
-    by_test P (same_leg leg other) (Some next) (g other) (λ e. at (leg_is leg other e)) apart
 
 module _ (config : OutProxyConfig) where
   abbrev pub co : Leg

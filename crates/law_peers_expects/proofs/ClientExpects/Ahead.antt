@@ -1,13 +1,8 @@
 -- what is next of all that was put on a leg: one packet more was put there; and RPC PDUs that came
 -- were put there
-use Rattle.std.proofs.Common.{◌≡◌, ℕ, ◌+◌, ◌≤◌, Bool, true, false, if◌then◌else◌, List, [], ◌∷◌, ◌++◌, refl, sym, ap, subst, arith}
-use mathlib.Core.List.{IsPrefix}
-use Rattle.rh_sig.specs.declared.named.Named.{Named}
-use Rattle.rh_shell.specs.Hearing.{is_ping}
-use Rattle.rh_shell.specs.Rules.{Message, Text, Pdu, Packet}
-use Rattle.law_moves.specs.ReadBack.Reading.{all_read_of}
-use Rattle.law_moves.specs.Passages.Passing.{count_of}
-use Rattle.law_moves.proofs.Passages.Messages.{count_append}
+use Rattle.law_order.proofs.Vocabulary.{◌≡◌, ℕ, ◌+◌, ◌≤◌, Bool, true, false, if◌then◌else◌, List, [], ◌∷◌, ◌++◌, refl, sym, ap, subst, arith, IsPrefix}
+use Rattle.law_moves.proofs.Vocabulary.{Named, is_ping, Message, Text, Pdu, Packet, all_read_of, count_of}
+use Rattle.law_moves.proofs.Lemmas.{count_append}
 use Rattle.law_peers_moments.proofs.Read.{front_count}
 
 pub ahead_counts : (test : Named → Bool) (named : Named) (came put : List Message)

@@ -1,23 +1,10 @@
 -- an out proxy puts RPC PDUs to its client only where some came from the server, and behind END/B2
 -- no RPC PDU and no other END/B2
-use Rattle.std.proofs.Common.{◌≡◌, ◌⊎◌, inl, inr, ℕ, ◌||◌, Bool, true, false, List, [], ◌∷◌, ◌++◌, refl, sym, ap, ◌∙◌, subst}
-use Rattle.std.proofs.lemmas.List.{append_assoc}
-use mathlib.Core.List.{IsPrefix}
-use Rattle.rh_sig.specs.declared.named.Named.{Named}
-use Rattle.rh_sig.specs.declared.named.Named.TheVariants.{EndB1, EndB2, OutR1A9, OutR1A10, Ping}
-use Rattle.law_order.specs.Items.{Item, Piece, Stop, Handover, pdus, has_end, IsBehindEnd, IsChannel}
-use Rattle.law_order.specs.Logs.{below, seen}
-use Rattle.law_order.proofs.ByNumber.{below_empty, seen-append}
-use Rattle.law_order.proofs.ItemLists.{has_end-append, nil_back, nil_front}
-use Rattle.law_moves.specs.Moves.{OnLeg, Passage}
-use Rattle.rh_shell.specs.Rules.{Message, Text, Pdu, Packet}
-use Rattle.law_moves.specs.Wires.{of_leg}
-use Rattle.law_moves.specs.ReadBack.Reading.{all_read_of, read_of}
-use Rattle.law_moves.proofs.ReadBack.Seen.{seen_read}
+use Rattle.law_order.proofs.Vocabulary.{◌≡◌, ◌⊎◌, inl, inr, ℕ, ◌||◌, Bool, true, false, List, [], ◌∷◌, ◌++◌, refl, sym, ap, ◌∙◌, subst, append_assoc, IsPrefix, Item, Piece, Stop, Handover, pdus, has_end, IsBehindEnd, IsChannel, below, seen}
+use Rattle.law_moves.proofs.Vocabulary.{below_empty, seen-append, has_end-append, nil_back, nil_front, Named, EndB1, EndB2, OutR1A9, OutR1A10, Ping, Message, Text, Pdu, Packet, OnLeg, Passage, of_leg, all_read_of, read_of, Has}
+use Rattle.law_moves.proofs.Lemmas.{seen_read}
+use Rattle.law_role_outproxy.proofs.Vocabulary.{OutProxy, KeepsOrder, came_log, put_items, from_server, to_client, client_leg, server_leg}
 use Rattle.law_node_streams.proofs.Streams.LegLogs.{leg_items}
-use Rattle.law_role_outproxy.specs.Order.{KeepsOrder, came_log, put_items, from_server, to_client, client_leg, server_leg}
-use Rattle.rh_outproxy.specs.OutProxy.{OutProxy}
-use Rattle.law_moves.specs.Passages.Passing.{Has}
 use Rattle.law_peers_expects.proofs.ClientExpects.Ahead.{HasPdu}
 
 -- ---- behind END

@@ -1,25 +1,10 @@
 -- whatever comes next at a client on an OUT channel, it refuses nothing of it as unexpected
-use Rattle.std.proofs.Common.{◌≡◌, inl, inr, ℕ, ◌<◌, ◌≤◌, List, [], Err, refl, sym, subst, arith}
-use Rattle.std.specs.Prelude.{IsTrue}
-use Rattle.law_order.specs.Items.{Piece, Stop}
-use Rattle.rh_sig.specs.declared.named.Named.{Named}
+use Rattle.law_order.proofs.Vocabulary.{◌≡◌, inl, inr, ℕ, ◌<◌, ◌≤◌, List, [], Err, refl, sym, subst, arith, IsTrue, Piece, Stop}
 use Rattle.rh_sig.specs.declared.named.Named.TheVariants as named
-use Rattle.rh_line.specs.declared.leg.LegKind.TheVariants.{ClientOut}
-use Rattle.rh_shell.specs.declared.answers.Count.{Count}
-use Rattle.rh_shell.specs.declared.answers.Refused.{Refused}
 use Rattle.rh_shell.specs.declared.answers.Refused.TheVariants as refused
-use Rattle.rh_shell.specs.Rules.{Message, Pdu, Packet}
-use Rattle.rh_client.specs.declared.state.ClientRole.{ClientRole}
-use Rattle.rh_client.specs.Client.{rules}
-use Rattle.rh_client.specs.State.{co}
-use Rattle.law_moves.specs.Moves.{Passage, is_in_use}
-use Rattle.law_moves.specs.Wires.{of_leg}
-use Rattle.law_moves.specs.ReadBack.Reading.{all_read_of}
-use Rattle.law_moves.specs.Passages.Counted.{Tells, packets}
-use Rattle.law_moves.specs.Passages.Passing.{count_of}
-use Rattle.law_role_client.specs.Counted.Opening.{opened}
-use Rattle.law_role_outproxy.specs.Putting.{OpensClient}
-use Rattle.law_role_outproxy.specs.Counted.{co_leg, os_leg}
+use Rattle.law_moves.proofs.Vocabulary.{Named, ClientOut, Count, Refused, Message, Pdu, Packet, Passage, is_in_use, of_leg, all_read_of, Tells, packets, count_of}
+use Rattle.law_role_client.proofs.Vocabulary.{ClientRole, rules, co, opened}
+use Rattle.law_role_outproxy.proofs.Vocabulary.{OpensClient, co_leg, os_leg}
 use Rattle.law_role_client_rows.specs.Refusing.{Refuses, UnexpectedOn, UnexpectedPduBy, is_conn_a3}
 use Rattle.law_peers_moments.specs.Expecting.{Expects, IsAmiss}
 use Rattle.law_peers_moments.specs.Moments.{IsJoined, IsMoment, Moves, Numbers, Passages, passages}

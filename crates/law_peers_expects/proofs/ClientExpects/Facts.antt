@@ -1,36 +1,19 @@
 -- what is known at a moment of a message that comes next on an OUT channel of the client
-use Rattle.std.proofs.Common.{◌≡◌, ◌⊎◌, inl, inr, ℕ, zero, suc, ◌+◌, ◌<◌, ◌≤◌, Bool, true, false, if◌then◌else◌, List, [], ◌∷◌, ◌++◌, refl, sym, subst, arith}
-use Rattle.std.proofs.lemmas.Bool.Decides.{nat_tests}
-use mathlib.Core.List.{IsPrefix}
-use Rattle.rh_sig.specs.declared.named.Named.{Named}
+use Rattle.law_order.proofs.Vocabulary.{◌≡◌, ◌⊎◌, inl, inr, ℕ, zero, suc, ◌+◌, ◌<◌, ◌≤◌, Bool, true, List, [], ◌∷◌, ◌++◌, refl, arith, nat_tests, IsPrefix, Item}
 use Rattle.rh_sig.specs.declared.named.Named.TheVariants as named
-use Rattle.rh_line.specs.declared.leg.LegKind.TheVariants.{ClientOut, OutServer}
-use Rattle.law_moves.specs.Moves.{Passage}
-use Rattle.rh_shell.specs.Rules.{Message, Text, Pdu, Packet}
-use Rattle.law_moves.specs.Wires.{of_leg}
-use Rattle.law_moves.specs.ReadBack.Reading.{all_read_of}
-use Rattle.law_moves.specs.Passages.Passing.{count_of, of_kind, Has, HasOne}
-use Rattle.rh_client.specs.declared.channels.TheConstants.{LAST_NUMBER}
-use Rattle.rh_client.specs.declared.state.ClientRole.{ClientRole}
-use Rattle.rh_client.specs.State.{co}
-use Rattle.law_role_client.specs.Counted.Counting as at_client
-use Rattle.law_role_client.specs.Counted.Counting.{StandsOnEach, is_among, once_if, total}
-use Rattle.law_role_client.specs.Counted.Opening.{opened}
-use Rattle.law_role_client.specs.Counted.Replacing.{ReplacesOuts, in_asked, in_answered, out_wanted, out_asked, out_answered, out_switched, out_finished}
-use Rattle.law_order.specs.Items.{Item}
-use Rattle.law_role_outproxy.specs.Order.{to_client}
-use Rattle.law_role_outproxy.specs.Putting.{OpensNew, OpensSuccessor}
+use Rattle.law_moves.proofs.Vocabulary.{Named, ClientOut, OutServer, Message, Pdu, Packet, Passage, of_leg, all_read_of, count_of, of_kind, Has, HasOne}
 use Rattle.law_moves.specs.PacketKinds as at_proxy
-use Rattle.rh_server.specs.States.{Server}
+use Rattle.law_role_client.proofs.Vocabulary.{LAST_NUMBER, ClientRole, co, StandsOnEach, is_among, once_if, total, opened, ReplacesOuts, in_asked, in_answered, out_wanted, out_asked, out_answered, out_switched, out_finished}
+use Rattle.law_role_client.specs.Counted.Counting as at_client
+use Rattle.law_role_server.proofs.Vocabulary.{Server, IsOnEachFrom, out_put, ArePutInTurn}
 use Rattle.law_role_server.specs.Counted.Counting as at_server
-use Rattle.law_role_server.specs.Counted.Counting.{IsOnEachFrom, out_put}
-use Rattle.law_role_server.specs.Counted.Replacing.{ArePutInTurn}
+use Rattle.law_role_outproxy.proofs.Vocabulary.{to_client, OpensNew, OpensSuccessor}
 use Rattle.law_role_server_rows.specs.Putting.Puts.{os}
-use Rattle.law_peers_moments.specs.Moments.{IsJoined, Moves, Numbers, Passages, passages}
 use Rattle.law_peers_moments.proofs.Joining.{co_front, os_back}
 use Rattle.law_peers_moments.proofs.Read.{front_one}
-use Rattle.law_peers_moments.specs.GoingRound.{GoRound}
 use Rattle.law_peers_moments.proofs.GoingRound.Rounding.{answers as in_answers, sum_counts}
+use Rattle.law_peers_moments.specs.Moments.{IsJoined, Moves, Numbers, Passages, passages}
+use Rattle.law_peers_moments.specs.GoingRound.{GoRound}
 use Rattle.law_peers_expects.proofs.ClientExpects.Ahead.{HasPdu, front_pdu, one_pdu, pdu_last}
 use Rattle.law_peers_expects.proofs.ClientExpects.Ends.{IsHandover, ends_last, is_channel, pdu_came}
 use Rattle.law_peers_expects.proofs.ClientExpects.InTurn.{IsBehind, is_behind}
@@ -38,24 +21,7 @@ use Rattle.law_peers_expects.proofs.ClientExpects.Forwarding.{Forwarding, answer
 use Rattle.law_peers_expects.proofs.ClientExpects.GoingRound.{are_asked, came_of, next_of_put, replaces_at, round_at, turns_at}
 use Rattle.law_peers_expects.proofs.ClientExpects.Known.{Laws, number_at, order_at}
 use Rattle.law_peers_expects.proofs.ClientExpects.More.{leg_within, none_more, one_more}
-
--- a packet of a sort is counted by a test that each of the sort passes
-one_counts : (Is : Named → Type 0) (test : Named → Bool)
-    → ((packet : Named) → Is packet → test packet ≡ true) → (ms : List Message) → HasOne Is ms
-    → 1 ≤ count_of test ms
-one_counts Is test so [] has = absurd has
-one_counts Is test so (Text bytes ∷ ms) has = one_counts Is test so ms has
-one_counts Is test so (Pdu pdu ∷ ms) has = one_counts Is test so ms has
-one_counts Is test so (Packet packet ∷ ms) (inl is) =
-    subst (λ (b : Bool). 1 ≤ (if b then suc (count_of test ms) else count_of test ms))
-    (sym (so packet is)) (omega arith)
-one_counts Is test so (Packet packet ∷ ms) (inr has) =
-    by (test packet) (one_counts Is test so ms has)
-  where
-    by : (b : Bool) → 1 ≤ count_of test ms
-        → 1 ≤ (if b then suc (count_of test ms) else count_of test ms)
-    by true rest = omega arith
-    by false rest = rest
+use Rattle.law_peers_expects.proofs.InProxyExpects.Fronts.{one_counts}
 
 opens_new : (packet : Named) → OpensNew packet → at_client.is_conn_a1 packet ≡ true
 opens_new (named.ConnA1 version of channel window) is = refl

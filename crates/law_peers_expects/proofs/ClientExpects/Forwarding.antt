@@ -1,16 +1,11 @@
 -- the packets that an out proxy passes on, by the tests with which each role counts them
-use Rattle.std.proofs.Common.{◌≡◌, ℕ, ◌≤◌, Bool, List, refl}
-use Rattle.rh_sig.specs.declared.named.Named.{Named}
+use Rattle.law_order.proofs.Vocabulary.{◌≡◌, ℕ, ◌≤◌, Bool, List, refl}
 use Rattle.rh_sig.specs.declared.named.Named.TheVariants as named
-use Rattle.rh_shell.specs.Rules.{Message}
-use Rattle.rh_outproxy.specs.OutProxy.{OutProxy}
-use Rattle.law_moves.specs.Moves.{Passage}
-use Rattle.law_moves.specs.Wires.{of_leg}
-use Rattle.law_moves.specs.Passages.Passing.{count_of}
+use Rattle.law_moves.proofs.Vocabulary.{Named, Message, Passage, of_leg, count_of}
 use Rattle.law_moves.specs.PacketKinds as at_proxy
 use Rattle.law_role_client.specs.Counted.Counting as at_client
 use Rattle.law_role_server.specs.Counted.Counting as at_server
-use Rattle.law_role_outproxy.specs.Counted.{ForwardsWhatCame, co_leg, os_leg}
+use Rattle.law_role_outproxy.proofs.Vocabulary.{OutProxy, ForwardsWhatCame, co_leg, os_leg}
 use Rattle.law_peers_moments.proofs.GoingRound.Rounding.{agrees, finishes, grants, hands_over, once, r1_answers, r2_answers, same_counts, wants, wishes}
 
 -- a packet that the server puts for an OUT channel is another that comes to the client, of which

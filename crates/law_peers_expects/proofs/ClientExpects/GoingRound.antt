@@ -1,33 +1,19 @@
 -- what goes round at a moment: the packets that the server puts for its client on OUT channels, and
 -- what the client puts for them
-use Rattle.std.proofs.Common.{◌≡◌, ℕ, ◌+◌, ◌≤◌, Bool, true, List, [], ◌∷◌, ◌++◌, subst, arith}
-use mathlib.Core.List.{IsPrefix}
-use Rattle.rh_http.specs.declared.config.ClientConfig.{ClientConfig}
-use Rattle.rh_sig.specs.declared.named.Named.{Named}
-use Rattle.rh_line.specs.declared.leg.LegKind.TheVariants.{ClientOut, OutServer}
-use Rattle.law_moves.specs.Moves.{AreAllowedAtEnd, EndMove, Move, Passage, all_end_moved, all_moved, end_started, started}
-use Rattle.rh_shell.specs.Rules.{Packet}
-use Rattle.law_moves.specs.Wires.{of_leg}
-use Rattle.law_moves.specs.ReadBack.Reading.{all_read_of}
-use Rattle.law_moves.specs.Passages.Passing.{count_of}
-use Rattle.law_moves.specs.Chains.Sums.{count_on}
-use Rattle.rh_client.specs.Client as client
-use Rattle.rh_client.specs.declared.state.ClientRole.{ClientRole}
-use Rattle.rh_client.specs.State as client_state
-use Rattle.rh_client.specs.State.{co}
-use Rattle.law_role_client.specs.Counted.Counting as at_client
-use Rattle.law_role_client.specs.Counted.Replacing.{AsksWhereWanted, ReplacesOuts}
-use Rattle.rh_outproxy.specs.declared.state.OutProxyConfig.{OutProxyConfig}
+use Rattle.law_order.proofs.Vocabulary.{◌≡◌, ℕ, ◌+◌, ◌≤◌, Bool, true, List, [], ◌∷◌, ◌++◌, subst, arith, IsPrefix}
 use Rattle.rh_outproxy.specs.Machine as out_proxy
-use Rattle.rh_outproxy.specs.OutProxy.{new_proxy}
-use Rattle.law_role_outproxy.specs.Counted.{ForwardsWhatCame, os_leg}
+use Rattle.rh_client.specs.Client as client
+use Rattle.rh_client.specs.State as client_state
 use Rattle.rh_server.specs.Servers as server
-use Rattle.rh_server.specs.States.{Server}
+use Rattle.law_moves.proofs.Vocabulary.{Named, ClientConfig, ClientOut, OutServer, Packet, AreAllowedAtEnd, EndMove, Move, Passage, all_end_moved, all_moved, end_started, started, of_leg, all_read_of, count_of, count_on}
+use Rattle.law_role_client.proofs.Vocabulary.{ClientRole, co, AsksWhereWanted, ReplacesOuts}
+use Rattle.law_role_client.specs.Counted.Counting as at_client
+use Rattle.law_role_server.proofs.Vocabulary.{Server, ArePutInTurn}
 use Rattle.law_role_server.specs.Counted.Counting as at_server
-use Rattle.law_role_server.specs.Counted.Replacing.{ArePutInTurn}
-use Rattle.law_peers_moments.specs.Moments.{AreJoined, AreMade, IsJoined, Moves, Numbers, Passages, client_behind, passages, server_behind}
+use Rattle.law_role_outproxy.proofs.Vocabulary.{OutProxyConfig, new_proxy, ForwardsWhatCame, os_leg}
 use Rattle.law_peers_moments.proofs.Joining.{co_back, os_back}
 use Rattle.law_peers_moments.proofs.Read.{front_count}
+use Rattle.law_peers_moments.specs.Moments.{AreJoined, AreMade, IsJoined, Moves, Numbers, Passages, client_behind, passages, server_behind}
 use Rattle.law_peers_moments.specs.GoingRound.{GoRound}
 use Rattle.law_peers_expects.proofs.ClientExpects.Ahead.{ahead_counts}
 use Rattle.law_peers_expects.proofs.ClientExpects.Forwarding.{Forwarding, wish}

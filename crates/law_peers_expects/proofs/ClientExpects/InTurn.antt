@@ -1,14 +1,9 @@
 -- where a packet stands once on each leg from the first on, as far as it came and as far as it was
 -- put, the next is on a leg behind those that came
-use Rattle.std.proofs.Common.{◌≡◌, ℕ, ◌+◌, ◌<◌, ◌≤◌, nat_lt, Bool, true, false, List, refl, arith}
-use Rattle.std.proofs.lemmas.Bool.Decides.{nat_tests}
-use Rattle.rh_sig.specs.declared.named.Named.{Named}
-use Rattle.rh_line.specs.declared.leg.LegKind.TheVariants.{ClientOut, OutServer}
-use Rattle.rh_client.specs.State.{co}
-use Rattle.law_moves.specs.Moves.{OnLeg}
-use Rattle.law_moves.specs.Chains.Sums.{count_on}
-use Rattle.law_role_client.specs.Counted.Counting.{StandsOnEach, is_among, once_if, total}
-use Rattle.law_role_server.specs.Counted.Counting.{IsOnEachFrom, often}
+use Rattle.law_order.proofs.Vocabulary.{◌≡◌, ℕ, ◌+◌, ◌<◌, ◌≤◌, nat_lt, Bool, true, false, List, refl, arith, nat_tests}
+use Rattle.law_moves.proofs.Vocabulary.{Named, ClientOut, OutServer, OnLeg, count_on}
+use Rattle.law_role_client.proofs.Vocabulary.{co, StandsOnEach, is_among, once_if, total}
+use Rattle.law_role_server.proofs.Vocabulary.{IsOnEachFrom, often}
 
 none_among : (count n : ℕ) → 1 ≤ n → once_if (is_among 1 count n) ≡ 0 → count + 1 ≤ n
 none_among count n least none = grind (arith, nat_tests, least, none)

@@ -1,24 +1,14 @@
 -- the laws of the roles at a moment
-use Rattle.std.proofs.Common.{◌≡◌, ℕ, List, ◌∙◌, subst}
-use Rattle.rh_http.specs.declared.config.ClientConfig.{ClientConfig}
-use Rattle.rh_line.specs.declared.leg.LegKind.TheVariants.{ClientOut}
-use Rattle.rh_outproxy.specs.declared.state.OutProxyConfig.{OutProxyConfig}
+use Rattle.law_order.proofs.Vocabulary.{◌≡◌, ℕ, List, ◌∙◌, subst}
 use Rattle.rh_outproxy.specs.Machine as out_proxy
-use Rattle.rh_outproxy.specs.OutProxy.{new_proxy}
 use Rattle.rh_client.specs.Client as client
 use Rattle.rh_client.specs.State as client_state
-use Rattle.law_moves.specs.Moves.{AreAllowed, AreAllowedAtEnd, EndMove, Move, all_end_moved, all_moved, end_started, started}
-use Rattle.law_moves.specs.Wires.{of_leg}
-use Rattle.law_moves.specs.Passages.Counted.{AreCounted}
-use Rattle.law_moves.specs.Turns.{AreInTurn}
-use Rattle.law_role_client.specs.Counted.Counting.{StandsOnEach, is_out_r1_a2}
-use Rattle.law_role_client.specs.Counted.Naming.{NamesOuts}
+use Rattle.law_moves.proofs.Vocabulary.{ClientConfig, ClientOut, AreAllowed, AreAllowedAtEnd, EndMove, Move, all_end_moved, all_moved, end_started, started, of_leg, AreCounted, AreInTurn}
+use Rattle.law_role_client.proofs.Vocabulary.{StandsOnEach, is_out_r1_a2, NamesOuts}
 use Rattle.law_role_client.specs.Counted.Opening as client_opens
 use Rattle.law_role_server.specs.Counted.Opening as server_opens
-use Rattle.law_role_outproxy.specs.Order.{KeepsOrder}
+use Rattle.law_role_outproxy.proofs.Vocabulary.{OutProxyConfig, new_proxy, KeepsOrder, IsToClient, PutsToClient, co_leg, os_leg}
 use Rattle.law_role_outproxy.proofs.OrderKept.{starts, steps}
-use Rattle.law_role_outproxy.specs.Putting.{IsToClient, PutsToClient}
-use Rattle.law_role_outproxy.specs.Counted.{co_leg, os_leg}
 use Rattle.law_role_client_rows.specs.Refusing.{Refuses}
 use Rattle.law_role_server_rows.specs.InTurn.Channels.{WritesOnBegun}
 use Rattle.law_role_server_rows.specs.InTurn.Numbers.{HasNumbers}

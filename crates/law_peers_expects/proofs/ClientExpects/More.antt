@@ -1,12 +1,8 @@
 -- where one packet more was put on a leg than came there, one more passed in all
-use Rattle.std.proofs.Common.{◌≡◌, ℕ, zero, suc, ◌+◌, ◌≤◌, ◌==◌, Bool, true, false, List, refl, sym, subst, arith, max}
-use Rattle.std.proofs.lemmas.Bool.Decides.{nat_tests}
-use Rattle.rh_sig.specs.declared.named.Named.{Named}
-use Rattle.rh_line.specs.declared.leg.LegKind.{LegKind}
-use Rattle.law_moves.specs.Moves.{OnLeg}
-use Rattle.law_moves.specs.Chains.Sums.{sum_below, count_on}
+use Rattle.law_order.proofs.Vocabulary.{◌≡◌, ℕ, zero, suc, ◌+◌, ◌≤◌, ◌==◌, Bool, true, false, List, refl, sym, subst, arith, max, nat_tests}
+use Rattle.law_moves.proofs.Vocabulary.{Named, LegKind, OnLeg, sum_below, count_on}
+use Rattle.law_moves.proofs.Lemmas.{sum_rises, some_legs, all_legs}
 use Rattle.law_moves.specs.Chains.Ways.{total}
-use Rattle.law_moves.proofs.Chains.Summing.{sum_rises, some_legs, all_legs}
 
 module _ (f g : ℕ → ℕ) (each : (k : ℕ) → f k ≤ g k) (j : ℕ) (more : f j + 1 ≤ g j) where
   sum_more : (n : ℕ) → suc j ≤ n → sum_below f n + 1 ≤ sum_below g n

@@ -1,19 +1,10 @@
 -- what comes next on an OUT channel of the client: the timeout, CONN/C2, or what passes an open
 -- channel
-use Rattle.std.proofs.Common.{◌≡◌, ◌⊎◌, inl, inr, ℕ, ◌≤◌, Bool, true, false, true≢false, if◌then◌else◌, List, [], ◌∷◌, ◌++◌, refl, sym, ap, ◌∙◌, subst, arith}
-use Rattle.std.specs.List.{AllByRecursion}
-use Rattle.std.proofs.lemmas.List.{append_assoc}
-use mathlib.Core.List.{IsPrefix}
-use Rattle.rh_sig.specs.declared.named.Named.{Named}
-use Rattle.rh_sig.specs.declared.named.Named.TheVariants.{ConnA3, ConnC2, Ping}
-use Rattle.rh_shell.specs.Hearing.{is_ping}
-use Rattle.rh_shell.specs.Rules.{Message, Text, Pdu, Packet}
-use Rattle.law_moves.specs.ReadBack.Reading.{all_read_of, read_of}
-use Rattle.rh_outproxy.specs.declared.state.OutProxyConfig.{OutProxyConfig}
-use Rattle.law_moves.specs.Passages.Passing.{count_of, HasOne}
-use Rattle.law_moves.proofs.Passages.Messages.{all_append}
-use Rattle.law_role_client.specs.Counted.Counting.{is_conn_c2}
-use Rattle.law_role_outproxy.specs.Putting.{OpensNew, OpensSuccessor, OpensClient, PassesPacket, IsPassed, IsEcho, IsOpening, IsNew, IsSuccessor, IsToClient}
+use Rattle.law_order.proofs.Vocabulary.{◌≡◌, ◌⊎◌, inl, inr, ℕ, ◌≤◌, Bool, true, false, true≢false, if◌then◌else◌, List, [], ◌∷◌, ◌++◌, refl, sym, ap, ◌∙◌, subst, arith, AllByRecursion, append_assoc, IsPrefix}
+use Rattle.law_moves.proofs.Vocabulary.{Named, ConnA3, ConnC2, Ping, is_ping, Message, Text, Pdu, Packet, all_read_of, read_of, count_of, HasOne}
+use Rattle.law_moves.proofs.Lemmas.{all_append}
+use Rattle.law_role_client.proofs.Vocabulary.{is_conn_c2}
+use Rattle.law_role_outproxy.proofs.Vocabulary.{OutProxyConfig, OpensNew, OpensSuccessor, OpensClient, PassesPacket, IsPassed, IsEcho, IsOpening, IsNew, IsSuccessor, IsToClient}
 
 -- what passes and is read is no Ping
 abbrev pub Passes : List Message → Message → Type 0

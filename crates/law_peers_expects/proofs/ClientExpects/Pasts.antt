@@ -1,13 +1,7 @@
 -- at each moment OUT_R1/A2 came once on each OUT channel from the first on, as at those before it
-use Rattle.std.proofs.Common.{◌≡◌, ◌≤◌, ℕ, List, [], ◌∷◌, ◌++◌, refl, sym, ap, ◌∙◌, subst}
-use Rattle.std.proofs.lemmas.List.{append_assoc, append-nil}
-use Rattle.rh_line.specs.declared.leg.LegKind.TheVariants.{ClientOut}
-use Rattle.rh_client.specs.declared.state.ClientRole.{ClientRole}
-use Rattle.rh_client.specs.Client.{acts, rules}
-use Rattle.rh_client.specs.State.{first}
-use Rattle.law_moves.specs.Moves.{AreAllowedAtEnd, EndMove, EndPassage, all_end_moved, end_moved, end_started}
-use Rattle.law_role_client.specs.Counted.Counting.{StandsOnEach, is_out_r1_a2}
-use Rattle.law_role_client.specs.Counted.Replacing.{out_asked, out_wanted}
+use Rattle.law_order.proofs.Vocabulary.{◌≡◌, ◌≤◌, ℕ, List, [], ◌∷◌, ◌++◌, refl, sym, ap, ◌∙◌, subst, append_assoc, append-nil}
+use Rattle.law_moves.proofs.Vocabulary.{ClientOut, AreAllowedAtEnd, EndMove, EndPassage, all_end_moved, end_moved, end_started}
+use Rattle.law_role_client.proofs.Vocabulary.{ClientRole, acts, rules, first, StandsOnEach, is_out_r1_a2, out_asked, out_wanted}
 use Rattle.law_role_client.proofs.Counted.Standing.{stands_none, stands_on}
 use Rattle.law_node_streams.proofs.Streams.EndMoves.{all_end_moved_append}
 use Rattle.law_peers_moments.specs.Moments.{IsMoment, Moves, Numbers, client_behind, server_behind}

@@ -1,29 +1,10 @@
 -- OUT_R1/A2 comes at the client once on each OUT channel from the first on
-use Rattle.std.proofs.Common.{◌≡◌, ℕ, ◌+◌, ◌≤◌, Bool, true, false, if◌then◌else◌, List, [], ◌∷◌, ◌++◌, Some, None, Ok, Err, refl, sym, ap, ◌∙◌, subst, arith}
-use Rattle.std.specs.declared.option.Option.{Option}
-use Rattle.std.specs.declared.result.Result.{Result}
-use Rattle.rh_sig.specs.declared.named.Named.{Named}
-use Rattle.rh_line.specs.declared.leg.Leg.{Leg}
-use Rattle.rh_line.specs.declared.leg.LegKind.{LegKind}
-use Rattle.rh_line.specs.declared.leg.LegKind.TheVariants.{ClientOut, OutServer, ClientIn, InServer}
-use Rattle.rh_shell.specs.declared.answers.Count.{Count}
-use Rattle.rh_shell.specs.declared.end_role.GiveRefused.{GiveRefused}
-use Rattle.rh_shell.specs.Rules.{Message, Row, Text, Pdu, Packet}
-use Rattle.rh_client.specs.declared.state.ClientRole.{ClientRole}
-use Rattle.rh_client.specs.State.{Done, co}
-use Rattle.rh_client.specs.Client.{acts, rules, packet_by, packet_on, pdu_by}
-use Rattle.rh_client.specs.Acknowledging.{on_pdu}
-use Rattle.rh_server.specs.States.{Server}
-use Rattle.law_moves.specs.Moves.{EndMove, EndPassage, Passage, OnLeg, Moves, Gives, Takes, Closes, Recycles, Up, HeadCame, PduCame, PacketCame, Puts, IsDrawn, Marks, Pings, taken_by, put_by, given_by, with_first, end_moved, end_now_at}
-use Rattle.law_moves.specs.Wires.{of_leg}
-use Rattle.law_moves.specs.Passages.Passing.{count_of}
-use Rattle.law_moves.proofs.Passages.Messages.{count_append}
-use Rattle.law_moves.specs.Chains.Sums.{count_on}
-use Rattle.law_moves.proofs.PacketKinds.Counts.{here_more}
-use Rattle.law_role_client.specs.Counted.Counting.{StandsOnEach, is_out_r1_a2}
-use Rattle.law_role_client.specs.Counted.Replacing.{out_asked, out_wanted}
+use Rattle.law_order.proofs.Vocabulary.{◌≡◌, ℕ, ◌+◌, ◌≤◌, Bool, true, false, if◌then◌else◌, List, [], ◌∷◌, ◌++◌, Some, None, Ok, Err, refl, sym, ap, ◌∙◌, subst, arith, Option, Result}
+use Rattle.law_moves.proofs.Vocabulary.{Named, Leg, LegKind, ClientOut, OutServer, ClientIn, InServer, Count, GiveRefused, Message, Row, Text, Pdu, Packet, EndMove, EndPassage, Passage, OnLeg, Moves, Gives, Takes, Closes, Recycles, Up, HeadCame, PduCame, PacketCame, Puts, IsDrawn, Marks, Pings, taken_by, put_by, given_by, with_first, end_moved, end_now_at, of_leg, count_of, count_on}
+use Rattle.law_moves.proofs.Lemmas.{count_append, here_more}
+use Rattle.law_role_client.proofs.Vocabulary.{ClientRole, Done, co, acts, rules, packet_by, packet_on, pdu_by, on_pdu, StandsOnEach, is_out_r1_a2, out_asked, out_wanted}
 use Rattle.law_role_client.proofs.Counted.Standing.{passes, stands_next, stands_on, stands_stays}
-use Rattle.law_role_server.specs.Counted.Counting.{IsOnEachFrom, is_out_r1_a1, out_put}
+use Rattle.law_role_server.proofs.Vocabulary.{Server, IsOnEachFrom, is_out_r1_a1, out_put}
 use Rattle.law_peers_expects.proofs.ClientExpects.InTurn.{is_behind}
 
 -- ---- what a move of the client adds to what came: at most one, on an OUT channel

@@ -1,74 +1,24 @@
 -- each CONN/B2 and IN_R1/A2 that an in proxy put was put for what came on its first ci leg
-use Rattle.std.proofs.Common.{◌≡◌, ◌⊎◌, ℕ, ◌+◌, ◌≤◌, ◌==◌, ◌&&◌, Bool, true, false, not, if◌then◌else◌, List, [], ◌∷◌, ◌++◌, length, Some, None, Ok, Err, inl, inr, refl, sym, ap, subst, ◌∙◌, arith, rules}
-use Rattle.std.proofs.lemmas.Bool.{and_parts, eqb-true}
-use Rattle.std.proofs.lemmas.Bool.Decides.{nat_tests}
-use Rattle.std.specs.Prelude.{IfSome}
-use Rattle.std.specs.declared.option.Option.{Option}
-use Rattle.rh_window.specs.Sending.{may_send}
-use Rattle.rh_window.specs.declared.recv_window.Ack.{Ack}
-use Rattle.law_order.proofs.ByNumber.{by_test}
-use Rattle.rh_rts.specs.declared.command.Cookie.{Cookie}
-use Rattle.rh_sig.specs.declared.named.Named.{Named}
+use Rattle.law_order.proofs.Vocabulary.{◌≡◌, ◌⊎◌, ℕ, ◌+◌, ◌≤◌, ◌==◌, ◌&&◌, Bool, true, false, not, if◌then◌else◌, List, [], ◌∷◌, ◌++◌, length, Some, None, Ok, Err, inl, inr, refl, sym, ap, subst, ◌∙◌, arith, rules, and_parts, eqb-true, nat_tests, IfSome, Option}
 use Rattle.rh_sig.specs.declared.named.Named.TheVariants as named
 use Rattle.rh_line.specs.Lines as line
-use Rattle.rh_line.specs.declared.leg.Leg.{Leg}
-use Rattle.rh_line.specs.declared.which.Which.{Which}
-use Rattle.rh_line.specs.declared.which.Which.TheVariants.{Current, Next}
-use Rattle.rh_shell.specs.declared.answers.Count.{Count}
 use Rattle.rh_shell.specs.declared.answers.Refused.TheVariants as refused
-use Rattle.rh_shell.specs.declared.due.Due.{Due}
-use Rattle.rh_shell.specs.Rules.{Message, Pdu, Packet}
-use Rattle.rh_shell.specs.Shells.{one_if, same_leg}
 use Rattle.rh_shell.specs.Waiting as waiting
-use Rattle.rh_inproxy.specs.declared.opening.TheConstants.{KEEPALIVE}
-use Rattle.rh_inproxy.specs.declared.state.Entry.{Entry}
-use Rattle.rh_inproxy.specs.declared.state.Entry.TheVariants.{Connects, Replaces}
-use Rattle.rh_inproxy.specs.declared.state.InProxyConfig.{InProxyConfig}
-use Rattle.rh_inproxy.specs.declared.state.Joining.TheVariants.{TellsServer, Told as IsTold, Follows}
-use Rattle.rh_inproxy.specs.declared.state.Opener.{Opener}
-use Rattle.rh_inproxy.specs.declared.state.Opening.{Opening}
 use Rattle.rh_inproxy.specs.declared.state.Opening.TheVariants as openings
-use Rattle.rh_inproxy.specs.declared.state.Successor.{Successor}
-use Rattle.rh_inproxy.specs.declared.state.Successor.TheVariants.{Absent, Up, Joined}
-use Rattle.rh_inproxy.specs.Acknowledging.{forward_by, forwarded, ack_due, ack_by, current_ack, next_ack, put_acks}
-use Rattle.rh_inproxy.specs.Answers.{Done, Pick, or_else, refuse, taken, unexpected}
-use Rattle.rh_inproxy.specs.Ending.{mark, on_end_a1, put_end, settled_pick}
-use Rattle.rh_inproxy.specs.InReplacement.{is_newcomer, joined, join, on_later_in_r1_a1, on_in_r1_a5, finish_by, finished, hand_over, one_less, put_in_r1_a6, put_in_r2_a2, told_by}
-use Rattle.rh_inproxy.specs.Opening.{up, may_accept, accepts, accepted, wants, connected, head, drawn, announcement, awaits_packet, first_by, is_absent, is_first, kept_for, on_first_in_r1_a1, opened, opener, opener_of, put_echo, put_first}
-use Rattle.rh_inproxy.specs.Passing.{next_pdu, passed, put_pdu}
-use Rattle.rh_inproxy.specs.Putting.{put as put_of, next, waiting_by, put_waiting, put_control, put_early, put_stream, put_behind, put_mark}
-use Rattle.rh_inproxy.specs.State.{InProxy, first, channel_of, follows, has_a5, is_client_leg, is_server_leg, same_cookie}
-use Rattle.rh_inproxy.specs.Time.{on_keep_alive, ping, put_ping}
-use Rattle.rh_inproxy.specs.Machine.{pdu, packet, on_channel, on_channel_by, on_ci, on_is}
-use Rattle.rh_inproxy.specs.Machine.{rules as proxy_rules}
-use Rattle.law_moves.specs.Moves.{OnLeg, Move, started, all_moved}
-use Rattle.law_moves.specs.Wires.{of_leg}
-use Rattle.law_moves.specs.Passages.Passing.{Has, HasOne, count_of}
-use Rattle.law_moves.proofs.Passages.Logs.{RowKeeps, PutKeeps, StepsKeep, moves_keep}
-use Rattle.law_moves.proofs.Passages.Messages.{leg_more, last_one_so}
-use Rattle.law_moves.proofs.PacketKinds.Counts.{here_more, leg_is, one_counts}
-use Rattle.law_moves.proofs.PacketKinds.Waits.{waits, forwarded_waits}
-use Rattle.law_role_inproxy.specs.Counted.{is_leg}
-use Rattle.law_role_inproxy.specs.Refusing.{ci_leg}
-use Rattle.law_peers_expects.specs.InProxyExpects.Announcing as announcing
-use Rattle.law_peers_expects.specs.InProxyExpects.Announcing.{AnnouncesWhatCame, CameOn, IsFor}
+use Rattle.law_moves.proofs.Vocabulary.{may_send, Ack, by_test, Cookie, Named, Leg, Which, Current, Next, Count, Due, Message, Pdu, Packet, one_if, same_leg, OnLeg, Move, started, all_moved, of_leg, Has, HasOne, count_of}
+use Rattle.law_moves.proofs.Lemmas.{RowKeeps, PutKeeps, StepsKeep, moves_keep, leg_more, last_one_so, here_more, leg_is, one_counts, waits, forwarded_waits}
+use Rattle.law_role_inproxy.proofs.Vocabulary.{KEEPALIVE, Entry, Connects, Replaces, InProxyConfig, TellsServer, Told as IsTold, Follows, Opener, Opening, Successor, Absent, Up, Joined, forward_by, forwarded, ack_due, ack_by, current_ack, next_ack, put_acks, Done, Pick, or_else, refuse, taken, unexpected, mark, on_end_a1, put_end, settled_pick, is_newcomer, joined, join, on_later_in_r1_a1, on_in_r1_a5, finish_by, finished, hand_over, one_less, put_in_r1_a6, put_in_r2_a2}
+use Rattle.law_role_inproxy.proofs.Vocabulary.{told_by, up, may_accept, accepts, accepted, wants, connected, head, drawn, announcement, awaits_packet, first_by, is_absent, is_first, kept_for, on_first_in_r1_a1, opened, opener, opener_of, put_echo, put_first, next_pdu, passed, put_pdu, put as put_of, next, waiting_by, put_waiting, put_control, put_early, put_stream, put_behind, put_mark, InProxy, first, channel_of, follows, has_a5, is_client_leg, is_server_leg, same_cookie}
+use Rattle.law_role_inproxy.proofs.Vocabulary.{on_keep_alive, ping, put_ping, pdu, packet, on_channel, on_channel_by, on_ci, on_is, rules as proxy_rules, is_leg, ci_leg}
+use Rattle.law_role_inproxy.proofs.Refusing.Naming.{has_split, is_there}
+use Rattle.law_role_inproxy.proofs.Refusing.Steps.{awaits_none}
 use Rattle.law_peers_expects.proofs.InProxyExpects.Known.{Knows, Opened, Same, Seen, Told, announces, for_more, grows, same_drawn, same_end, same_head, same_is, same_keep_alive, same_mark, same_pdu, same_ping, same_settled, seen}
+use Rattle.law_peers_expects.specs.InProxyExpects.Announcing.{AnnouncesWhatCame, CameOn, IsFor}
+use Rattle.law_peers_expects.specs.InProxyExpects.Announcing as announcing
 
 no_ack : (to received available : ℕ) (channel : Cookie)
     → announces (named.AckTo to received available channel) ≡ false
 no_ack to received available channel = refl
-
-absent_is : (z : Successor) → is_absent z ≡ true → z ≡ Absent
-absent_is Absent e = refl
-absent_is (Up number) e = absurd cc
-absent_is (Joined leg stage) e = absurd cc
-
-awaits_none : (o : Opening) → awaits_packet o ≡ true → opener_of o ≡ None
-awaits_none openings.AwaitsPacket e = refl
-awaits_none openings.AwaitsClient e = absurd cc
-awaits_none (openings.WantsServer o) e = absurd cc
-awaits_none (openings.Announces o) e = absurd cc
-awaits_none (openings.Announced o) e = absurd cc
 
 -- ---- steps
 
@@ -481,21 +431,6 @@ module _ (n : ℕ) (s : InProxy) where
       (λ f. settled_goes (next s) next_goes) (λ f. tt))
 
 -- ---- what stands on the is leg
-
-has_split : (m : Named) (a b : List Message) → Has m (a ++ b) → Has m a ⊎ Has m b
-has_split m [] b h = inr h
-has_split m (x ∷ a) b (inl is) = inl (inl is)
-has_split m (x ∷ a) b (inr rest) = by (has_split m a b rest)
-  where
-    by : Has m a ⊎ Has m b → Has m (x ∷ a) ⊎ Has m b
-    by (inl front) = inl (inr front)
-    by (inr back) = inr back
-
-is_there : (m : Named) (x : Message) (t : Bool) → Has m (if t then x ∷ [] else [])
-    → x ≡ Packet m
-is_there m x true (inl is) = is
-is_there m x true (inr rest) = absurd rest
-is_there m x false h = absurd h
 
 module _ (n : ℕ) where
   abbrev pub Announces : List OnLeg → List OnLeg → Type 0

@@ -1,16 +1,10 @@
 -- what is read of a server's leg to an in proxy
-use Rattle.std.proofs.Common.{◌≡◌, ℕ, true, List, [], ◌∷◌, inl, inr, refl, sym, subst}
-use Rattle.std.specs.List.{AllByRecursion}
-use Rattle.rh_rts.specs.declared.command.Cookie.{Cookie}
-use Rattle.rh_sig.specs.declared.named.Named.{Named}
+use Rattle.law_order.proofs.Vocabulary.{◌≡◌, ℕ, true, List, [], ◌∷◌, inl, inr, refl, sym, subst, AllByRecursion}
 use Rattle.rh_sig.specs.declared.named.Named.TheVariants as named
-use Rattle.rh_shell.specs.Rules.{Message, Text, Pdu, Packet}
-use Rattle.law_moves.specs.Moves.{OnLeg}
-use Rattle.law_moves.specs.Wires.{of_leg}
-use Rattle.law_moves.specs.ReadBack.Reading.{all_read_of}
-use Rattle.law_moves.proofs.Passages.Messages.{one_so}
+use Rattle.law_moves.proofs.Vocabulary.{Cookie, Named, Message, Text, Pdu, Packet, OnLeg, of_leg, all_read_of}
+use Rattle.law_moves.proofs.Lemmas.{one_so}
 use Rattle.law_moves.specs.PacketKinds as at_proxy
-use Rattle.law_role_inproxy.specs.Counted.{is_leg}
+use Rattle.law_role_inproxy.proofs.Vocabulary.{is_leg}
 use Rattle.law_role_server.specs.Counted.Counting as at_server
 use Rattle.law_role_client_rows.specs.Putting.{IsPacket}
 use Rattle.law_role_server_rows.specs.Putting.Copying.{Begins}

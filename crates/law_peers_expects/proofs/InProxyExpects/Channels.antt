@@ -1,26 +1,13 @@
 -- what is read of a client's IN channel: the packet that begins it, and those behind it
-use Rattle.std.proofs.Common.{◌≡◌, ◌⊎◌, ℕ, zero, suc, false, List, [], ◌∷◌, ◌++◌, inl, inr, refl, sym, ap, subst}
-use Rattle.std.specs.List.{AllByRecursion}
-use mathlib.Core.List.{IsPrefix}
-use Rattle.rh_rts.specs.declared.command.Cookie.{Cookie}
-use Rattle.rh_http.specs.declared.config.ClientConfig.{ClientConfig}
-use Rattle.rh_sig.specs.declared.named.Named.{Named}
+use Rattle.law_order.proofs.Vocabulary.{◌≡◌, ◌⊎◌, ℕ, zero, suc, false, List, [], ◌∷◌, ◌++◌, inl, inr, refl, sym, ap, subst, AllByRecursion, IsPrefix}
 use Rattle.rh_sig.specs.declared.named.Named.TheVariants as named
-use Rattle.rh_line.specs.declared.leg.Leg.{Leg}
-use Rattle.rh_shell.specs.Hearing.{is_ping}
-use Rattle.rh_shell.specs.Rules.{Message, Text, Pdu, Packet}
-use Rattle.law_moves.specs.Moves.{EndMove}
-use Rattle.law_moves.specs.Wires.{of_leg}
-use Rattle.law_moves.specs.ReadBack.Reading.{all_read_of}
-use Rattle.law_moves.specs.Passages.Passing.{BeginsIn, HasOne, HasBegunIn}
-use Rattle.law_moves.specs.Passages.Rising.{HasComeUp}
-use Rattle.law_role_client.specs.Order.{client_moved}
-use Rattle.rh_client.specs.State.{ci}
+use Rattle.law_moves.proofs.Vocabulary.{Cookie, Named, ClientConfig, Leg, is_ping, Message, Text, Pdu, Packet, EndMove, of_leg, all_read_of, BeginsIn, HasOne, HasBegunIn, HasComeUp}
+use Rattle.law_role_inproxy.proofs.Vocabulary.{NamesConnection}
+use Rattle.law_role_client.proofs.Vocabulary.{ci, client_moved}
 use Rattle.law_role_client_rows.specs.Putting.{Begins, Direction, IsBegun, IsBehind, IsBehindPacket, IsPacket, OpenedBefore, OpensInChannels, in_way}
-use Rattle.law_role_inproxy.specs.Refusing.{NamesConnection}
 use Rattle.law_peers_expects.proofs.InProxyExpects.Fronts.{HasFirst, IsRead, next_stands, read_first, read_so}
 
-no_next : (came : List Message) (m : Message) → IsPrefix (came ++ m ∷ []) [] → ⊥
+pub no_next : (came : List Message) (m : Message) → IsPrefix (came ++ m ∷ []) [] → ⊥
 no_next [] m p = let e = p.1 in cc
 no_next (x ∷ came) m p = let e = p.1 in cc
 

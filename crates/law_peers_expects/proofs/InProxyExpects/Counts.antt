@@ -1,32 +1,18 @@
 -- what was counted along the ways of a virtual connection
-use Rattle.std.proofs.Common.{◌≡◌, ℕ, zero, suc, ◌+◌, ◌≤◌, Bool, true, false, not, if◌then◌else◌, List, [], ◌∷◌, refl, arith}
-use Rattle.rh_rts.specs.declared.command.Cookie.{Cookie}
-use Rattle.rh_sig.specs.declared.named.Named.{Named}
+use Rattle.law_order.proofs.Vocabulary.{◌≡◌, ℕ, zero, suc, ◌+◌, ◌≤◌, Bool, true, false, not, if◌then◌else◌, List, [], ◌∷◌, refl, arith}
 use Rattle.rh_sig.specs.declared.named.Named.TheVariants as named
-use Rattle.rh_line.specs.declared.leg.LegKind.{LegKind}
-use Rattle.rh_line.specs.declared.leg.LegKind.TheVariants.{ClientIn, ClientOut, InServer, OutServer}
-use Rattle.rh_shell.specs.Rules.{Message, Text, Pdu, Packet}
-use Rattle.rh_shell.specs.Shells.{one_if}
-use Rattle.rh_inproxy.specs.State.{InProxy}
-use Rattle.rh_outproxy.specs.OutProxy.{OutProxy}
-use Rattle.rh_client.specs.declared.state.ClientRole.{ClientRole}
-use Rattle.rh_server.specs.declared.state.Stage.{Stage}
 use Rattle.rh_server.specs.declared.state.Stage.TheVariants as stages
-use Rattle.rh_server.specs.States.{Server}
-use Rattle.law_moves.specs.Moves.{OnLeg, Passage}
-use Rattle.law_moves.specs.Passages.Passing.{count_of, of_kind}
+use Rattle.law_moves.proofs.Vocabulary.{Cookie, Named, LegKind, ClientIn, ClientOut, InServer, OutServer, Message, Text, Pdu, Packet, one_if, OnLeg, Passage, count_of, of_kind, count_on, sum_below, AreFronts, Logs}
+use Rattle.law_moves.proofs.Lemmas.{by_in_proxies, by_proxies, all_legs}
+use Rattle.law_moves.specs.Chains.Ways.{total}
 use Rattle.law_moves.specs.PacketKinds as at_proxy
-use Rattle.law_moves.specs.Chains.Sums.{count_on, sum_below}
-use Rattle.law_moves.specs.Chains.Ways.{AreFronts, Logs, total}
-use Rattle.law_moves.proofs.Chains.Along.{by_in_proxies, by_proxies}
-use Rattle.law_moves.proofs.Chains.Summing.{all_legs}
-use Rattle.law_role_inproxy.specs.Counted.{PutsForWhatCame}
+use Rattle.law_role_inproxy.proofs.Vocabulary.{InProxy, PutsForWhatCame}
+use Rattle.law_role_client.proofs.Vocabulary.{ClientRole, opened, in_asked}
 use Rattle.law_role_client.specs.Counted.Counting as at_client
-use Rattle.law_role_client.specs.Counted.Opening.{opened}
-use Rattle.law_role_client.specs.Counted.Replacing.{in_asked}
+use Rattle.law_role_server.proofs.Vocabulary.{Stage, Server, OpensOnce, since_conn_a2, since_conn_b2, since_open}
 use Rattle.law_role_server.specs.Counted.Counting as at_server
-use Rattle.law_role_server.specs.Counted.Opening.{OpensOnce, since_conn_a2, since_conn_b2, since_open}
-use Rattle.law_role_outproxy.specs.Counted.{ForwardsWhatCame, OpensWhatCame}
+use Rattle.law_role_outproxy.proofs.Vocabulary.{OutProxy, ForwardsWhatCame, OpensWhatCame}
+use Rattle.law_peers_moments.proofs.GoingRound.Rounding.{any}
 use Rattle.law_peers_moments.specs.GoingRound.{announced}
 use Rattle.law_peers_expects.proofs.InProxyExpects.Fronts.{same_counts}
 
@@ -55,9 +41,6 @@ sum_counts all one other is (Packet m ∷ ms) =
     let b = first_counts one m ms in
     let c = first_counts other m ms in
     omega (arith, rest, here, a, b, c)
-
-abbrev any : Cookie → Bool
-any cookie = true
 
 halves : (b : Bool) → 1 ≡ one_if b + one_if (not b)
 halves true = refl
@@ -89,11 +72,11 @@ asks : (m : Named) → at_proxy.is_in_r1_a1 any m ≡ at_client.is_in_r1_a1 m
 asks (named.InR1A1 version connection predecessor channel) = refl
 asks m = refl
 
-conn_c2 : (m : Named) → at_client.is_conn_c2 m ≡ at_proxy.is_conn_c2 m
+pub conn_c2 : (m : Named) → at_client.is_conn_c2 m ≡ at_proxy.is_conn_c2 m
 conn_c2 (named.ConnC2 version window timeout) = refl
 conn_c2 m = refl
 
-conn_c1 : (m : Named) → at_proxy.is_conn_c1 m ≡ at_server.is_conn_c1 m
+pub conn_c1 : (m : Named) → at_proxy.is_conn_c1 m ≡ at_server.is_conn_c1 m
 conn_c1 (named.ConnC1 version window timeout) = refl
 conn_c1 m = refl
 
@@ -109,7 +92,7 @@ conn_b1 : (m : Named) → at_proxy.is_conn_b1 m ≡ at_client.is_conn_b1 m
 conn_b1 (named.ConnB1 version connection channel lifetime keepalive group) = refl
 conn_b1 m = refl
 
-conn_a1 : (m : Named) → at_proxy.is_conn_a1 m ≡ at_client.is_conn_a1 m
+pub conn_a1 : (m : Named) → at_proxy.is_conn_a1 m ≡ at_client.is_conn_a1 m
 conn_a1 (named.ConnA1 version connection channel window) = refl
 conn_a1 m = refl
 

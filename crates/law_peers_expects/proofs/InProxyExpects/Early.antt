@@ -1,36 +1,17 @@
 -- no client is opened before it put the first packet of its first channels
-use Rattle.std.proofs.Common.{◌≡◌, ℕ, suc, ◌≤◌, Bool, true, List, [], ◌++◌, refl, ap, subst, arith}
-use Rattle.std.proofs.lemmas.Bool.Decides.{nat_tests}
-use Rattle.rh_sig.specs.declared.named.Named.{Named}
+use Rattle.law_order.proofs.Vocabulary.{◌≡◌, ℕ, ◌≤◌, Bool, true, List, [], ◌++◌, refl, ap, subst, arith, nat_tests}
 use Rattle.rh_sig.specs.declared.named.Named.TheVariants as named
-use Rattle.rh_line.specs.declared.leg.Leg.{Leg}
-use Rattle.rh_line.specs.declared.leg.LegKind.{LegKind}
-use Rattle.rh_line.specs.declared.leg.LegKind.TheVariants.{ClientIn, ClientOut}
-use Rattle.rh_shell.specs.Shells.{is_of}
-use Rattle.rh_client.specs.State.{ci, co}
-use Rattle.law_moves.specs.Moves.{EndMove, OnLeg}
-use Rattle.law_moves.specs.Wires.{of_leg}
-use Rattle.law_moves.specs.Passages.Passing.{count_of}
-use Rattle.law_moves.specs.Chains.Sums.{count_on}
-use Rattle.law_moves.proofs.Chains.Summing.{some_legs}
-use Rattle.law_role_inproxy.specs.Counted.{PutsForWhatCame}
-use Rattle.law_role_client.specs.Order.{client_moved}
-use Rattle.law_role_client.specs.Counted.Counting.{StandsOnEach, is_conn_a1, is_conn_b1, is_conn_c2, total}
-use Rattle.law_role_client.specs.Counted.Naming.{NamesIns, NamesOuts}
-use Rattle.law_role_client.specs.Counted.Opening.{opened}
-use Rattle.law_role_server.specs.Counted.Opening.{OpensOnce}
-use Rattle.law_role_outproxy.specs.Counted.{ForwardsWhatCame, OpensWhatCame}
+use Rattle.law_moves.proofs.Vocabulary.{Named, Leg, LegKind, ClientIn, ClientOut, is_of, EndMove, OnLeg, of_leg, count_of, count_on}
+use Rattle.law_role_inproxy.proofs.Vocabulary.{PutsForWhatCame}
+use Rattle.law_role_client.proofs.Vocabulary.{ci, co, client_moved, StandsOnEach, is_conn_a1, is_conn_b1, is_conn_c2, total, NamesIns, NamesOuts, opened}
+use Rattle.law_role_server.proofs.Vocabulary.{OpensOnce}
+use Rattle.law_role_outproxy.proofs.Vocabulary.{ForwardsWhatCame, OpensWhatCame}
 use Rattle.law_role_client_rows.specs.Putting.{HasOpened, OpenedBefore}
 use Rattle.law_peers_moments.proofs.GoingRound.Fronts.{are_fronts}
 use Rattle.law_peers_moments.specs.Moments.{AreMade, IsMoment, IsPast, Moves, Numbers, client_behind, in_behind, out_behind, passages, server_behind}
 use Rattle.law_peers_expects.proofs.InProxyExpects.Counts.{opened_behind}
 use Rattle.law_peers_expects.proofs.InProxyExpects.Fronts.{has_counts}
-
--- what stands on one leg stands on those of its kind
-pub on_kind : (test : Named → Bool) (kind : LegKind) (log : List OnLeg) (n : ℕ)
-    → count_on test kind log n ≤ total test kind log
-on_kind test kind log n =
-    let some = some_legs test kind log (suc n) in omega (arith, some)
+use Rattle.law_peers_expects.proofs.ClientExpects.More.{leg_within as on_kind}
 
 -- where any was put, one was put on the first leg
 first_put : (test : Named → Bool) (kind : LegKind) (log : List OnLeg)

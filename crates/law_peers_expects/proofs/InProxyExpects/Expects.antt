@@ -1,41 +1,23 @@
 -- an in proxy expects what comes next on its legs
-use Rattle.std.proofs.Common.{◌≡◌, ◌⊎◌, ℕ, ◌≤◌, List, [], ◌∷◌, ◌++◌, inl, inr, subst, arith, Err}
-use Rattle.std.specs.Prelude.{IsTrue}
-use mathlib.Core.List.{IsPrefix}
-use Rattle.rh_rts.specs.declared.command.Cookie.{Cookie}
-use Rattle.rh_sig.specs.declared.named.Named.{Named}
+use Rattle.law_order.proofs.Vocabulary.{◌≡◌, ◌⊎◌, ℕ, ◌≤◌, List, [], ◌∷◌, ◌++◌, inl, inr, subst, arith, Err, IsTrue, IsPrefix}
 use Rattle.rh_sig.specs.declared.named.Named.TheVariants as named
-use Rattle.rh_line.specs.declared.leg.Leg.{Leg}
-use Rattle.rh_shell.specs.declared.answers.Count.{Count}
-use Rattle.rh_shell.specs.declared.answers.Refused.{Refused}
 use Rattle.rh_shell.specs.declared.answers.Refused.TheVariants as refused
-use Rattle.law_moves.specs.Moves.{EndMove, Passage, is_in_use}
-use Rattle.rh_shell.specs.Rules.{Message, Pdu, Packet}
-use Rattle.law_moves.specs.Wires.{of_leg}
-use Rattle.law_role_client.specs.Order.{AreAllowedMoves, client_moved}
-use Rattle.rh_client.specs.State.{ci}
-use Rattle.rh_inproxy.specs.Machine.{rules}
-use Rattle.rh_inproxy.specs.State.{InProxy}
-use Rattle.law_moves.specs.ReadBack.Reading.{all_read_of}
-use Rattle.law_moves.specs.Passages.Counted.{Tells, packets}
-use Rattle.law_moves.specs.Passages.Passing.{BeginsIn, Has, HasBegunIn}
-use Rattle.law_moves.specs.Passages.Rising.{HasComeUp}
-use Rattle.law_moves.proofs.Passages.Messages.{has_last}
-use Rattle.law_role_client.specs.Counted.Replacing.{ReplacesIns}
+use Rattle.law_moves.proofs.Vocabulary.{Cookie, Named, Leg, Count, Refused, Message, Pdu, Packet, EndMove, Passage, is_in_use, of_leg, all_read_of, Tells, packets, BeginsIn, Has, HasBegunIn, HasComeUp}
+use Rattle.law_moves.proofs.Lemmas.{has_last}
+use Rattle.law_role_inproxy.proofs.Vocabulary.{rules, InProxy, is_leg, IsUntold, Mismatch, RefusesFor, Unexpected, UnexpectedPdu}
+use Rattle.law_role_client.proofs.Vocabulary.{ci, AreAllowedMoves, client_moved, ReplacesIns}
 use Rattle.law_role_client_rows.specs.Putting.{OpenedBefore}
 use Rattle.law_role_client_rows.specs.InTurn.Ends.{EndsAll, EndsByInR1A5, EndsOnce}
-use Rattle.law_role_inproxy.specs.Counted.{is_leg}
-use Rattle.law_role_inproxy.specs.Refusing.{IsUntold, Mismatch, RefusesFor, Unexpected, UnexpectedPdu}
-use Rattle.law_peers_moments.specs.Expecting.{Expects, IsAhead, IsAmiss}
-use Rattle.law_peers_moments.specs.Moments.{IsJoined, IsMoment, Moves, Numbers, Passages, ReadInTurn, client_behind, in_behind, passages}
 use Rattle.law_peers_moments.proofs.Joining.{in_front, is_front}
 use Rattle.law_peers_moments.proofs.Read.{front_has, front_one}
-use Rattle.law_peers_expects.specs.InProxyExpects.Expected.{AreReadWhereUp}
+use Rattle.law_peers_moments.specs.Expecting.{Expects, IsAhead, IsAmiss}
+use Rattle.law_peers_moments.specs.Moments.{IsJoined, IsMoment, Moves, Numbers, Passages, ReadInTurn, client_behind, in_behind, passages}
 use Rattle.law_peers_expects.proofs.InProxyExpects.Channels.{begun_up}
-use Rattle.law_peers_expects.proofs.InProxyExpects.OnClient as on_client
-use Rattle.law_peers_expects.proofs.InProxyExpects.OnServer as on_server
 use Rattle.law_peers_expects.proofs.InProxyExpects.OnServer.{Answers}
 use Rattle.law_peers_expects.proofs.InProxyExpects.Untold.{Laws, told_before}
+use Rattle.law_peers_expects.proofs.InProxyExpects.OnClient as on_client
+use Rattle.law_peers_expects.proofs.InProxyExpects.OnServer as on_server
+use Rattle.law_peers_expects.specs.InProxyExpects.Expected.{AreReadWhereUp}
 
 -- ---- of the answers that refuse
 

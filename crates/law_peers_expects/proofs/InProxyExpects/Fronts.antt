@@ -1,13 +1,6 @@
 -- what comes next of a list, and what stands before it there
-use Rattle.std.proofs.Common.{◌≡◌, ◌⊎◌, ℕ, suc, ◌≤◌, Bool, true, false, if◌then◌else◌, List, [], ◌∷◌, ◌++◌, inl, inr, arith, refl, ap, subst}
-use Rattle.std.specs.List.{AllByRecursion}
-use mathlib.Core.List.{IsPrefix}
-use Rattle.rh_sig.specs.declared.named.Named.{Named}
-use Rattle.rh_shell.specs.Hearing.{is_ping}
-use Rattle.rh_shell.specs.Rules.{Message, Text, Pdu, Packet}
-use Rattle.law_moves.specs.ReadBack.Reading.{all_read_of}
-use Rattle.law_moves.specs.Passages.Counted.{packets}
-use Rattle.law_moves.specs.Passages.Passing.{count_of, Has, HasOne}
+use Rattle.law_order.proofs.Vocabulary.{◌≡◌, ◌⊎◌, ℕ, suc, ◌≤◌, Bool, true, false, if◌then◌else◌, List, [], ◌∷◌, ◌++◌, inl, inr, arith, refl, ap, subst, AllByRecursion, IsPrefix}
+use Rattle.law_moves.proofs.Vocabulary.{Named, is_ping, Message, Text, Pdu, Packet, all_read_of, packets, count_of, Has, HasOne}
 use Rattle.law_role_client_rows.specs.Putting.{IsPacket}
 
 -- ---- a front
@@ -29,17 +22,6 @@ last_so Q (x ∷ came) m h = last_so Q came m h.1
 pub next_so : (Q : Message → Type 0) (came all : List Message) (m : Message)
     → IsPrefix (came ++ m ∷ []) all → AllByRecursion Q all → Q m
 next_so Q came all m p h = last_so Q came m (front_so Q (came ++ m ∷ []) all p h)
-
--- what came before it is a front as well
-pub before_next : (came all : List Message) (m : Message) → IsPrefix (came ++ m ∷ []) all
-    → IsPrefix came all
-before_next [] all m p = (all, refl)
-before_next (x ∷ came) [] m p = absurd (let e = p.1 in cc)
-before_next (x ∷ came) (y ∷ all) m p =
-    let same : x ≡ y = (let e = p.1 in cc) in
-    let rest : ((came ++ m ∷ []) ++ p.0) ≡ all = (let e = p.1 in cc) in
-    let front = before_next came all m (p.0, rest) in
-    let tail = front.1 in (front.0, (let both : (x ∷ (came ++ front.0)) ≡ y ∷ all = cc in both))
 
 -- ---- the first, and those behind it
 

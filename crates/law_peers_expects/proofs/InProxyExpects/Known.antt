@@ -1,29 +1,11 @@
 -- what an in proxy knows of the packet that opened it, and what leaves that alone
-use Rattle.std.proofs.Common.{◌≡◌, ℕ, Bool, true, false, if◌then◌else◌, List, [], ◌∷◌, ◌++◌, Some, None, refl, sym, ◌∙◌, subst, rules}
-use Rattle.std.specs.declared.option.Option.{Option}
-use Rattle.law_order.proofs.ByNumber.{by_test}
-use Rattle.rh_sig.specs.declared.named.Named.{Named}
+use Rattle.law_order.proofs.Vocabulary.{◌≡◌, ℕ, Bool, true, false, if◌then◌else◌, List, [], ◌∷◌, ◌++◌, Some, None, refl, sym, ◌∙◌, subst, rules, Option}
 use Rattle.rh_sig.specs.declared.named.Named.TheVariants as named
-use Rattle.rh_line.specs.declared.leg.Leg.{Leg}
-use Rattle.rh_line.specs.declared.which.Which.{Which}
-use Rattle.rh_shell.specs.declared.answers.Count.{Count}
-use Rattle.rh_shell.specs.declared.due.Due.{Due}
-use Rattle.rh_inproxy.specs.declared.state.Entry.{Entry}
-use Rattle.rh_inproxy.specs.declared.state.Entry.TheVariants.{Connects, Replaces}
-use Rattle.rh_inproxy.specs.declared.state.Opener.{Opener}
-use Rattle.rh_inproxy.specs.Ending.{is_newest, mark, on_end_a1, settled}
-use Rattle.rh_inproxy.specs.Opening.{head, drawn, is_absent, opener_of}
-use Rattle.rh_inproxy.specs.State.{InProxy}
-use Rattle.rh_inproxy.specs.Time.{on_keep_alive, ping}
-use Rattle.rh_inproxy.specs.Machine.{pdu, on_is}
-use Rattle.law_moves.specs.Moves.{OnLeg}
-use Rattle.law_moves.specs.Wires.{of_leg}
-use Rattle.law_moves.specs.Passages.Passing.{HasOne}
-use Rattle.law_moves.proofs.Passages.Messages.{leg_more, one_more_so}
-use Rattle.law_moves.proofs.PacketKinds.Waits.{waits}
-use Rattle.law_role_inproxy.specs.Refusing.{ci_leg}
-use Rattle.law_peers_expects.specs.InProxyExpects.Announcing as announcing
+use Rattle.law_moves.proofs.Vocabulary.{by_test, Named, Leg, Which, Count, Due, OnLeg, of_leg, HasOne}
+use Rattle.law_moves.proofs.Lemmas.{leg_more, one_more_so, waits}
+use Rattle.law_role_inproxy.proofs.Vocabulary.{Entry, Connects, Replaces, Opener, is_newest, mark, on_end_a1, settled, head, drawn, is_absent, opener_of, InProxy, on_keep_alive, ping, pdu, on_is, ci_leg}
 use Rattle.law_peers_expects.specs.InProxyExpects.Announcing.{CameOn, IsFor}
+use Rattle.law_peers_expects.specs.InProxyExpects.Announcing as announcing
 
 -- CONN/B2 or IN_R1/A2
 abbrev pub announces : Named → Bool

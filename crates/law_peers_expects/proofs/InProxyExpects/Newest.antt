@@ -1,42 +1,15 @@
 -- the newest ci leg of an in proxy changes where one comes up alone
-use Rattle.std.proofs.Common.{◌≡◌, ℕ, ◌==◌, ◌&&◌, Bool, true, false, not, if◌then◌else◌, List, [], ◌∷◌, length, Some, None, refl, sym, ap, ◌∙◌, rules}
-use Rattle.std.proofs.lemmas.Bool.{and_parts, eqb-true}
-use Rattle.std.specs.Prelude.{IfSome}
-use Rattle.std.specs.declared.option.Option.{Option}
-use Rattle.rh_window.specs.Sending.{may_send}
-use Rattle.rh_window.specs.declared.recv_window.Ack.{Ack}
-use Rattle.law_order.proofs.ByNumber.{by_test}
-use Rattle.rh_rts.specs.declared.command.Cookie.{Cookie}
-use Rattle.rh_sig.specs.declared.named.Named.{Named}
+use Rattle.law_order.proofs.Vocabulary.{◌≡◌, ℕ, ◌==◌, ◌&&◌, Bool, true, false, not, if◌then◌else◌, List, [], ◌∷◌, length, Some, None, refl, sym, ap, ◌∙◌, rules, and_parts, IfSome, Option}
 use Rattle.rh_sig.specs.declared.named.Named.TheVariants as named
 use Rattle.rh_line.specs.Lines as line
-use Rattle.rh_line.specs.declared.leg.Leg.{Leg}
-use Rattle.rh_line.specs.declared.which.Which.{Which}
-use Rattle.rh_line.specs.declared.which.Which.TheVariants.{Current, Next}
-use Rattle.rh_shell.specs.declared.answers.Count.{Count}
 use Rattle.rh_shell.specs.declared.answers.Refused.TheVariants as refused
-use Rattle.rh_shell.specs.declared.due.Due.{Due}
-use Rattle.rh_shell.specs.Rules.{Message, Pdu, Packet}
 use Rattle.rh_shell.specs.Waiting as waiting
-use Rattle.rh_inproxy.specs.declared.opening.TheConstants.{KEEPALIVE}
-use Rattle.rh_inproxy.specs.declared.state.ClientLeg.{ClientLeg}
-use Rattle.rh_inproxy.specs.declared.state.Entry.TheVariants.{Connects, Replaces}
-use Rattle.rh_inproxy.specs.declared.state.Joining.TheVariants.{TellsServer, Told, Follows}
-use Rattle.rh_inproxy.specs.declared.state.Opener.{Opener}
-use Rattle.rh_inproxy.specs.declared.state.Opening.{Opening}
 use Rattle.rh_inproxy.specs.declared.state.Opening.TheVariants as openings
-use Rattle.rh_inproxy.specs.declared.state.Successor.{Successor}
-use Rattle.rh_inproxy.specs.declared.state.Successor.TheVariants.{Absent, Up, Joined}
-use Rattle.rh_inproxy.specs.Acknowledging.{forward_by, forwarded, ack_due, ack_by, current_ack, next_ack, put_acks}
-use Rattle.rh_inproxy.specs.Answers.{Done, Pick, or_else, refuse, taken, unexpected}
-use Rattle.rh_inproxy.specs.Ending.{is_newest, mark, on_end_a1, put_end, settled, settled_pick}
-use Rattle.rh_inproxy.specs.InReplacement.{is_newcomer, joined, join, on_later_in_r1_a1, on_in_r1_a5, finish_by, finished, hand_over, one_less, put_in_r1_a6, put_in_r2_a2, told_by}
-use Rattle.rh_inproxy.specs.Opening.{head, drawn, awaits_packet, first_by, had_client, is_first, kept_for, leg_of, newest_by, on_first_in_r1_a1, opened, opener, opener_of, put_echo, put_first}
-use Rattle.rh_inproxy.specs.Passing.{next_pdu, passed, put_pdu}
-use Rattle.rh_inproxy.specs.Putting.{put as put_of, next, waiting_by, put_waiting, put_control, put_early, put_stream, put_behind, put_mark}
-use Rattle.rh_inproxy.specs.State.{InProxy, channel_of, follows, has_a5, is_client_leg, is_server_leg, same_cookie}
-use Rattle.rh_inproxy.specs.Time.{on_keep_alive, ping, put_ping}
-use Rattle.rh_inproxy.specs.Machine.{pdu, packet, on_channel, on_channel_by, on_ci, on_is}
+use Rattle.law_moves.proofs.Vocabulary.{may_send, Ack, by_test, Cookie, Named, Leg, Which, Current, Next, Count, Due, Message, Pdu, Packet}
+use Rattle.law_role_inproxy.proofs.Vocabulary.{KEEPALIVE, ClientLeg, Connects, Replaces, TellsServer, Told, Follows, Opener, Opening, Successor, Absent, Up, Joined, forward_by, forwarded, ack_due, ack_by, current_ack, next_ack, put_acks, Done, Pick, or_else, refuse, taken, unexpected, is_newest, mark, on_end_a1, put_end, settled, settled_pick, is_newcomer, joined, join, on_later_in_r1_a1, on_in_r1_a5, finish_by, finished, hand_over, one_less, put_in_r1_a6, put_in_r2_a2}
+use Rattle.law_role_inproxy.proofs.Vocabulary.{told_by, head, drawn, awaits_packet, first_by, had_client, is_first, kept_for, leg_of, newest_by, on_first_in_r1_a1, opened, opener, opener_of, put_echo, put_first, next_pdu, passed, put_pdu, put as put_of, next, waiting_by, put_waiting, put_control, put_early, put_stream, put_behind, put_mark, InProxy, channel_of, follows, has_a5, is_client_leg, is_server_leg, same_cookie, on_keep_alive, ping, put_ping, pdu, packet, on_channel}
+use Rattle.law_role_inproxy.proofs.Vocabulary.{on_channel_by, on_ci, on_is}
+use Rattle.law_role_inproxy.proofs.Refusing.Steps.{newcomer_is}
 
 -- what is seen: the newest ci leg, and whether any came up
 pub record Seen : Type 0 where
@@ -101,11 +74,6 @@ awaits_is openings.AwaitsClient e = absurd cc
 awaits_is (openings.WantsServer o) e = absurd cc
 awaits_is (openings.Announces o) e = absurd cc
 awaits_is (openings.Announced o) e = absurd cc
-
-newcomer_is : (z : Successor) (k : ℕ) → is_newcomer z k ≡ true → z ≡ Up k
-newcomer_is (Up number) k e = ap Up (eqb-true number k e)
-newcomer_is Absent k e = absurd cc
-newcomer_is (Joined leg stage) k e = absurd cc
 
 module _ (s : InProxy) where
   abbrev Keeps : Done → Type 0

@@ -1,28 +1,12 @@
 -- what comes next on a ci leg is expected there, and names the cookies that are
-use Rattle.std.proofs.Common.{◌≡◌, ◌⊎◌, ℕ, zero, suc, ◌<◌, ◌≤◌, Bool, true, false, List, [], ◌∷◌, ◌++◌, inl, inr, refl, sym, ap, ◌∙◌, subst, arith}
-use Rattle.std.proofs.lemmas.Bool.{cases_eq}
-use Rattle.std.specs.List.{AllByRecursion}
-use mathlib.Core.List.{IsPrefix}
-use Rattle.rh_rts.specs.declared.command.Cookie.{Cookie}
-use Rattle.rh_http.specs.declared.config.ClientConfig.{ClientConfig}
-use Rattle.rh_sig.specs.declared.named.Named.{Named}
+use Rattle.law_order.proofs.Vocabulary.{◌≡◌, ◌⊎◌, ℕ, zero, suc, ◌<◌, ◌≤◌, Bool, true, false, List, [], ◌∷◌, ◌++◌, inl, inr, refl, sym, ap, ◌∙◌, subst, arith, cases_eq, AllByRecursion, IsPrefix}
 use Rattle.rh_sig.specs.declared.named.Named.TheVariants as named
-use Rattle.rh_line.specs.declared.leg.Leg.{Leg}
-use Rattle.rh_shell.specs.Rules.{Message, Text, Pdu, Packet}
-use Rattle.law_moves.specs.Moves.{EndMove, Passage}
-use Rattle.law_moves.specs.Wires.{of_leg}
-use Rattle.rh_inproxy.specs.State.{InProxy}
-use Rattle.law_moves.specs.ReadBack.Reading.{all_read_of}
-use Rattle.law_moves.specs.Passages.Counted.{packets}
-use Rattle.law_moves.specs.Passages.Passing.{BeginsIn, Has, HasBegunIn}
-use Rattle.law_moves.specs.Passages.Rising.{HasComeUp}
-use Rattle.law_moves.proofs.Passages.Messages.{has_last}
-use Rattle.law_role_client.specs.Order.{client_moved}
-use Rattle.rh_client.specs.State.{ci}
+use Rattle.law_moves.proofs.Vocabulary.{Cookie, Named, ClientConfig, Leg, Message, Text, Pdu, Packet, EndMove, Passage, of_leg, all_read_of, packets, BeginsIn, Has, HasBegunIn, HasComeUp, is_in_r1_a5}
+use Rattle.law_moves.proofs.Lemmas.{has_last}
+use Rattle.law_role_inproxy.proofs.Vocabulary.{InProxy, HasPacket, HasPduIn, IsEnded, IsLeft, IsNew, IsUntold, MismatchOnClient, NamesConnection, UnexpectedOnClient}
+use Rattle.law_role_client.proofs.Vocabulary.{ci, client_moved}
 use Rattle.law_role_client_rows.specs.Putting.{IsBehind, IsBehindPacket, IsPacket, OpenedBefore, OpensInChannels}
 use Rattle.law_role_client_rows.specs.InTurn.Ends.{EndsByInR1A5, EndsOnce, EndsAll, HasNoPdu, IsNoEnd, IsNoPdu}
-use Rattle.law_moves.specs.PacketKinds.{is_in_r1_a5}
-use Rattle.law_role_inproxy.specs.Refusing.{HasPacket, HasPduIn, IsEnded, IsLeft, IsNew, IsUntold, MismatchOnClient, NamesConnection, UnexpectedOnClient}
 use Rattle.law_peers_moments.proofs.Read.{front_has, front_one}
 use Rattle.law_peers_expects.proofs.InProxyExpects.Fronts.{AreBehind, HasFirst, IsNoPing, are_behind, first_counts, front_so, has_counts, next_behind, next_so, read_behind, read_no_ping, read_so}
 use Rattle.law_peers_expects.proofs.InProxyExpects.Channels.{Begin, IsNext, Next, begun_up, comes_next, connection_by, connection_is, put}

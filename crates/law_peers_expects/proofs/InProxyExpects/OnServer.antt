@@ -1,25 +1,13 @@
 -- what comes next on the leg to the server is expected there, and names the cookie that is
-use Rattle.std.proofs.Common.{◌≡◌, ◌⊎◌, ℕ, ◌≤◌, Bool, true, false, List, [], ◌∷◌, ◌++◌, inl, inr, refl, sym, ap, ◌∙◌, subst, arith}
-use Rattle.std.specs.List.{AllByRecursion}
-use mathlib.Core.List.{IsPrefix}
-use Rattle.rh_rts.specs.declared.command.Cookie.{Cookie}
-use Rattle.rh_sig.specs.declared.named.Named.{Named}
+use Rattle.law_order.proofs.Vocabulary.{◌≡◌, ◌⊎◌, ℕ, ◌≤◌, Bool, true, false, List, [], ◌∷◌, ◌++◌, inl, inr, refl, sym, ap, ◌∙◌, subst, arith, AllByRecursion, IsPrefix}
 use Rattle.rh_sig.specs.declared.named.Named.TheVariants as named
-use Rattle.rh_line.specs.declared.leg.LegKind.TheVariants.{ClientIn}
-use Rattle.rh_shell.specs.Rules.{Message, Text, Pdu, Packet}
-use Rattle.law_moves.specs.Moves.{Passage}
-use Rattle.law_moves.specs.Wires.{of_leg}
-use Rattle.rh_inproxy.specs.State.{InProxy}
-use Rattle.law_moves.specs.ReadBack.Reading.{all_read_of}
-use Rattle.law_moves.specs.Passages.Passing.{BeginsIn, Has, HasOne, HasBegunIn, count_of, of_kind}
-use Rattle.law_moves.proofs.Passages.Messages.{one_so}
+use Rattle.law_moves.proofs.Vocabulary.{Cookie, Named, ClientIn, Message, Text, Pdu, Packet, Passage, of_leg, all_read_of, BeginsIn, Has, HasOne, HasBegunIn, count_of, of_kind, is_conn_b1, is_conn_b2, is_in_r1_a1, is_in_r1_a6, opens_server}
+use Rattle.law_moves.proofs.Lemmas.{one_so}
+use Rattle.law_role_inproxy.proofs.Vocabulary.{InProxy, PutsForWhatCame, is_leg, MismatchOnServer, UnexpectedOnServer, any, ci_leg}
 use Rattle.law_role_client_rows.specs.Putting.{IsPacket}
-use Rattle.law_role_inproxy.specs.Counted.{PutsForWhatCame, is_leg}
-use Rattle.law_moves.specs.PacketKinds.{is_conn_b1, is_conn_b2, is_in_r1_a1, is_in_r1_a6, opens_server}
-use Rattle.law_role_inproxy.specs.Refusing.{MismatchOnServer, UnexpectedOnServer, any, ci_leg}
-use Rattle.law_peers_expects.specs.InProxyExpects.Announcing.{AnnouncesWhatCame, Connects, IsFor, Replaces}
 use Rattle.law_peers_moments.proofs.Read.{front_one}
 use Rattle.law_peers_expects.proofs.InProxyExpects.Fronts.{HasFirst, IsRead, next_so, next_stands, one_counts}
+use Rattle.law_peers_expects.specs.InProxyExpects.Announcing.{AnnouncesWhatCame, Connects, IsFor, Replaces}
 
 -- ---- what a server answers an in proxy
 

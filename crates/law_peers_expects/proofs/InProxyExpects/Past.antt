@@ -1,29 +1,10 @@
 -- what a client's passage was before it put an IN_R1/A5, and that nothing goes from a log
-use Rattle.std.proofs.Common.{◌≡◌, ◌⊎◌, ℕ, ◌<◌, ◌≤◌, Bool, true, false, List, [], ◌∷◌, ◌++◌, Some, None, Ok, Err, inl, inr, refl, sym, ap, subst, arith, append_assoc}
-use Rattle.std.proofs.lemmas.Bool.Decides.{nat_tests}
-use Rattle.std.specs.Prelude.{nat_le}
-use Rattle.std.specs.declared.option.Option.{Option}
-use Rattle.std.specs.declared.result.Result.{Result}
-use mathlib.Core.List.{IsPrefix}
-use Rattle.rh_http.specs.declared.config.ClientConfig.{ClientConfig}
-use Rattle.rh_sig.specs.declared.named.Named.{Named}
-use Rattle.rh_line.specs.declared.leg.Leg.{Leg}
-use Rattle.rh_line.specs.declared.leg.LegKind.TheVariants.{ClientIn, ClientOut}
-use Rattle.rh_shell.specs.declared.end_role.GiveRefused.{GiveRefused}
-use Rattle.rh_shell.specs.Rules.{Acts, Message, Row, Rules, Pdu, Packet}
-use Rattle.law_moves.specs.Moves.{OnLeg, Move, Up, HeadCame, PduCame, PacketCame, Puts, IsDrawn, Marks, Pings, Passage, moved, all_moved, taken_by, put_by, EndMove, Moves, Gives, Takes, Closes, Recycles, EndPassage, end_moved, all_end_moved, end_now_at, given_by, with_first, AreAllowedAtEnd}
-use Rattle.law_moves.specs.Wires.{of_leg}
-use Rattle.rh_client.specs.declared.replacement.Replacement.{Replacement}
+use Rattle.law_order.proofs.Vocabulary.{◌≡◌, ◌⊎◌, ℕ, ◌<◌, ◌≤◌, Bool, true, false, List, [], ◌∷◌, ◌++◌, Some, None, Ok, Err, inl, inr, refl, sym, ap, subst, arith, append_assoc, nat_tests, nat_le, Option, Result, IsPrefix}
 use Rattle.rh_client.specs.declared.replacement.Replacement.TheVariants as replacing
 use Rattle.rh_client.specs.declared.replacement.InStage.TheVariants as in_stage
-use Rattle.rh_client.specs.declared.state.ClientRole.{ClientRole}
-use Rattle.rh_client.specs.Client.{acts, rules}
-use Rattle.law_role_client.specs.Order.{AreAllowedMoves, client_moved, client_started}
-use Rattle.law_moves.specs.Passages.Passing.{HasOne}
-use Rattle.law_moves.proofs.Passages.Logs.{RowKeeps, PutKeeps, StepsKeep, moves_keep}
-use Rattle.law_moves.proofs.Passages.Messages.{leg_more, one_more_so}
-use Rattle.law_role_client.specs.Counted.Counting.{is_in_a4, is_in_r1_a5, total}
-use Rattle.law_role_client.specs.Counted.Replacing.{InIsAt, ReplacesIns, in_answered, in_asked, in_handed_over}
+use Rattle.law_moves.proofs.Vocabulary.{Named, ClientConfig, Leg, ClientIn, ClientOut, GiveRefused, Acts, Message, Row, Rules, Pdu, Packet, OnLeg, Move, Up, HeadCame, PduCame, PacketCame, Puts, IsDrawn, Marks, Pings, Passage, moved, all_moved, taken_by, put_by, EndMove, Moves, Gives, Takes, Closes, Recycles, EndPassage, end_moved, all_end_moved, end_now_at, given_by, with_first, AreAllowedAtEnd, of_leg, HasOne}
+use Rattle.law_moves.proofs.Lemmas.{RowKeeps, PutKeeps, StepsKeep, moves_keep, leg_more, one_more_so}
+use Rattle.law_role_client.proofs.Vocabulary.{Replacement, ClientRole, acts, rules, AreAllowedMoves, client_moved, client_started, is_in_a4, is_in_r1_a5, total, InIsAt, ReplacesIns, in_answered, in_asked, in_handed_over}
 
 -- ---- a move either takes or puts
 

@@ -1,35 +1,16 @@
 -- each ci leg of an in proxy that was up came up by one of its moves
-use Rattle.std.proofs.Common.{◌≡◌, ◌⊎◌, ℕ, suc, ◌≤◌, ◌==◌, ◌||◌, Bool, true, false, if◌then◌else◌, List, [], ◌∷◌, Some, None, Ok, Err, inl, inr, refl, sym, ap, subst, arith}
-use Rattle.std.proofs.lemmas.Bool.{and_parts}
-use Rattle.std.proofs.lemmas.Bool.Decides.{nat_tests}
-use Rattle.std.specs.List.{list_any}
-use Rattle.std.specs.declared.option.Option.{Option}
-use Rattle.law_order.proofs.ByNumber.{by_test}
-use Rattle.rh_line.specs.declared.leg.Leg.{Leg}
-use Rattle.rh_shell.specs.Rules.{Message, Pdu, Packet}
-use Rattle.rh_shell.specs.Shells.{same_leg}
-use Rattle.rh_inproxy.specs.declared.state.InProxyConfig.{InProxyConfig}
-use Rattle.rh_inproxy.specs.declared.state.Opener.{Opener}
-use Rattle.rh_inproxy.specs.declared.state.Opening.{Opening}
+use Rattle.law_order.proofs.Vocabulary.{◌≡◌, ◌⊎◌, ℕ, suc, ◌≤◌, ◌==◌, ◌||◌, Bool, true, false, if◌then◌else◌, List, [], ◌∷◌, Some, None, Ok, Err, inl, inr, refl, sym, ap, subst, arith, and_parts, nat_tests, list_any, Option}
 use Rattle.rh_inproxy.specs.declared.state.Opening.TheVariants as openings
-use Rattle.rh_inproxy.specs.declared.state.Successor.{Successor}
-use Rattle.rh_inproxy.specs.declared.state.Successor.TheVariants.{Absent, Up as IsUp, Joined}
-use Rattle.rh_inproxy.specs.Answers.{Done, Pick}
-use Rattle.rh_inproxy.specs.Ending.{mark}
-use Rattle.rh_inproxy.specs.Opening.{up, may_accept, accepts, accepts_later, accepted, wants, connected, drawn, had_client, head, is_absent, newest_by, opener_of}
-use Rattle.rh_inproxy.specs.Putting.{put as put_of}
-use Rattle.rh_inproxy.specs.State.{InProxy, first, is_client_leg}
-use Rattle.rh_inproxy.specs.Time.{ping}
-use Rattle.rh_inproxy.specs.Machine.{packet, pdu, rules}
-use Rattle.rh_client.specs.State.{ci}
-use Rattle.law_moves.specs.Moves.{Move, Up, HeadCame, PduCame, PacketCame, Puts, IsDrawn, Marks, Pings, OnLeg, Passage, all_moved, moved, put_by, started, taken_by}
-use Rattle.law_moves.proofs.Passages.Logs.{moves_keep}
+use Rattle.law_moves.proofs.Vocabulary.{by_test, Leg, Message, Pdu, Packet, same_leg, Move, Up, HeadCame, PduCame, PacketCame, Puts, IsDrawn, Marks, Pings, OnLeg, Passage, all_moved, moved, put_by, started, taken_by}
+use Rattle.law_moves.proofs.Lemmas.{moves_keep}
+use Rattle.law_role_inproxy.proofs.Vocabulary.{InProxyConfig, Opener, Opening, Successor, Absent, Up as IsUp, Joined, Done, Pick, mark, up, may_accept, accepts, accepts_later, accepted, wants, connected, drawn, had_client, head, is_absent, newest_by, opener_of, put as put_of, InProxy, first, is_client_leg, ping, packet, pdu, rules}
+use Rattle.law_role_client.proofs.Vocabulary.{ci}
 use Rattle.law_node_streams.specs.Streams.{is_up_on}
-use Rattle.law_peers_expects.specs.InProxyExpects.Expected.{CameUpByMoves}
 use Rattle.law_peers_expects.proofs.InProxyExpects.Announces.{Holds, starts, steps}
+use Rattle.law_peers_expects.proofs.InProxyExpects.Newest.{Seen, Same, same_drawn, same_head, same_mark, same_packet, same_pdu, same_ping, put_goes, seen}
 use Rattle.law_peers_expects.proofs.InProxyExpects.Known as known
 use Rattle.law_peers_expects.proofs.InProxyExpects.Newest as newest
-use Rattle.law_peers_expects.proofs.InProxyExpects.Newest.{Seen, Same, same_drawn, same_head, same_mark, same_packet, same_pdu, same_ping, put_goes, seen}
+use Rattle.law_peers_expects.specs.InProxyExpects.Expected.{CameUpByMoves}
 
 -- ---- a ci leg that was up
 

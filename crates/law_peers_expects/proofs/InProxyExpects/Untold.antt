@@ -1,43 +1,26 @@
 -- where IN_R1/A5 comes next, its in proxy told the server of the next channel
-use Rattle.std.proofs.Common.{◌≡◌, ◌⊎◌, ℕ, zero, suc, ◌+◌, ◌<◌, ◌≤◌, Bool, true, List, [], ◌∷◌, ◌++◌, inl, inr, refl, sym, ap, ◌∙◌, subst, arith}
-use Rattle.std.proofs.lemmas.Bool.Decides.{nat_tests}
-use Rattle.std.proofs.lemmas.Slice.Eq.{bytes_eq-Decides}
-use Rattle.rh_rts.specs.declared.command.Cookie.{Cookie}
-use Rattle.rh_sig.specs.declared.named.Named.{Named}
+use Rattle.law_order.proofs.Vocabulary.{◌≡◌, ◌⊎◌, ℕ, zero, suc, ◌+◌, ◌<◌, ◌≤◌, Bool, true, List, inl, inr, refl, sym, ap, ◌∙◌, subst, arith, nat_tests, bytes_eq-Decides}
 use Rattle.rh_sig.specs.declared.named.Named.TheVariants as named
-use Rattle.rh_line.specs.declared.leg.Leg.{Leg}
-use Rattle.rh_line.specs.declared.leg.LegKind.{LegKind}
-use Rattle.rh_line.specs.declared.leg.LegKind.TheVariants.{ClientIn}
-use Rattle.rh_shell.specs.Shells.{is_of}
-use Rattle.rh_inproxy.specs.Machine.{rules}
-use Rattle.rh_inproxy.specs.State.{InProxy, first, same_cookie}
-use Rattle.rh_client.specs.State.{ci}
-use Rattle.law_moves.specs.Moves.{EndMove, OnLeg, Passage, started}
-use Rattle.law_moves.specs.Wires.{of_leg}
-use Rattle.law_moves.specs.Passages.Passing.{BeginsIn, Has, HasOne, HasBegunIn}
-use Rattle.law_moves.specs.Passages.Rising.{HasComeUp}
-use Rattle.law_moves.proofs.Passages.Messages.{one_so}
+use Rattle.law_moves.proofs.Vocabulary.{Cookie, Named, LegKind, ClientIn, is_of, EndMove, OnLeg, Passage, started, of_leg, BeginsIn, Has, HasOne, HasBegunIn, HasComeUp, count_on}
+use Rattle.law_moves.proofs.Lemmas.{one_so}
 use Rattle.law_moves.specs.PacketKinds as at_proxy
-use Rattle.law_moves.specs.Chains.Sums.{count_on}
-use Rattle.law_role_inproxy.specs.Counted.{PutsForWhatCame, is_leg}
-use Rattle.law_role_inproxy.specs.Refusing.{IsUntold}
-use Rattle.law_role_client.specs.Order.{AreAllowedMoves, client_moved}
-use Rattle.law_role_client.specs.Counted.Counting.{StandsOnEach, is_in_r1_a1, is_in_r1_a5, total}
-use Rattle.law_role_client.specs.Counted.Replacing.{ReplacesIns, in_answered, in_asked}
+use Rattle.law_role_inproxy.proofs.Vocabulary.{rules, InProxy, first, same_cookie, PutsForWhatCame, is_leg, IsUntold}
+use Rattle.law_role_client.proofs.Vocabulary.{ci, AreAllowedMoves, client_moved, StandsOnEach, is_in_r1_a1, is_in_r1_a5, total, ReplacesIns, in_answered, in_asked}
 use Rattle.law_role_client_rows.specs.Putting.{OpensInChannels}
-use Rattle.law_peers_moments.specs.GoingRound.{GoRound, announced}
+use Rattle.law_node_streams.proofs.Streams.Rising.{come_up_more as up_more}
 use Rattle.law_peers_moments.proofs.GoingRound.Fronts.{are_fronts}
-use Rattle.law_peers_moments.specs.Moments.{IsJoined, IsMoment, IsPast, Moves, Numbers, Passages, ReadInTurn, client_behind, in_behind, passages, server_behind}
 use Rattle.law_peers_moments.proofs.Joining.{in_front, in_reads, is_front}
 use Rattle.law_peers_moments.proofs.Read.{front_one}
-use Rattle.law_peers_expects.specs.InProxyExpects.Announcing.{AnnouncesWhatCame, IsFor, Replaces}
-use Rattle.law_peers_expects.specs.InProxyExpects.Expected.{AreReadWhereUp, CameUpByMoves}
+use Rattle.law_peers_moments.specs.GoingRound.{GoRound, announced}
+use Rattle.law_peers_moments.specs.Moments.{IsJoined, IsMoment, IsPast, Moves, Numbers, Passages, ReadInTurn, client_behind, in_behind, passages, server_behind}
 use Rattle.law_peers_expects.proofs.InProxyExpects.Channels.{begun_up}
 use Rattle.law_peers_expects.proofs.InProxyExpects.Counts.{each_announced, some_on}
-use Rattle.law_peers_expects.proofs.InProxyExpects.Early.{on_kind}
 use Rattle.law_peers_expects.proofs.InProxyExpects.Fronts.{counts_one, has_counts, one_counts}
 use Rattle.law_peers_expects.proofs.InProxyExpects.OnServer.{one_there, replaces_begin}
 use Rattle.law_peers_expects.proofs.InProxyExpects.Past.{all_answered, was_put}
+use Rattle.law_peers_expects.proofs.ClientExpects.More.{leg_within as on_kind}
+use Rattle.law_peers_expects.specs.InProxyExpects.Announcing.{AnnouncesWhatCame, IsFor, Replaces}
+use Rattle.law_peers_expects.specs.InProxyExpects.Expected.{AreReadWhereUp, CameUpByMoves}
 
 -- ---- where packets stand
 
@@ -70,14 +53,8 @@ cookie_is a b e =
 cookie_itself : (a : Cookie) → same_cookie a a ≡ true
 cookie_itself a = (bytes_eq-Decides a.0 a.0).1 refl
 
-up_more : (front later : List EndMove) (leg : Leg) (cookie : Cookie)
-    → HasComeUp front leg cookie → HasComeUp (front ++ later) leg cookie
-up_more [] later leg cookie h = absurd h
-up_more (move ∷ front) later leg cookie (inl is) = inl is
-up_more (move ∷ front) later leg cookie (inr h) = inr (up_more front later leg cookie h)
-
 -- an in proxy has at most the number of a channel that it reads
-reader_most : (reader : ℕ → ℕ) → ReadInTurn reader → (n : ℕ) → reader n ≤ n
+pub reader_most : (reader : ℕ → ℕ) → ReadInTurn reader → (n : ℕ) → reader n ≤ n
 reader_most reader h zero = let none = h.none in omega (arith, none)
 reader_most reader h (suc n) = by (h.next n) (reader_most reader h n)
   where

@@ -1,50 +1,32 @@
 -- what comes next to an out proxy from its server is no reason to refuse it
-use Rattle.std.proofs.Common.{◌≡◌, ◌⊎◌, ℕ, zero, suc, ◌+◌, ◌≤◌, Bool, true, false, if◌then◌else◌, ◌&&◌, List, [], ◌∷◌, ◌++◌, Err, inl, inr, refl, sym, ap, ◌∙◌, subst, arith}
-use Rattle.std.proofs.lemmas.Bool.{false≢true, and_parts}
-use Rattle.std.proofs.lemmas.Bool.Decides.{nat_tests}
-use Rattle.std.proofs.lemmas.List.{append_assoc}
-use Rattle.std.specs.Prelude.{nat_le, nat_lt}
-use Rattle.std.specs.List.{AllByRecursion}
-use Rattle.law_order.proofs.ByNumber.{test_other}
-use Rattle.rh_rts.specs.declared.command.Cookie.{Cookie}
-use Rattle.rh_sig.specs.declared.named.Named.{Named}
+use Rattle.law_order.proofs.Vocabulary.{◌≡◌, ◌⊎◌, ℕ, zero, suc, ◌+◌, ◌≤◌, Bool, true, false, if◌then◌else◌, ◌&&◌, List, [], ◌∷◌, ◌++◌, Err, inl, inr, refl, sym, ap, ◌∙◌, subst, arith, false≢true, and_parts, nat_tests, append_assoc, nat_le, nat_lt, AllByRecursion}
 use Rattle.rh_sig.specs.declared.named.Named.TheVariants as named
-use Rattle.rh_line.specs.declared.leg.LegKind.TheVariants.{ClientOut, OutServer}
-use Rattle.rh_shell.specs.declared.answers.Count.{Count}
-use Rattle.rh_shell.specs.declared.answers.Refused.{Refused}
 use Rattle.rh_shell.specs.declared.answers.Refused.TheVariants as refused
-use Rattle.rh_shell.specs.Rules.{Message, Text, Pdu, Packet}
-use Rattle.rh_outproxy.specs.Machine.{rules as out_rules}
-use Rattle.rh_outproxy.specs.OutProxy.{OutProxy}
-use Rattle.rh_server.specs.declared.state.Stage.{Stage}
 use Rattle.rh_server.specs.declared.state.Stage.TheVariants as stage
-use Rattle.rh_nodes.specs.Settling.{leg_at}
-use Rattle.law_moves.specs.Moves.{OnLeg, Passage}
-use Rattle.law_moves.specs.Wires.{of_leg}
-use Rattle.law_moves.specs.ReadBack.Reading.{all_read_of}
-use Rattle.law_moves.specs.Passages.Passing.{count_of, of_kind, BeginsOut, Has, HasBegunOut, HasOne}
-use Rattle.law_moves.specs.Passages.Counted.{Tells, packets}
-use Rattle.law_moves.proofs.Passages.Messages.{one_so}
+use Rattle.law_moves.proofs.Vocabulary.{test_other, Cookie, Named, ClientOut, OutServer, Count, Refused, Message, Text, Pdu, Packet, OnLeg, Passage, of_leg, all_read_of, count_of, of_kind, BeginsOut, Has, HasBegunOut, HasOne, Tells, packets}
+use Rattle.law_moves.proofs.Lemmas.{one_so}
 use Rattle.law_moves.specs.PacketKinds as at_proxy
+use Rattle.law_role_client.proofs.Vocabulary.{NamesOuts}
 use Rattle.law_role_client.specs.Counted.Counting as at_client
-use Rattle.law_role_client.specs.Counted.Naming.{NamesOuts}
+use Rattle.law_role_server.proofs.Vocabulary.{Stage, since_conn_a2, since_open}
 use Rattle.law_role_server.specs.Counted.Counting as at_server
-use Rattle.law_role_server.specs.Counted.Opening.{since_conn_a2, since_open}
-use Rattle.law_role_outproxy.specs.Counted.{IsOpenedBy, NamesNew, NamesSuccessor, OpensAsAsked, OpensWhatCame}
-use Rattle.law_role_outproxy.specs.Refusing.{CarriesNone, IsUnjoined, MismatchFromServer, PassesNone, RefusesFor, TakesNone, UnexpectedFromServer, from_client, from_server}
+use Rattle.law_node_history.proofs.Vocabulary.{leg_at}
+use Rattle.law_role_outproxy.proofs.Vocabulary.{rules as out_rules, OutProxy, IsOpenedBy, NamesNew, NamesSuccessor, OpensAsAsked, OpensWhatCame, CarriesNone, IsUnjoined, MismatchFromServer, PassesNone, RefusesFor, TakesNone, UnexpectedFromServer, from_client}
+use Rattle.law_role_outproxy.specs.Refusing.{from_server}
 use Rattle.law_role_server_rows.specs.Putting.Copying.{Copies}
 use Rattle.law_role_server_rows.specs.Putting.Greeting.{IsFrame}
 use Rattle.law_role_server_rows.specs.Putting.Puts.{behind_all, first_turn, os, PacketStands, Stands}
 use Rattle.law_role_server_rows.specs.Refusing.Cookies.{IsOutChannel, OpensOut}
 use Rattle.law_role_server_rows.specs.InTurn.Channels.{IsToOutProxy, IsWritten, MayFollowEnd}
-use Rattle.law_peers_moments.specs.Expecting.{Expects, IsAhead, IsAmiss}
-use Rattle.law_peers_moments.specs.Moments.{IsMoment, Moves, Numbers, Passages, passages}
 use Rattle.law_peers_moments.proofs.Joining.{co_front, os_front}
 use Rattle.law_peers_moments.proofs.Read.{front_count, front_one}
-use Rattle.law_peers_expects.specs.OutProxyExpects.Early.{HaveLifetimes}
-use Rattle.law_peers_expects.proofs.OutProxyExpects.NotEarly.{same_c1}
-use Rattle.law_peers_expects.proofs.OutProxyExpects.Logs.{all_behind, has_in, here_in, leg_counts, part, read_all_count, same_counts, some_leg, split, Split}
+use Rattle.law_peers_moments.specs.Expecting.{Expects, IsAhead, IsAmiss}
+use Rattle.law_peers_moments.specs.Moments.{IsMoment, Moves, Numbers, Passages, passages}
+use Rattle.law_peers_expects.proofs.OutProxyExpects.Logs.{all_behind, has_in, here_in, leg_counts, part, read_all_count, some_leg, split, Split}
 use Rattle.law_peers_expects.proofs.OutProxyExpects.Ordered.{EarlyLaws, ServerLaws, c1_before, c1_on, c1_on_first, none_before_c1, one_behind, stands}
+use Rattle.law_peers_expects.proofs.InProxyExpects.Counts.{conn_a1 as same_a1, conn_c1 as same_c1}
+use Rattle.law_peers_expects.proofs.InProxyExpects.Fronts.{same_counts}
+use Rattle.law_peers_expects.specs.OutProxyExpects.Early.{HaveLifetimes}
 
 -- ---- tests that are the same
 
@@ -55,10 +37,6 @@ same_a4 packet = refl
 same_a2 : (n : Named) → at_server.is_conn_a2 n ≡ at_proxy.is_conn_a2 n
 same_a2 (named.ConnA2 version connection channel lifetime window) = refl
 same_a2 packet = refl
-
-same_a1 : (n : Named) → at_proxy.is_conn_a1 n ≡ at_client.is_conn_a1 n
-same_a1 (named.ConnA1 version connection channel window) = refl
-same_a1 packet = refl
 
 a9_is : (n : Named) → at_proxy.is_out_r1_a9 n ≡ true → n ≡ named.OutR1A9
 a9_is named.OutR1A9 e = refl
@@ -444,9 +422,6 @@ module _ (numbers : Numbers) (reader : ℕ → ℕ) (moves : Moves) (server : Se
     -- ---- packets
 
     module _ (packet : Named) (e : m ≡ Packet packet) where
-      frame_is : IsFrame m
-      frame_is = subst IsFrame (sym e) tt
-
       stands_as : PacketStands (behind_all first_turn next.before) (os n) packet
       stands_as =
           subst (λ (x : Message). Stands (behind_all first_turn next.before) (os n, x)) e stand

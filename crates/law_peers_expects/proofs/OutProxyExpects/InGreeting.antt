@@ -1,61 +1,20 @@
 -- while CONN/B1 and Pings alone came from the client, an in proxy's first channel is as it began,
 -- and nothing waits
-use Rattle.std.proofs.Common.{◌≡◌, ℕ, ◌==◌, Bool, true, false, List, [], ◌∷◌, ◌++◌, length, Some, None, Ok, Err, arith, refl, rules, sym, ap, ◌∙◌, subst}
-use Rattle.std.proofs.lemmas.Bool.{false≢true}
-use Rattle.std.proofs.lemmas.Bool.Decides.{nat_tests}
-use Rattle.std.specs.Prelude.{if◌then◌else◌, IfSome, is_ok, ◌||◌, not, ◌&&◌}
-use Rattle.std.specs.List.{AllByRecursion, list_any}
-use Rattle.std.specs.declared.option.Option.{Option}
-use Rattle.std.specs.declared.result.Result.{Result}
-use Rattle.rh_window.specs.Sending.{may_send}
 use Rattle.rh_window.specs.Receiving as windows
-use Rattle.rh_window.specs.declared.recv_window.Ack.{Ack}
-use Rattle.law_order.proofs.ByNumber.{by_test}
-use Rattle.rh_rts.specs.declared.command.Cookie.{Cookie}
-use Rattle.rh_sig.specs.declared.named.Named.{Named}
-use Rattle.rh_sig.specs.declared.named.Named.TheVariants.{ConnB1, InR1A1, InR1A5, InR2A2, AckTo, OutR1A7, OutR1A8, KeepAlive, EndA1, Ping}
+use Rattle.law_order.proofs.Vocabulary.{◌≡◌, ℕ, ◌==◌, Bool, true, false, List, [], ◌∷◌, ◌++◌, length, Some, None, Ok, Err, arith, refl, rules, sym, ap, ◌∙◌, subst, false≢true, nat_tests, if◌then◌else◌, IfSome, is_ok, ◌||◌, not, ◌&&◌, AllByRecursion, list_any, Option, Result}
 use Rattle.rh_line.specs.Lines as line
-use Rattle.rh_line.specs.Lines.{Line, Incoming, first_line}
-use Rattle.rh_line.specs.declared.leg.Leg.{Leg}
-use Rattle.rh_line.specs.declared.line_fault.LineFault.{LineFault}
-use Rattle.rh_line.specs.declared.line_fault.LineFault.TheVariants.{Window, Over}
-use Rattle.rh_line.specs.declared.which.Which.{Which}
-use Rattle.rh_line.specs.declared.which.Which.TheVariants.{Current, Next}
-use Rattle.rh_line.specs.declared.leg.LegKind.TheVariants.{ClientIn}
-use Rattle.rh_shell.specs.declared.answers.Count.{Count}
-use Rattle.rh_shell.specs.declared.due.Due.{Due}
-use Rattle.rh_shell.specs.Rules.{Message, Pdu, Packet}
 use Rattle.rh_shell.specs.Waiting as waits
-use Rattle.rh_inproxy.specs.declared.state.InProxyConfig.{InProxyConfig}
-use Rattle.rh_inproxy.specs.declared.state.Entry.{Entry}
-use Rattle.rh_inproxy.specs.declared.state.Entry.TheVariants.{Connects, Replaces}
-use Rattle.rh_inproxy.specs.declared.state.Joining.TheVariants.{TellsServer, Told, Follows}
-use Rattle.rh_inproxy.specs.declared.state.Opener.{Opener}
-use Rattle.rh_inproxy.specs.declared.state.Opening.{Opening}
+use Rattle.rh_inproxy.specs.Passing.{pdu_by}
 use Rattle.rh_inproxy.specs.declared.state.Opening.TheVariants as openings
-use Rattle.rh_inproxy.specs.declared.state.Successor.{Successor}
-use Rattle.rh_inproxy.specs.declared.state.Successor.TheVariants.{Absent, Up, Joined}
-use Rattle.rh_inproxy.specs.declared.state.Work.{Work}
-use Rattle.rh_inproxy.specs.Answers.{Done, Pick, or_else, unexpected}
-use Rattle.rh_inproxy.specs.State.{InProxy, first, channel_of, has_a5, is_client_leg, is_server_leg}
-use Rattle.rh_inproxy.specs.Opening.{announcement, first_by, put_first, echo_by, put_echo, up, head, drawn}
-use Rattle.rh_inproxy.specs.Acknowledging.{ack_due, ack_by, current_ack, next_ack, put_acks, forwarded, forward_by}
-use Rattle.rh_inproxy.specs.Ending.{put_end, mark, settled, settled_pick, is_newest}
-use Rattle.rh_inproxy.specs.InReplacement.{told_by, put_in_r2_a2, put_in_r1_a6}
-use Rattle.rh_inproxy.specs.Passing.{passed, next_pdu, put_pdu, pdu_by}
-use Rattle.rh_inproxy.specs.Putting.{put as put_of, next, waiting_by, put_waiting, put_control, put_early, put_stream, put_behind, put_mark}
-use Rattle.rh_inproxy.specs.Time.{put_ping, ping}
 use Rattle.rh_inproxy.specs.Machine as machine
-use Rattle.rh_inproxy.specs.Machine.{pdu, packet, on_channel, on_channel_by, on_ci, on_is}
-use Rattle.rh_inproxy.specs.Machine.{rules as proxy_rules}
-use Rattle.law_moves.specs.Moves.{Move, OnLeg, all_moved, started}
-use Rattle.law_moves.specs.Passages.Passing.{of_kind}
-use Rattle.law_moves.proofs.Passages.Logs.{RowKeeps, PutKeeps, StepsKeep, moves_keep}
-use Rattle.law_moves.proofs.Passages.Messages.{all_append, kind_more}
-use Rattle.law_role_client.specs.Counted.Counting.{is_greeting}
+use Rattle.law_moves.proofs.Vocabulary.{may_send, Ack, by_test, Cookie, Named, ConnB1, InR1A1, InR1A5, InR2A2, AckTo, OutR1A7, OutR1A8, KeepAlive, EndA1, Ping, Line, Incoming, first_line, Leg, LineFault, Window, Over, Which, Current, Next, ClientIn, Count, Due, Message, Pdu, Packet, Move, OnLeg, all_moved, started, of_kind}
+use Rattle.law_moves.proofs.Lemmas.{RowKeeps, PutKeeps, StepsKeep, moves_keep, all_append, kind_more}
+use Rattle.law_role_inproxy.proofs.Vocabulary.{InProxyConfig, Entry, Connects, Replaces, TellsServer, Told, Follows, Opener, Opening, Successor, Absent, Up, Joined, Work, Done, Pick, or_else, unexpected, InProxy, first, channel_of, has_a5, is_client_leg, is_server_leg, announcement, first_by, put_first, echo_by, put_echo, up, head, drawn, ack_due, ack_by, current_ack, next_ack, put_acks, forwarded, forward_by, put_end, mark, settled, settled_pick, is_newest, told_by}
+use Rattle.law_role_inproxy.proofs.Vocabulary.{put_in_r2_a2, put_in_r1_a6, passed, next_pdu, put_pdu, put as put_of, next, waiting_by, put_waiting, put_control, put_early, put_stream, put_behind, put_mark, put_ping, ping, pdu, packet, on_channel, on_channel_by, on_ci, on_is, rules as proxy_rules}
+use Rattle.law_role_client.proofs.Vocabulary.{is_greeting}
 use Rattle.law_role_windows.specs.Acknowledging.Acks.{OfPacket}
-use Rattle.law_peers_expects.specs.OutProxyExpects.Early.{HasGreeted, IsQuiet, PutsQuietly}
 use Rattle.law_peers_expects.proofs.OutProxyExpects.Logs.{all_front, all_behind}
+use Rattle.law_peers_expects.specs.OutProxyExpects.Early.{HasGreeted, IsQuiet, PutsQuietly}
 
 -- what the facts are about
 pub record Seen : Type 0 where

@@ -1,45 +1,10 @@
 -- logs and their legs, and what is read of messages
-use Rattle.std.proofs.Common.{◌≡◌, ◌⊎◌, ℕ, zero, suc, ◌+◌, ◌≤◌, Bool, true, false, if◌then◌else◌, List, [], ◌∷◌, ◌++◌, inl, inr, arith, refl, sym, ap, ◌∙◌, subst}
-use Rattle.std.proofs.lemmas.Bool.Decides.{nat_tests}
-use Rattle.std.specs.List.{AllByRecursion}
-use mathlib.Core.List.{IsPrefix}
-use Rattle.rh_sig.specs.declared.named.Named.{Named}
-use Rattle.rh_sig.specs.declared.named.Named.TheVariants.{Ping}
-use Rattle.rh_line.specs.declared.leg.Leg.{Leg}
-use Rattle.rh_line.specs.declared.leg.LegKind.{LegKind}
-use Rattle.rh_shell.specs.Hearing.{is_ping}
-use Rattle.law_moves.specs.Moves.{OnLeg}
-use Rattle.rh_shell.specs.Rules.{Message, Text, Pdu, Packet}
-use Rattle.rh_shell.specs.Shells.{is_of, same_leg}
-use Rattle.law_moves.specs.Wires.{of_leg}
-use Rattle.rh_nodes.specs.Settling.{leg_at}
-use Rattle.law_moves.specs.ReadBack.Reading.{all_read_of}
-use Rattle.law_moves.specs.Passages.Passing.{count_of, of_kind, Has}
-use Rattle.law_moves.proofs.Passages.Messages.{count_append}
-use Rattle.law_moves.proofs.PacketKinds.Counts.{leg_is}
+use Rattle.law_order.proofs.Vocabulary.{◌≡◌, ◌⊎◌, ℕ, zero, suc, ◌+◌, ◌≤◌, Bool, true, false, if◌then◌else◌, List, [], ◌∷◌, ◌++◌, inl, inr, arith, refl, sym, ap, ◌∙◌, subst, nat_tests, AllByRecursion, IsPrefix}
+use Rattle.law_moves.proofs.Vocabulary.{Named, Ping, Leg, LegKind, is_ping, Message, Text, Pdu, Packet, is_of, same_leg, OnLeg, of_leg, all_read_of, count_of, of_kind, Has}
+use Rattle.law_moves.proofs.Lemmas.{count_append, leg_is, of_append as leg_append}
+use Rattle.law_node_history.proofs.Vocabulary.{leg_at}
 
 -- ---- a log in two parts
-
-pub leg_append : (leg : Leg) (a b : List OnLeg) → of_leg leg (a ++ b) ≡ of_leg leg a ++ of_leg leg b
-leg_append leg [] b = refl
-leg_append leg (one ∷ a) b = by (same_leg one.0 leg) (leg_append leg a b)
-  where
-    by : (t : Bool) → of_leg leg (a ++ b) ≡ of_leg leg a ++ of_leg leg b
-        → (if t then one.1 ∷ of_leg leg (a ++ b) else of_leg leg (a ++ b))
-        ≡ (if t then one.1 ∷ of_leg leg a else of_leg leg a) ++ of_leg leg b
-    by true rest = ap (λ (ms : List Message). one.1 ∷ ms) rest
-    by false rest = rest
-
-pub kind_append : (kind : LegKind) (a b : List OnLeg)
-    → of_kind kind (a ++ b) ≡ of_kind kind a ++ of_kind kind b
-kind_append kind [] b = refl
-kind_append kind (one ∷ a) b = by (is_of kind one.0) (kind_append kind a b)
-  where
-    by : (t : Bool) → of_kind kind (a ++ b) ≡ of_kind kind a ++ of_kind kind b
-        → (if t then one.1 ∷ of_kind kind (a ++ b) else of_kind kind (a ++ b))
-        ≡ (if t then one.1 ∷ of_kind kind a else of_kind kind a) ++ of_kind kind b
-    by true rest = ap (λ (ms : List Message). one.1 ∷ ms) rest
-    by false rest = rest
 
 pub all_front : {X : Type 0} (P : X → Type 0) (a b : List X) → AllByRecursion P (a ++ b)
     → AllByRecursion P a
@@ -224,16 +189,6 @@ module _ (test : Named → Bool) where
       ∙ sym (ap (λ (t : Bool). if t then suc (count ms) else count ms) other)
   read_all_count other (Packet named ∷ ms) =
       ap (λ (n : ℕ). if test named then suc n else n) (read_all_count other ms)
-
--- tests that are the same
-pub same_counts : (one other : Named → Bool) → ((named : Named) → one named ≡ other named)
-    → (ms : List Message) → count_of one ms ≡ count_of other ms
-same_counts one other is [] = refl
-same_counts one other is (Text bytes ∷ ms) = same_counts one other is ms
-same_counts one other is (Pdu pdu ∷ ms) = same_counts one other is ms
-same_counts one other is (Packet named ∷ ms) =
-    ap (λ (t : Bool). if t then suc (count_of one ms) else count_of one ms) (is named)
-    ∙ ap (λ (n : ℕ). if other named then suc n else n) (same_counts one other is ms)
 
 -- ---- a message in a log
 

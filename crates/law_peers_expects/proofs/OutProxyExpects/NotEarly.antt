@@ -1,64 +1,37 @@
 -- no acknowledgement comes to a server before it put CONN/C1: the client puts none before CONN/C2
 -- came
-use Rattle.std.proofs.Common.{◌≡◌, ℕ, true, List, [], ◌∷◌, refl, sym, subst, arith}
-use Rattle.std.proofs.lemmas.Bool.Decides.{nat_tests}
-use Rattle.std.specs.Prelude.{IsTrue}
-use Rattle.std.specs.List.{AllByRecursion}
-use Rattle.rh_text.specs.declared.ends.Side.{Side}
 use Rattle.rh_text.specs.declared.ends.Side.TheVariants as side
-use Rattle.rh_keep.specs.Meters.{started as metered, may_put}
-use Rattle.rh_rts.specs.declared.command.Cookie.{Cookie}
-use Rattle.rh_sig.specs.declared.named.Named.{Named}
-use Rattle.rh_sig.specs.declared.named.Named.TheVariants.{ConnC1, ConnC2, ConnA2, AckTo}
-use Rattle.rh_sig.specs.Values.{IsLifetime}
-use Rattle.rh_http.specs.declared.config.ClientConfig.{ClientConfig}
-use Rattle.rh_line.specs.declared.leg.Leg.{Leg}
-use Rattle.rh_line.specs.declared.leg.LegKind.{LegKind}
-use Rattle.rh_line.specs.declared.leg.LegKind.TheVariants.{ClientOut, OutServer, ClientIn, InServer}
+use Rattle.rh_keep.specs.Meters.{started as metered}
+use Rattle.law_order.proofs.Vocabulary.{◌≡◌, ℕ, true, List, [], ◌∷◌, refl, sym, subst, arith, nat_tests, IsTrue, AllByRecursion}
 use Rattle.rh_record.specs.declared.answer.Who.TheVariants as who
-use Rattle.rh_shell.specs.Rules.{Message, Text, Pdu, Packet}
-use Rattle.rh_inproxy.specs.declared.state.InProxyConfig.{InProxyConfig}
 use Rattle.rh_inproxy.specs.Machine as in_proxy
 use Rattle.rh_inproxy.specs.State as in_state
 use Rattle.rh_outproxy.specs.Machine as out_proxy
-use Rattle.rh_outproxy.specs.declared.state.OutProxyConfig.{OutProxyConfig}
-use Rattle.rh_outproxy.specs.OutProxy.{new_proxy}
 use Rattle.rh_client.specs.Client as clients
 use Rattle.rh_client.specs.State as client_state
-use Rattle.rh_nodes.specs.Settling.{leg_at}
-use Rattle.law_moves.specs.Moves.{AreAllowedAtEnd, EndMove, Move, OnLeg, all_end_moved, all_moved, end_started, started}
-use Rattle.law_moves.specs.Wires.{of_leg}
-use Rattle.law_moves.specs.Passages.Passing.{count_of, of_kind}
-use Rattle.law_moves.proofs.Passages.Messages.{each_so}
+use Rattle.law_moves.proofs.Vocabulary.{Side, may_put, Cookie, Named, ConnA2, AckTo, IsLifetime, ClientConfig, Leg, LegKind, ClientOut, OutServer, ClientIn, InServer, Message, Text, Pdu, Packet, AreAllowedAtEnd, EndMove, Move, OnLeg, all_end_moved, all_moved, end_started, started, of_leg, count_of, of_kind}
+use Rattle.law_moves.proofs.Lemmas.{each_so, by_proxies}
 use Rattle.law_moves.specs.Chains.Ways.{total}
-use Rattle.law_moves.proofs.Chains.Along.{by_proxies}
 use Rattle.law_moves.specs.PacketKinds as at_proxy
+use Rattle.law_role_inproxy.proofs.Vocabulary.{InProxyConfig}
+use Rattle.law_role_client.proofs.Vocabulary.{OpensOnce}
 use Rattle.law_role_client.specs.Counted.Counting as at_client
-use Rattle.law_role_client.specs.Counted.Opening.{OpensOnce}
+use Rattle.law_role_server.proofs.Vocabulary.{HasRoom, HasRoomIn, HaveRoom}
 use Rattle.law_role_server.specs.Counted.Counting as at_server
-use Rattle.law_role_server.specs.Counted.BeforeC1.{HasRoom, HasRoomIn, HaveRoom}
-use Rattle.law_role_outproxy.specs.Counted.{ForwardsWhatCame}
-use Rattle.law_role_outproxy.specs.Putting.{IsAck, IsToServer, OpensServer}
+use Rattle.law_node_history.proofs.Vocabulary.{leg_at}
+use Rattle.law_role_outproxy.proofs.Vocabulary.{OutProxyConfig, new_proxy, ForwardsWhatCame, IsAck, IsToServer, OpensServer}
 use Rattle.law_role_windows.specs.Acknowledging.Acks.{OfPacket}
-use Rattle.law_peers_moments.specs.Moments.{AreJoined, AreMade, Moves, Numbers, Passages, end_of, out_behind, passages}
 use Rattle.law_peers_moments.proofs.Joining.{co_back, in_front, is_front, os_back, os_front}
 use Rattle.law_peers_moments.proofs.Read.{front_count}
+use Rattle.law_peers_moments.specs.Moments.{AreJoined, AreMade, Moves, Numbers, Passages, end_of, out_behind, passages}
+use Rattle.law_peers_expects.proofs.OutProxyExpects.Logs.{front_each, kind_by_legs, leg_of_kind, leg_of_log, log_by_legs, Of}
+use Rattle.law_peers_expects.proofs.InProxyExpects.Counts.{conn_c2 as same_c2, conn_c1 as same_c1}
+use Rattle.law_peers_expects.proofs.InProxyExpects.Fronts.{same_counts}
 use Rattle.law_peers_expects.specs.OutProxyExpects.Early.{HasGreeted, IsQuiet, PutsQuietly}
-use Rattle.law_peers_expects.proofs.OutProxyExpects.Logs.{front_each, kind_by_legs, leg_of_kind, leg_of_log, log_by_legs, Of, same_counts}
-
--- ---- tests that are the same
-
-pub same_c1 : (named : Named) → at_server.is_conn_c1 named ≡ at_proxy.is_conn_c1 named
-same_c1 (ConnC1 version window timeout) = refl
-same_c1 packet = refl
-
-same_c2 : (named : Named) → at_client.is_conn_c2 named ≡ at_proxy.is_conn_c2 named
-same_c2 (ConnC2 version window timeout) = refl
-same_c2 packet = refl
 
 -- ---- messages
 
-abbrev IsGreeting : Message → Type 0
+abbrev pub IsGreeting : Message → Type 0
 IsGreeting m = at_client.is_greeting m ≡ true
 
 abbrev IsQuietMessage : Message → Type 0

@@ -1,34 +1,19 @@
 -- what a server put before each message, at a moment
-use Rattle.std.proofs.Common.{◌≡◌, ◌⊎◌, ℕ, zero, suc, ◌+◌, ◌≤◌, Bool, true, if◌then◌else◌, List, [], ◌∷◌, ◌++◌, inl, inr, refl, sym, ap, ◌∙◌, subst, arith}
-use Rattle.std.proofs.lemmas.Bool.{false≢true}
-use Rattle.std.proofs.lemmas.List.{append_assoc}
-use Rattle.std.specs.List.{AllByRecursion}
-use Rattle.law_order.proofs.ByNumber.{test_same}
-use Rattle.rh_rts.specs.declared.command.Cookie.{Cookie}
-use Rattle.rh_sig.specs.declared.named.Named.{Named}
-use Rattle.rh_sig.specs.declared.named.Named.TheVariants.{AckTo, ConnC1}
-use Rattle.rh_line.specs.declared.leg.LegKind.TheVariants.{OutServer, InServer}
-use Rattle.rh_shell.specs.Rules.{Message, Text, Pdu, Packet}
-use Rattle.rh_server.specs.Servers.{acts, first, rules}
-use Rattle.rh_server.specs.States.{Server}
-use Rattle.rh_nodes.specs.Settling.{leg_at}
-use Rattle.law_moves.specs.Moves.{AreAllowedAtEnd, EndMove, OnLeg, Passage, all_end_moved, end_started}
-use Rattle.law_moves.specs.Wires.{of_leg}
-use Rattle.law_moves.specs.Passages.Passing.{count_of, of_kind, Has}
-use Rattle.law_moves.proofs.Passages.Messages.{count_append}
-use Rattle.law_role_server.specs.Counted.BeforeC1.{HaveRoom, MayGoBefore}
-use Rattle.law_role_server.specs.Counted.Counting.{in_came, is_ack_to, is_conn_c1, out_put}
-use Rattle.law_role_server.specs.Counted.Opening.{OpensOnce}
-use Rattle.law_role_server.specs.Counted.Replacing.{AreInTurn, ArePutInTurn}
+use Rattle.law_order.proofs.Vocabulary.{◌≡◌, ◌⊎◌, ℕ, zero, suc, ◌+◌, ◌≤◌, Bool, true, if◌then◌else◌, List, [], ◌∷◌, ◌++◌, inl, inr, refl, sym, ap, ◌∙◌, subst, arith, false≢true, append_assoc, AllByRecursion}
+use Rattle.law_moves.proofs.Vocabulary.{test_same, Cookie, Named, AckTo, ConnC1, OutServer, InServer, Message, Text, Pdu, Packet, AreAllowedAtEnd, EndMove, OnLeg, Passage, all_end_moved, end_started, of_leg, count_of, of_kind, Has}
+use Rattle.law_moves.proofs.Lemmas.{count_append}
+use Rattle.law_role_server.proofs.Vocabulary.{acts, first, rules, Server, HaveRoom, MayGoBefore, in_came, is_ack_to, is_conn_c1, out_put, OpensOnce, AreInTurn, ArePutInTurn}
+use Rattle.law_node_history.proofs.Vocabulary.{leg_at}
+use Rattle.law_role_server_rows.proofs.InTurn.Splits.{kind_append}
 use Rattle.law_role_server_rows.specs.Putting.Copying.{Copies, CopiesWhatCame}
 use Rattle.law_role_server_rows.specs.Putting.Greeting.{IsFrame}
 use Rattle.law_role_server_rows.specs.Putting.Puts.{behind_all, first_turn, os, Stands, StandFrom, WritesInTurn}
 use Rattle.law_role_server_rows.specs.InTurn.Channels.{IsWritten, WritesOnBegun}
 use Rattle.law_peers_moments.specs.Moments.{IsJoined, IsMoment, Moves, Numbers, server_behind}
-use Rattle.law_peers_expects.specs.OutProxyExpects.Early.{HaveLifetimes, HasRoomForC1, IsNotEarly}
 use Rattle.law_peers_expects.proofs.OutProxyExpects.Fronts.{front_of}
-use Rattle.law_peers_expects.proofs.OutProxyExpects.Logs.{all_behind, find, kind_append, leg_counts, some_leg}
+use Rattle.law_peers_expects.proofs.OutProxyExpects.Logs.{all_behind, find, leg_counts, some_leg}
 use Rattle.law_peers_expects.proofs.OutProxyExpects.Turns.{none_before, stands_in}
+use Rattle.law_peers_expects.specs.OutProxyExpects.Early.{HaveLifetimes, HasRoomForC1, IsNotEarly}
 
 -- what passed a server by these moves
 abbrev pub server_by : ℕ → List EndMove → Passage Server

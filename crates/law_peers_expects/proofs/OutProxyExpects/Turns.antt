@@ -1,14 +1,9 @@
 -- where a server's messages stand, by those that it put before
-use Rattle.std.proofs.Common.{◌≡◌, List, [], ◌∷◌, ◌++◌, arith, refl}
-use Rattle.std.proofs.lemmas.Bool.{false≢true}
-use Rattle.std.specs.List.{AllByRecursion}
+use Rattle.law_order.proofs.Vocabulary.{◌≡◌, List, [], ◌∷◌, ◌++◌, arith, refl, false≢true, AllByRecursion}
 use Rattle.rh_sig.specs.declared.named.Named.TheVariants as named
-use Rattle.rh_shell.specs.Rules.{Message, Text, Pdu, Packet}
-use Rattle.law_moves.specs.Moves.{OnLeg}
-use Rattle.law_moves.specs.Passages.Passing.{count_of}
-use Rattle.law_moves.proofs.Passages.Messages.{count_append}
-use Rattle.law_role_server.specs.Counted.Counting.{is_out_r1_a9}
-use Rattle.law_role_server.specs.Counted.BeforeC1.{MayGoBefore}
+use Rattle.law_moves.proofs.Vocabulary.{Message, Text, Pdu, Packet, OnLeg, count_of}
+use Rattle.law_moves.proofs.Lemmas.{count_append}
+use Rattle.law_role_server.proofs.Vocabulary.{is_out_r1_a9, MayGoBefore}
 use Rattle.law_role_server_rows.specs.Putting.Puts.{Turn, behind, behind_all, Stands, StandFrom}
 
 -- each message stands by the turn behind those before it

@@ -1,17 +1,13 @@
 -- no acknowledgement to an out proxy has the cookie that stands for none, where no OUT channel of
 -- the client has it
-use Rattle.std.proofs.Common.{ℕ, refl}
-use Rattle.rh_rts.specs.declared.command.Cookie.{Cookie}
-use Rattle.rh_sig.specs.declared.named.Named.TheVariants.{AckTo}
-use Rattle.rh_line.specs.declared.leg.LegKind.TheVariants.{OutServer, ClientIn, InServer}
-use Rattle.rh_nodes.specs.Settling.{leg_at}
-use Rattle.law_moves.specs.Wires.{of_leg}
-use Rattle.law_moves.specs.Passages.Passing.{Has}
-use Rattle.law_role_windows.specs.Acknowledging.Acks.{IsPassedOn, PassesOn}
+use Rattle.law_order.proofs.Vocabulary.{ℕ, refl}
+use Rattle.law_moves.proofs.Vocabulary.{Cookie, AckTo, OutServer, ClientIn, InServer, of_leg, Has}
+use Rattle.law_node_history.proofs.Vocabulary.{leg_at}
 use Rattle.law_role_windows.proofs.Acknowledging.Found.{has_found}
-use Rattle.law_peers_moments.specs.Moments.{AreJoined, Passages}
+use Rattle.law_role_windows.specs.Acknowledging.Acks.{IsPassedOn, PassesOn}
 use Rattle.law_peers_moments.proofs.Joining.{in_front, is_front}
 use Rattle.law_peers_moments.proofs.Read.{front_has}
+use Rattle.law_peers_moments.specs.Moments.{AreJoined, Passages}
 
 module _ (reader : ℕ → ℕ) (all : Passages) (joined : AreJoined reader all)
     (server : PassesOn InServer 3 all.server) (ins : (m : ℕ) → PassesOn ClientIn 3 (all.ins m))

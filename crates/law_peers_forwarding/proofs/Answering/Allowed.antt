@@ -1,14 +1,7 @@
 -- what each step of a role keeps where its legs come up as they may, its allowed moves keep
-use Rattle.std.proofs.Common.{ℕ, List, [], ◌∷◌, Some, None, Ok, Err}
-use Rattle.std.specs.Prelude.{IsTrue}
-use Rattle.std.specs.declared.option.Option.{Option}
-use Rattle.rh_rts.specs.declared.command.Cookie.{Cookie}
-use Rattle.rh_sig.specs.declared.named.Named.{Named}
-use Rattle.rh_line.specs.declared.leg.Leg.{Leg}
-use Rattle.rh_shell.specs.declared.answers.Count.{Count}
-use Rattle.rh_shell.specs.Rules.{Rules, Row, Message, Pdu, Packet}
-use Rattle.law_moves.specs.Moves.{AreAllowed, HeadCame, IsDrawn, Marks, MayMove, Move, PacketCame, Passage, PduCame, Pings, Puts, Up, OnLeg, all_moved, moved, put_by, taken_by}
-use Rattle.law_moves.proofs.Passages.Logs.{Fact, PutKeeps, RowKeeps}
+use Rattle.law_order.proofs.Vocabulary.{ℕ, List, [], ◌∷◌, Some, None, Ok, Err, IsTrue, Option}
+use Rattle.law_moves.proofs.Vocabulary.{Cookie, Named, Leg, Count, Rules, Row, Message, Pdu, Packet, AreAllowed, HeadCame, IsDrawn, Marks, MayMove, Move, PacketCame, Passage, PduCame, Pings, Puts, Up, OnLeg, all_moved, moved, put_by, taken_by}
+use Rattle.law_moves.proofs.Lemmas.{Fact, PutKeeps, RowKeeps}
 
 pub record MayKeep {S : Type 0} (rules : Rules S) (P : Fact S) : Type 0 where
   pub up : (s : S) (leg : Leg) (cookie : Cookie) (came put : List OnLeg)

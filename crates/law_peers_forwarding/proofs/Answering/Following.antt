@@ -1,39 +1,23 @@
 -- where a wish for an OUT channel came to a client, at most one answer for an IN channel follows
-use Rattle.std.proofs.Common.{◌≡◌, ◌⊎◌, inl, inr, ℕ, zero, suc, ◌+◌, ◌≤◌, Bool, true, false, List, [], ◌∷◌, ◌++◌, if◌then◌else◌, arith, refl, sym, ap, ◌∙◌, subst}
-use Rattle.std.proofs.lemmas.List.{append-nil}
-use Rattle.rh_sig.specs.declared.named.Named.{Named}
+use Rattle.law_order.proofs.Vocabulary.{◌≡◌, ◌⊎◌, inl, inr, ℕ, zero, suc, ◌+◌, ◌≤◌, Bool, true, false, List, [], ◌∷◌, ◌++◌, if◌then◌else◌, arith, refl, sym, ap, ◌∙◌, subst, append-nil}
 use Rattle.rh_sig.specs.declared.named.Named.TheVariants as named
-use Rattle.rh_http.specs.declared.config.ClientConfig.{ClientConfig}
-use Rattle.rh_line.specs.declared.leg.Leg.{Leg}
-use Rattle.rh_line.specs.declared.leg.LegKind.TheVariants.{ClientIn, ClientOut, OutServer}
-use Rattle.rh_shell.specs.Rules.{Message, Text, Pdu, Packet}
-use Rattle.rh_shell.specs.Shells.{is_of, same_leg}
-use Rattle.rh_client.specs.Client.{acts, rules}
-use Rattle.rh_client.specs.State.{first}
-use Rattle.rh_client.specs.declared.state.ClientRole.{ClientRole}
-use Rattle.law_moves.specs.Moves.{EndMove, EndPassage, OnLeg, Passage, all_end_moved, end_moved}
-use Rattle.law_moves.specs.Wires.{of_leg}
-use Rattle.law_moves.specs.Passages.Passing.{count_of}
-use Rattle.law_moves.proofs.Passages.Messages.{count_append, count_rises, leg_more}
-use Rattle.law_moves.specs.PacketKinds.{is_out_r1_a1, is_out_r1_a2}
-use Rattle.law_moves.proofs.PacketKinds.Counts.{leg_is}
-use Rattle.law_role_client.specs.Order.{client_moved}
-use Rattle.law_role_client.specs.Counted.Counting as at_client
-use Rattle.law_role_client.specs.Counted.Counting.{is_in_a4}
-use Rattle.law_role_client.specs.Counted.Replacing.{in_answered, out_switched, out_wanted}
+use Rattle.law_moves.proofs.Vocabulary.{Named, ClientConfig, Leg, ClientIn, ClientOut, OutServer, Message, Text, Pdu, Packet, is_of, same_leg, EndMove, EndPassage, OnLeg, Passage, all_end_moved, end_moved, of_leg, count_of, is_out_r1_a1, is_out_r1_a2}
+use Rattle.law_moves.proofs.Lemmas.{count_append, count_rises, leg_more, leg_is}
+use Rattle.law_role_client.proofs.Vocabulary.{acts, rules, first, ClientRole, client_moved, is_in_a4, in_answered, out_switched, out_wanted}
 use Rattle.law_role_client.proofs.Counted.Standing.{passes, total_stays, total_rises}
+use Rattle.law_role_client.specs.Counted.Counting as at_client
+use Rattle.law_role_server.proofs.Vocabulary.{ArePutInTurn}
 use Rattle.law_role_server.specs.Counted.Counting as at_server
-use Rattle.law_role_server.specs.Counted.Replacing.{ArePutInTurn}
-use Rattle.law_role_outproxy.specs.Counted.{co_leg, os_leg}
-use Rattle.law_peers_moments.specs.Moments.{AreJoined, Passages}
+use Rattle.law_role_outproxy.proofs.Vocabulary.{co_leg, os_leg}
 use Rattle.law_peers_moments.proofs.Joining.{co_back, os_back}
 use Rattle.law_peers_moments.proofs.Read.{front_count}
-use Rattle.law_peers_moments.specs.GoingRound.{GoRound}
 use Rattle.law_peers_moments.proofs.GoingRound.Rounding.{once, same_counts}
+use Rattle.law_peers_moments.specs.Moments.{AreJoined, Passages}
+use Rattle.law_peers_moments.specs.GoingRound.{GoRound}
 use Rattle.law_peers_in_channels.proofs.ServerExpects.Fronts.{IsOneMore, all_fronts, one_more}
 use Rattle.law_peers_room.specs.OutRoom.Waits.{WaitsInOrder}
-use Rattle.law_peers_forwarding.specs.Answering.Passing.{count_until}
 use Rattle.law_peers_forwarding.proofs.Answering.Until.{until_rises}
+use Rattle.law_peers_forwarding.specs.Answering.Passing.{count_until}
 
 abbrev pub came_on : ℕ → Passage ClientRole → List Message
 came_on n p = of_leg (co_leg n) p.came

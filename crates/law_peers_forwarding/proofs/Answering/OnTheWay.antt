@@ -1,20 +1,14 @@
 -- answers for IN channels come before a wish for an OUT channel, on the way to the client
-use Rattle.std.proofs.Common.{◌≡◌, ℕ, suc, ◌≤◌, Bool, true, false, if◌then◌else◌, List, [], ◌∷◌, ◌++◌, arith, refl, sym, ap, ◌∙◌, subst}
-use mathlib.Core.List.{IsPrefix}
-use Rattle.rh_sig.specs.declared.named.Named.{Named}
+use Rattle.law_order.proofs.Vocabulary.{◌≡◌, ℕ, suc, ◌≤◌, Bool, true, false, if◌then◌else◌, List, [], ◌∷◌, ◌++◌, arith, refl, sym, ap, ◌∙◌, subst, IsPrefix}
 use Rattle.rh_sig.specs.declared.named.Named.TheVariants as named
-use Rattle.rh_shell.specs.Hearing.{is_ping}
-use Rattle.rh_shell.specs.Rules.{Message, Text, Pdu, Packet}
-use Rattle.law_moves.specs.Wires.{of_leg}
-use Rattle.law_moves.specs.ReadBack.Reading.{all_read_of}
-use Rattle.law_peers_moments.specs.Moments.{AreJoined, Passages}
+use Rattle.law_moves.proofs.Vocabulary.{Named, is_ping, Message, Text, Pdu, Packet, of_leg, all_read_of, is_out_r1_a1, is_out_r1_a2}
+use Rattle.law_role_client.proofs.Vocabulary.{is_in_a4}
+use Rattle.law_role_outproxy.proofs.Vocabulary.{co_leg, os_leg}
 use Rattle.law_peers_moments.proofs.Joining.{co_back, os_back}
-use Rattle.law_role_client.specs.Counted.Counting.{is_in_a4}
-use Rattle.law_moves.specs.PacketKinds.{is_out_r1_a1, is_out_r1_a2}
-use Rattle.law_role_outproxy.specs.Counted.{co_leg, os_leg}
+use Rattle.law_peers_moments.specs.Moments.{AreJoined, Passages}
 use Rattle.law_peers_room.specs.OutRoom.Waits.{is_in_a3}
-use Rattle.law_peers_forwarding.specs.Answering.Passing.{AnswersComeBefore, AnswersKeepBefore, count_until}
 use Rattle.law_peers_forwarding.proofs.Answering.Until.{until_rises}
+use Rattle.law_peers_forwarding.specs.Answering.Passing.{AnswersComeBefore, AnswersKeepBefore, count_until}
 
 -- no Ping passes the test
 abbrev IsNoPing : (Named → Bool) → Type 0

@@ -1,54 +1,30 @@
 -- behind a wish for an OUT channel the server puts at most one answer for an IN channel on its leg
-use Rattle.std.proofs.Common.{◌≡◌, ◌⊎◌, inl, inr, ℕ, zero, suc, ◌+◌, ◌<◌, ◌≤◌, Bool, true, false, true≢false, List, [], ◌∷◌, ◌++◌, Some, None, Ok, Err, if◌then◌else◌, append_assoc, arith, refl, sym, ap, ◌∙◌, subst}
-use Rattle.std.specs.declared.option.Option.{Option}
-use Rattle.std.specs.declared.result.Result.{Result}
-use Rattle.rh_sig.specs.declared.named.Named.{Named}
+use Rattle.law_order.proofs.Vocabulary.{◌≡◌, ◌⊎◌, inl, inr, ℕ, zero, suc, ◌+◌, ◌<◌, ◌≤◌, Bool, true, false, true≢false, List, [], ◌∷◌, ◌++◌, Some, None, Ok, Err, if◌then◌else◌, append_assoc, arith, refl, sym, ap, ◌∙◌, subst, Option, Result}
 use Rattle.rh_sig.specs.declared.named.Named.TheVariants as named
-use Rattle.rh_line.specs.declared.leg.Leg.{Leg}
-use Rattle.rh_line.specs.declared.leg.LegKind.TheVariants.{ClientOut, OutServer}
-use Rattle.rh_shell.specs.declared.end_role.GiveRefused.{GiveRefused}
-use Rattle.rh_shell.specs.Rules.{Message, Row, Text, Pdu, Packet}
-use Rattle.rh_shell.specs.Shells.{same_leg}
-use Rattle.rh_client.specs.Client.{acts, rules}
-use Rattle.rh_client.specs.State.{first}
-use Rattle.rh_client.specs.declared.state.ClientRole.{ClientRole}
 use Rattle.rh_server.specs.Servers as servers
-use Rattle.rh_server.specs.States.{Server}
-use Rattle.law_moves.specs.Moves.{EndMove, EndPassage, OnLeg, Passage, Move, Up, HeadCame, PduCame, PacketCame, Puts, IsDrawn, Marks, Pings, Moves, Gives, Takes, Closes, Recycles, moved, taken_by, put_by, end_now_at, given_by, with_first, all_end_moved, end_moved, end_started}
-use Rattle.law_moves.specs.Wires.{of_leg}
-use Rattle.law_moves.specs.Passages.Passing.{count_of, of_kind}
-use Rattle.law_moves.proofs.Passages.Messages.{count_append, leg_more}
-use Rattle.law_moves.specs.PacketKinds.{is_out_r1_a1, is_out_r1_a2}
-use Rattle.law_moves.proofs.PacketKinds.Counts.{leg_is}
-use Rattle.law_moves.specs.Chains.Sums.{count_on}
-use Rattle.law_role_client.specs.Order.{AreAllowedMoves, client_moved}
-use Rattle.law_role_client.specs.Counted.Counting.{is_in_a4}
-use Rattle.law_role_client.specs.Counted.Replacing.{AsksWhereWanted, ReplacesOuts, in_answered, in_asked, out_switched}
+use Rattle.law_moves.proofs.Vocabulary.{Named, Leg, ClientOut, OutServer, GiveRefused, Message, Row, Text, Pdu, Packet, same_leg, EndMove, EndPassage, OnLeg, Passage, Move, Up, HeadCame, PduCame, PacketCame, Puts, IsDrawn, Marks, Pings, Moves, Gives, Takes, Closes, Recycles, moved, taken_by, put_by, end_now_at, given_by, with_first, all_end_moved, end_moved, end_started, of_leg, count_of, of_kind, is_out_r1_a1, is_out_r1_a2, count_on}
+use Rattle.law_moves.proofs.Lemmas.{count_append, leg_more, leg_is}
+use Rattle.law_role_client.proofs.Vocabulary.{acts, rules, first, ClientRole, AreAllowedMoves, client_moved, is_in_a4, AsksWhereWanted, ReplacesOuts, in_answered, in_asked, out_switched}
 use Rattle.law_role_client.proofs.Counted.Standing.{passes, total_stays}
+use Rattle.law_role_server.proofs.Vocabulary.{Server, ArePutInTurn}
 use Rattle.law_role_server.specs.Counted.Counting as at_server
-use Rattle.law_role_server.specs.Counted.Replacing.{ArePutInTurn}
-use Rattle.law_role_outproxy.specs.Counted.{co_leg, os_leg}
+use Rattle.law_role_outproxy.proofs.Vocabulary.{co_leg, os_leg}
 use Rattle.law_role_server_rows.specs.InTurn.Channels.{IsWritten, WritesOnBegun}
 use Rattle.law_node_streams.proofs.Streams.EndMoves.{all_end_moved_append}
-use Rattle.law_peers_moments.specs.Moments.{IsJoined, IsMoment, IsPast, Moves as AllMoves, Numbers, client_behind, out_behind, passages, server_behind}
 use Rattle.law_peers_moments.proofs.Joining.{co_back, os_back}
 use Rattle.law_peers_moments.proofs.Read.{front_count}
+use Rattle.law_peers_moments.proofs.GoingRound.Rounding.{sum_counts}
+use Rattle.law_peers_moments.specs.Moments.{IsJoined, IsMoment, IsPast, Moves as AllMoves, Numbers, client_behind, out_behind, passages, server_behind}
 use Rattle.law_peers_moments.specs.GoingRound.{GoRound}
-use Rattle.law_peers_moments.proofs.GoingRound.Rounding.{once, sum_counts}
 use Rattle.law_peers_in_channels.proofs.ServerExpects.Fronts.{IsOneMore, all_fronts, behind_all, one_more}
+use Rattle.law_peers_room.proofs.OutRoom.Rounds.{answers as taken}
 use Rattle.law_peers_room.specs.OutRoom.Waits.{WaitsInOrder, behind, is_in_a3}
-use Rattle.law_peers_forwarding.specs.Answering.Passing.{AnswersComeBefore, OneFollows}
-use Rattle.law_peers_forwarding.specs.Answering.Wishes.{AsksOneBehind}
 use Rattle.law_peers_forwarding.proofs.Answering.Following.{AreFewer, IsWish, IsWished, all_fewer, came_on, find_wish, left_before, wish_step, wishes_on}
 use Rattle.law_peers_forwarding.proofs.Answering.Since.{allowed_parts}
 use Rattle.law_peers_forwarding.proofs.Answering.Sums.{all_more}
 use Rattle.law_peers_forwarding.proofs.Answering.Until.{until_all, until_rises, until_split}
-
-taken : (m : Named)
-    → once (is_in_a3 m) ≡ once (at_server.is_in_r1_a3 m) + once (at_server.is_in_r2_a3 m)
-taken (named.InR1A3 to version window timeout) = refl
-taken (named.InR2A3 to) = refl
-taken m = refl
+use Rattle.law_peers_forwarding.specs.Answering.Passing.{AnswersComeBefore, OneFollows}
+use Rattle.law_peers_forwarding.specs.Answering.Wishes.{AsksOneBehind}
 
 apart : (m : Named) → is_out_r1_a1 m ≡ true → is_in_a3 m ≡ false
 apart (named.OutR1A1 to) e = refl

@@ -1,26 +1,15 @@
 -- a client asks for one IN channel at most behind a wish for an OUT channel
-use Rattle.std.proofs.Common.{◌≡◌, ℕ, ◌+◌, ◌<◌, ◌≤◌, Bool, true, false, true≢false, nat_lt, List, [], ◌∷◌, ◌++◌, arith, refl, sym, ap, ◌∙◌, subst}
-use Rattle.rh_http.specs.declared.config.ClientConfig.{ClientConfig}
-use Rattle.rh_line.specs.declared.leg.LegKind.TheVariants.{ClientOut, ClientIn}
-use Rattle.rh_shell.specs.declared.answers.Phase.{Phase}
+use Rattle.law_order.proofs.Vocabulary.{◌≡◌, ℕ, ◌+◌, ◌<◌, ◌≤◌, Bool, true, false, true≢false, nat_lt, List, [], ◌∷◌, ◌++◌, arith, refl, sym, ap, ◌∙◌, subst}
 use Rattle.rh_shell.specs.declared.answers.Phase.TheVariants as phase
-use Rattle.rh_shell.specs.NearEnds.{is_ended}
-use Rattle.rh_client.specs.declared.channels.TheConstants.{LAST_NUMBER}
-use Rattle.rh_client.specs.declared.replacement.Waits.{Waits}
 use Rattle.rh_client.specs.declared.replacement.Waits.TheVariants as waits
-use Rattle.rh_client.specs.declared.state.ClientRole.{ClientRole}
-use Rattle.rh_client.specs.State.{first, is_open, is_opening}
-use Rattle.rh_client.specs.Replacements.{has_out, with_in, with_out}
-use Rattle.rh_client.specs.Client.{acts, rules}
-use Rattle.law_moves.specs.Moves.{OnLeg, EndMove, EndPassage, Passage, end_started, end_moved, all_end_moved, AreAllowedAtEnd}
-use Rattle.law_role_client.specs.Order.{AreAllowedMoves, client_moved}
+use Rattle.law_moves.proofs.Vocabulary.{ClientConfig, ClientOut, ClientIn, Phase, is_ended, OnLeg, EndMove, EndPassage, Passage, end_started, end_moved, all_end_moved, AreAllowedAtEnd}
+use Rattle.law_role_client.proofs.Vocabulary.{LAST_NUMBER, Waits, ClientRole, first, is_open, is_opening, has_out, with_in, with_out, acts, rules, AreAllowedMoves, client_moved, is_in_r1_a1, is_in_a4, is_out_r1_a2, is_out_r1_a10, total, once_if}
 use Rattle.law_role_client.proofs.ClientLogs.{of_kind}
-use Rattle.law_role_client.specs.Counted.Counting.{is_in_r1_a1, is_in_a4, is_out_r1_a2, is_out_r1_a10, total, once_if}
 use Rattle.law_role_client.proofs.Counted.Allowed.{allowed_moves_keep}
 use Rattle.law_role_client.proofs.Counted.Standing.{passes, total_stays, total_rises}
 use Rattle.law_role_client.proofs.Counted.Views.{View, view, Way, Free, InIsAsked, InIsAnswered, OutIsAsked, OutIsAnswered, OutIsSwitched, OutIsFinished, is_in_way, out_if, has_in, is_in_first, behind_out, newest_out, Marks, EventsKeep}
-use Rattle.law_role_client.proofs.Counted.Replacements as keeps
 use Rattle.law_role_client.proofs.Counted.Moves.{client_keeps}
+use Rattle.law_role_client.proofs.Counted.Replacements as keeps
 use Rattle.law_node_streams.proofs.Streams.EndMoves.{all_end_moved_append}
 use Rattle.law_peers_forwarding.specs.Answering.Wishes.{AsksOneBehind}
 

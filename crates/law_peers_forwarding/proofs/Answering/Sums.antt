@@ -1,12 +1,7 @@
 -- what is more on one leg is more on all
-use Rattle.std.proofs.Common.{◌≡◌, ℕ, zero, suc, ◌+◌, ◌<◌, ◌≤◌, ◌==◌, Bool, true, false, List, refl, arith, subst}
-use Rattle.std.proofs.lemmas.Bool.Decides.{nat_tests}
-use Rattle.rh_sig.specs.declared.named.Named.{Named}
-use Rattle.rh_line.specs.declared.leg.LegKind.{LegKind}
-use Rattle.law_moves.specs.Moves.{OnLeg}
-use Rattle.law_moves.specs.Passages.Passing.{count_of, of_kind}
-use Rattle.law_moves.specs.Chains.Sums.{count_on, sum_below}
-use Rattle.law_moves.proofs.Chains.Summing.{all_legs, some_legs, sum_rises}
+use Rattle.law_order.proofs.Vocabulary.{◌≡◌, ℕ, zero, suc, ◌+◌, ◌<◌, ◌≤◌, ◌==◌, Bool, true, false, List, refl, arith, subst, nat_tests}
+use Rattle.law_moves.proofs.Vocabulary.{Named, LegKind, OnLeg, count_of, of_kind, count_on, sum_below}
+use Rattle.law_moves.proofs.Lemmas.{all_legs, some_legs, sum_rises}
 
 module _ (f g : ℕ → ℕ) (each : (k : ℕ) → f k ≤ g k) (at more : ℕ) (here : f at + more ≤ g at) where
   sum_more : (n : ℕ) → at < n → sum_below f n + more ≤ sum_below g n

@@ -1,14 +1,8 @@
 -- packets before the first that passes a test, with more messages
-use Rattle.std.proofs.Common.{◌≡◌, ℕ, suc, ◌+◌, ◌≤◌, nat_lt, Bool, true, false, true≢false, if◌then◌else◌, List, [], ◌∷◌, ◌++◌, Some, None, refl, sym, ap, ◌∙◌, arith}
-use Rattle.std.specs.declared.option.Option.{Option}
-use Rattle.law_order.proofs.ByNumber.{by_test}
-use Rattle.rh_sig.specs.declared.named.Named.{Named}
-use Rattle.rh_sig.specs.declared.named.Named.TheVariants.{AckTo}
-use Rattle.rh_shell.specs.declared.due.Due.{Due}
-use Rattle.rh_shell.specs.Rules.{Message, Text, Pdu, Packet}
-use Rattle.rh_shell.specs.Waiting.{Key, key_of, are_one, better, edge_of, merged, takes}
-use Rattle.law_moves.specs.Passages.Passing.{count_of}
-use Rattle.law_moves.proofs.PacketKinds.Waits.{IsNoAck}
+use Rattle.law_order.proofs.Vocabulary.{◌≡◌, ℕ, suc, ◌+◌, ◌≤◌, nat_lt, Bool, true, false, true≢false, if◌then◌else◌, List, [], ◌∷◌, ◌++◌, refl, sym, ap, ◌∙◌, arith}
+use Rattle.law_moves.proofs.Vocabulary.{by_test, Named, AckTo, Due, Message, Text, Pdu, Packet, key_of, are_one, better, edge_of, merged, takes, count_of}
+use Rattle.law_moves.proofs.Lemmas.{IsNoAck}
+use Rattle.law_peers_room.proofs.OutRoom.Merging.{no_key}
 use Rattle.law_peers_room.specs.OutRoom.Waits.{behind, packets_of}
 use Rattle.law_peers_forwarding.specs.Answering.Passing.{count_until}
 
@@ -97,10 +91,6 @@ pub packets_more : (dues : List Due) (due : Due)
 packets_more [] due = refl
 packets_more (first ∷ dues) due =
     ap (λ (ms : List Message). Packet first.packet ∷ ms) (packets_more dues due)
-
-no_key : (o : Option Key) → are_one o None ≡ true → ⊥
-no_key None e = true≢false (sym e)
-no_key (Some key) e = true≢false (sym e)
 
 module _ (test : Named → Bool) (none : IsNoAck test) where
   taken_same : (one other : Named) → are_one (key_of one) (key_of other) ≡ true

@@ -1,94 +1,19 @@
 -- what holds of the packets that wait at a server, where its own become due and others go
-use Rattle.std.proofs.Common.{◌≡◌, ℕ, ◌+◌, ◌≤◌, ◌==◌, ◌&&◌, ◌||◌, Bool, true, false, nat_lt, not, if◌then◌else◌, Some, None, List, refl, sym, subst, rules, arith}
-use Rattle.std.proofs.lemmas.Bool.{and_parts, not-true, or_parts}
-use Rattle.std.specs.Prelude.{IfSome, find, slice_get}
-use Rattle.std.specs.declared.option.Option.{Option}
-use Rattle.std.specs.declared.result.Result.{Result}
-use Rattle.law_order.proofs.ByNumber.{by_test}
-use Rattle.rh_rts.specs.declared.command.Cookie.{Cookie}
-use Rattle.rh_sig.specs.declared.named.Named.{Named}
+use Rattle.law_order.proofs.Vocabulary.{◌≡◌, ℕ, ◌+◌, ◌≤◌, ◌==◌, ◌&&◌, ◌||◌, Bool, true, false, nat_lt, not, if◌then◌else◌, Some, None, List, refl, sym, subst, rules, arith, and_parts, not-true, or_parts, IfSome, find, slice_get, Option, Result}
 use Rattle.rh_sig.specs.declared.named.Named.TheVariants as named
-use Rattle.rh_line.specs.Queue.{front_length}
-use Rattle.rh_line.specs.declared.leg.Leg.{Leg}
-use Rattle.rh_line.specs.declared.leg.LegKind.{LegKind}
-use Rattle.rh_line.specs.declared.leg.LegKind.TheVariants.{ClientOut, OutServer, ClientIn, InServer}
-use Rattle.rh_line.specs.declared.which.Which.{Which}
-use Rattle.rh_line.specs.declared.which.Which.TheVariants.{Current, Next}
-use Rattle.rh_line.specs.Lines.{after_finish, after_take}
-use Rattle.rh_shell.specs.declared.answers.Count.{Count}
 use Rattle.rh_shell.specs.declared.answers.Refused.TheVariants as refused
-use Rattle.rh_shell.specs.declared.due.Due.{Due}
-use Rattle.rh_shell.specs.declared.end_role.RecycleRefused.{RecycleRefused}
-use Rattle.rh_shell.specs.Rules.{Message}
-use Rattle.rh_shell.specs.Waiting.{Waiting, added, with_due, without_first}
-use Rattle.rh_server.specs.declared.state.Edge.TheVariants.{Shut}
-use Rattle.rh_server.specs.declared.state.InLeg.{InLeg}
-use Rattle.rh_server.specs.declared.state.InStage.{InStage}
 use Rattle.rh_server.specs.declared.state.InStage.TheVariants as in_stage
-use Rattle.rh_server.specs.declared.state.OutLeg.{OutLeg}
-use Rattle.rh_server.specs.declared.state.Replacement.{Replacement}
 use Rattle.rh_server.specs.declared.state.Replacement.TheVariants as replacement
-use Rattle.rh_server.specs.declared.state.Stage.{Stage}
 use Rattle.rh_server.specs.declared.state.Stage.TheVariants as stage
-use Rattle.rh_server.specs.declared.out_line.Kind.{Kind}
 use Rattle.rh_server.specs.declared.out_line.Kind.TheVariants as kinds
 use Rattle.rh_server.specs.OutLines as lines
-use Rattle.rh_server.specs.OutLines.{is_ack_of, kind_of, lets}
-use Rattle.rh_server.specs.States.{Server, in_leg, is_due, is_fresh, is_open, is_steady, out_at, out_place, out_cookie, same_cookie, with_in, without_in, without_out}
-use Rattle.rh_server.specs.Opening.{Done, took, refuse, unexpected, is_first, opens, first_in, with_first_in, first_out_at, with_first_out, up, conn_a2_at, on_conn_a2, conn_b2_at, on_conn_b2}
-use Rattle.rh_server.specs.Acknowledging.{channel_at}
-use Rattle.rh_server.specs.InReplacement.{announced, becomes_current, first_waiting, hands_over, has_fresh_below, in_r1_a2_at, in_r1_a2_by, in_r2_a2_on, leaves_by, moved_if, next_opened, on_in_r1_a2, on_in_r1_a6, on_in_r2_a2, opens_leg, opens_next, take}
-use Rattle.rh_server.specs.OutReplacement.{answered_by, answered_on, asks, confirms, is_asked, is_under_way, last_number, may_answer, on_out_r1_a4, on_out_r1_a8, out_r1_a4_at, out_r1_a4_by, out_r1_a8_at, recycle, wishes}
-use Rattle.rh_server.specs.Ending.{completed, drawn_by, give, in_is_drawn, is_complete, lost_in, mark_by, settled, with_ack_dropped, without_ack_of}
-use Rattle.rh_server.specs.Putting.{Pick, or_else, counts, counts_at, gate, gate_at, is_end_due, may_end_at, may_go_at, next_out, out_greeting_at, pdu_by, put_by as put_by_kind, put_end, put_in, put_open, put_out_at, put_out_greeting, put_pdu, put_pdu_or_end, put_waiting, settled_pick, waiting_at, waiting_by, was_put}
-use Rattle.rh_server.specs.Servers.{on_is, on_os, pdu}
-use Rattle.law_role_server.specs.Counted.Counting.{waiting_of}
+use Rattle.law_moves.proofs.Vocabulary.{by_test, Cookie, Named, front_length, LegKind, ClientOut, OutServer, ClientIn, InServer, Which, Current, Next, after_finish, after_take, Count, Due, RecycleRefused, Message, Waiting, added, with_due, without_first}
+use Rattle.law_role_server.proofs.Vocabulary.{Shut, InLeg, InStage, OutLeg, Replacement, Stage, Kind, is_ack_of, kind_of, lets, Server, in_leg, is_due, is_fresh, is_open, is_steady, out_at, out_place, out_cookie, same_cookie, with_in, without_in, without_out, Done, took, refuse, unexpected, is_first, opens, with_first_in, with_first_out, conn_a2_at, on_conn_a2, conn_b2_at, on_conn_b2, channel_at, announced, becomes_current, first_waiting, hands_over, has_fresh_below}
+use Rattle.law_role_server.proofs.Vocabulary.{in_r1_a2_at, in_r1_a2_by, in_r2_a2_on, leaves_by, moved_if, next_opened, on_in_r1_a2, on_in_r1_a6, on_in_r2_a2, opens_leg, opens_next, take, answered_by, answered_on, asks, confirms, is_asked, is_under_way, last_number, may_answer, on_out_r1_a4, on_out_r1_a8, out_r1_a4_at, out_r1_a4_by, out_r1_a8_at, recycle, wishes, completed, drawn_by, in_is_drawn, lost_in, mark_by, settled, with_ack_dropped, without_ack_of, Pick, or_else}
+use Rattle.law_role_server.proofs.Vocabulary.{counts, gate, gate_at, is_end_due, may_end_at, may_go_at, next_out, out_greeting_at, pdu_by, put_by as put_by_kind, put_end, put_in, put_open, put_out_at, put_out_greeting, put_pdu, put_pdu_or_end, put_waiting, settled_pick, waiting_at, waiting_by, was_put, on_is, on_os, waiting_of}
 use Rattle.law_role_server.proofs.Counted.Dues.{Went, first_goes}
-
--- ---- what leaves them alone
-
-completed_same : (s : Server) → (completed s).waiting ≡ s.waiting
-completed_same s =
-    by_test (λ (t : Server). t.waiting ≡ s.waiting) (is_complete s)
-    (record s { stage = stage.Ended }) s (λ e. refl) (λ e. refl)
-
-first_out_same : (s : Server) (b : Cookie) (c d : ℕ)
-    → (with_first_out s b c d).waiting ≡ s.waiting
-first_out_same s b c d = by (out_place 1 s.outs) (out_at s.outs (out_place 1 s.outs))
-  where
-    by : (place : Option ℕ) (o : Option OutLeg)
-        → (first_out_at s b c d place o).waiting ≡ s.waiting
-    by (Some place) (Some leg) = refl
-    by (Some place) None = refl
-    by None o = refl
-
-first_in_same : (s : Server) (b : Cookie) → (with_first_in s b).waiting ≡ s.waiting
-first_in_same s b = by (in_leg 1 s.ins)
-  where
-    by : (o : Option InLeg) → (first_in s b o).waiting ≡ s.waiting
-    by None = refl
-    by (Some leg) = refl
-
-pub up_same : (s : Server) (leg : Leg) (cookie : Cookie) → (up s leg cookie).waiting ≡ s.waiting
-up_same s leg cookie = search rules
-
-pub pdu_same : (s : Server) (leg : Leg) (count : Count) (bytes : List ℕ)
-    → (pdu s leg count bytes).0.waiting ≡ s.waiting
-pdu_same s leg count bytes = search rules
-
-pub give_same : (s : Server) (bytes : List ℕ) → (give s bytes).0.waiting ≡ s.waiting
-give_same s bytes = search rules
-
-pub counts_same : (s : Server) (place len : ℕ) → (counts s place len).waiting ≡ s.waiting
-counts_same s place len = by (slice_get s.outs place)
-  where
-    by : (o : Option OutLeg) → (counts_at s place len o).waiting ≡ s.waiting
-    by None = refl
-    by (Some leg) = refl
-
-pub in_same : (s : Server) (n : ℕ)
-    → IfSome (put_in s n) (λ (one : Server × Message). one.0.waiting ≡ s.waiting)
-in_same s n = search rules
+use Rattle.law_role_server.proofs.Counted.Adding.{first_out_same, completed_same, first_in_same}
+use Rattle.law_peers_room.proofs.ServerRoom.Forwarded.{counts_same, in_same}
 
 -- ---- where none of a kind waits
 

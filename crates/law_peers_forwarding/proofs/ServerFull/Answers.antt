@@ -1,13 +1,12 @@
 -- how many IN channels a server answers while an acknowledgement waits
-use Rattle.std.proofs.Common.{◌≡◌, ℕ, ◌+◌, ◌*◌, ◌≤◌, List, [], ◌∷◌, ◌++◌, append_assoc, length, sym, ◌∙◌, subst, arith}
-use Rattle.rh_server.specs.States.{Server}
-use Rattle.law_moves.specs.Moves.{EndMove, Passage}
-use Rattle.law_role_server.specs.Counted.Counting.{is_in_r1_a3, is_in_r2_a3, out_put, waits_for}
+use Rattle.law_order.proofs.Vocabulary.{◌≡◌, ℕ, ◌+◌, ◌*◌, ◌≤◌, List, [], ◌∷◌, ◌++◌, append_assoc, length, sym, ◌∙◌, subst, arith}
+use Rattle.law_moves.proofs.Vocabulary.{EndMove, Passage}
+use Rattle.law_role_server.proofs.Vocabulary.{Server, is_in_r1_a3, is_in_r2_a3, out_put, waits_for}
 use Rattle.law_role_server_in.specs.Handovers.{passed}
 use Rattle.law_peers_room.specs.ServerRoom.Overtaking.{AreLong, FewOvertake, answer_bytes, due_bytes, is_ack_for}
+use Rattle.law_peers_forwarding.proofs.ServerFull.Longest.{put_grows}
 use Rattle.law_peers_forwarding.specs.ServerFull.Oldest.{Oldest}
 use Rattle.law_peers_forwarding.specs.ServerFull.Taken.{FewAreTaken}
-use Rattle.law_peers_forwarding.proofs.ServerFull.Longest.{put_grows}
 
 -- of 52 bytes and of 28
 few_fit : (first second first_then second_then one two : ℕ) → first_then ≤ first

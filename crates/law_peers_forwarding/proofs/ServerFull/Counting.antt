@@ -1,23 +1,16 @@
 -- no more acknowledgements to the client wait than there are numbers of their channels
-use Rattle.std.proofs.Common.{◌≡◌, ◌⊎◌, inl, inr, ℕ, suc, ◌≤◌, Bool, true, false, if◌then◌else◌, List, [], ◌∷◌, ◌++◌, length, refl, sym, ap, ◌∙◌, subst, arith}
-use Rattle.law_order.proofs.ByNumber.{same_number}
-use Rattle.rh_rts.specs.declared.command.Cookie.{Cookie}
-use Rattle.rh_sig.specs.declared.named.Named.{Named}
+use Rattle.law_order.proofs.Vocabulary.{◌≡◌, ◌⊎◌, inl, inr, ℕ, suc, ◌≤◌, Bool, true, false, if◌then◌else◌, List, [], ◌∷◌, ◌++◌, length, refl, sym, ap, ◌∙◌, subst, arith}
 use Rattle.rh_sig.specs.declared.named.Named.TheVariants as named
-use Rattle.rh_shell.specs.declared.due.Due.{Due}
-use Rattle.rh_client.specs.State.{ci}
-use Rattle.law_moves.specs.Passages.Passing.{BeginsIn, HasOne}
-use Rattle.law_moves.specs.Moves.{EndMove}
-use Rattle.law_moves.specs.Wires.{of_leg}
-use Rattle.law_role_client.specs.Counted.Naming.{NamesIns}
-use Rattle.law_role_server.specs.Counted.Counting.{is_ack_to, waiting_of}
+use Rattle.law_moves.proofs.Vocabulary.{same_number, Cookie, Named, Due, BeginsIn, HasOne, EndMove, of_leg}
+use Rattle.law_role_client.proofs.Vocabulary.{ci, NamesIns}
+use Rattle.law_role_server.proofs.Vocabulary.{is_ack_to, waiting_of}
 use Rattle.law_peers_moments.specs.Moments.{Moves, Numbers, client_behind, server_behind}
 use Rattle.law_peers_room.specs.ServerRoom.Forwarding.{ForwardsAcks}
 use Rattle.law_peers_room.specs.ServerRoom.Overtaking.{is_ack_for}
+use Rattle.law_peers_forwarding.proofs.ServerFull.Longest.{first_is, for_itself, one_more}
 use Rattle.law_peers_forwarding.specs.ServerFull.Few.{IsAmong, NoMoreWait}
 use Rattle.law_peers_forwarding.specs.ServerFull.Numbered.{AreLate, IsLate}
 use Rattle.law_peers_forwarding.specs.ServerFull.Oldest.{Oldest}
-use Rattle.law_peers_forwarding.proofs.ServerFull.Longest.{first_is, for_itself, one_more}
 
 -- ---- one less
 

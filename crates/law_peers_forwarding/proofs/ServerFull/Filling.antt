@@ -1,42 +1,20 @@
 -- how many acknowledgements to the client wait where a server has no room for one more
-use Rattle.std.proofs.Common.{◌≡◌, ◌⊎◌, inl, inr, ℕ, zero, suc, ◌+◌, ◌<◌, ◌≤◌, ◌==◌, ◌&&◌, Bool, true, false, nat_lt, not, if◌then◌else◌, List, [], ◌∷◌, length, Some, None, Err, refl, sym, ap, ◌∙◌, subst, arith}
-use Rattle.std.proofs.lemmas.Bool.Decides.{nat_tests}
-use Rattle.std.proofs.lemmas.List.Quantifiers.{position-Some}
-use Rattle.std.proofs.lemmas.List.Sums.{sum_by-cons}
-use Rattle.std.proofs.lemmas.Option.{get_or_from_slice_get}
-use Rattle.std.specs.Prelude.{IfSome, count_by, find, slice_get}
-use Rattle.std.specs.List.{AllByRecursion, list_any}
-use Rattle.std.specs.declared.option.Option.{Option}
-use Rattle.law_order.proofs.ByNumber.{by_test, same_number, test_other}
-use Rattle.rh_rts.specs.declared.command.Cookie.{Cookie}
-use Rattle.rh_sig.specs.declared.named.Named.{Named}
-use Rattle.rh_sig.specs.declared.named.Named.TheVariants.{AckTo}
-use Rattle.rh_line.specs.declared.leg.Leg.{Leg}
-use Rattle.rh_line.specs.declared.leg.LegKind.{LegKind}
-use Rattle.rh_line.specs.declared.leg.LegKind.TheVariants.{ClientOut, OutServer, ClientIn, InServer}
-use Rattle.rh_shell.specs.declared.answers.Count.{Count}
+use Rattle.law_order.proofs.Vocabulary.{◌≡◌, ◌⊎◌, inl, inr, ℕ, zero, suc, ◌+◌, ◌<◌, ◌≤◌, ◌==◌, ◌&&◌, Bool, true, false, nat_lt, not, if◌then◌else◌, List, [], ◌∷◌, length, Some, None, Err, refl, sym, ap, ◌∙◌, subst, arith, position-Some, sum_by-cons, get_or_from_slice_get, IfSome, count_by, find, slice_get, AllByRecursion, list_any, Option}
 use Rattle.rh_shell.specs.declared.answers.Refused.TheVariants as refused
-use Rattle.rh_shell.specs.declared.due.Due.{Due}
-use Rattle.rh_shell.specs.declared.due.Origin.TheVariants.{Forwarded}
-use Rattle.rh_shell.specs.Waiting.{Waiting, merged, pushed, takes, to_forward, with_due}
 use Rattle.rh_shell.specs.Waiting as waits
-use Rattle.rh_server.specs.declared.state.OutLeg.{OutLeg}
-use Rattle.rh_server.specs.Acknowledging.{channel_leg, channel_place, elsewhere, forward_by, forwards, forwards_to, forwards_writing, has_ack_by, has_ack_elsewhere, is_of_channel, number_by, on_ack_to}
-use Rattle.rh_server.specs.Opening.{Done, is_first, unexpected}
-use Rattle.rh_server.specs.OutLines.{is_ack_of}
-use Rattle.rh_server.specs.Servers.{packet_by, rules}
-use Rattle.rh_server.specs.States.{Server, is_some, out_at}
-use Rattle.law_role_server.specs.Counted.Counting.{is_ack_to, waiting_of, waits_for}
+use Rattle.law_moves.proofs.Vocabulary.{by_test, same_number, test_other, Cookie, Named, AckTo, Leg, LegKind, ClientOut, OutServer, ClientIn, InServer, Count, Due, Forwarded, Waiting, merged, pushed, takes, to_forward, with_due}
+use Rattle.law_role_server.proofs.Vocabulary.{OutLeg, channel_leg, channel_place, elsewhere, forward_by, forwards, forwards_to, forwards_writing, has_ack_by, has_ack_elsewhere, is_of_channel, number_by, on_ack_to, Done, is_first, unexpected, is_ack_of, packet_by, rules, Server, is_some, out_at, is_ack_to, waiting_of, waits_for}
+use Rattle.law_role_server.proofs.Each.{each_got}
+use Rattle.law_role_server.proofs.Numbered.{one as some_same}
+use Rattle.law_peers_moments.proofs.GoingRound.Rounding.{once}
+use Rattle.law_role_server_in.proofs.Tests.{at_least as no_less}
+use Rattle.law_peers_room.proofs.ServerRoom.Ahead.{same_cookies}
+use Rattle.law_peers_room.proofs.ServerRoom.Legs.{Above, Sorted}
 use Rattle.law_peers_room.specs.ServerRoom.Forwarding.{ForwardsAcks, is_ack_at}
 use Rattle.law_peers_room.specs.ServerRoom.Owning.{AcksHaveLegs}
-use Rattle.law_peers_room.proofs.ServerRoom.Ahead.{same_cookies}
-use Rattle.law_peers_room.proofs.ServerRoom.Legs.{Above, Sorted, each_got, some_same}
 use Rattle.law_peers_forwarding.specs.ServerFull.Filled.{FillsFirst}
 
-abbrev once : Bool → ℕ
-once b = if b then 1 else 0
-
-and_none : (a b : Bool) → b ≡ false → a && b ≡ false
+pub and_none : (a b : Bool) → b ≡ false → a && b ≡ false
 and_none true b e = e
 and_none false b e = refl
 
@@ -137,9 +115,6 @@ none_by channel w (Some other) none is =
     ∙ none_has channel w.due none
 
 -- ---- where one for an out proxy is refused
-
-no_less : (a b : ℕ) → nat_lt a b ≡ false → b ≤ a
-no_less a b e = grind (arith, nat_tests)
 
 module _ (s : Server) (received window : ℕ) (channel : Cookie) where
   abbrev packet : Named

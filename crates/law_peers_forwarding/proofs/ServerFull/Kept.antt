@@ -1,47 +1,21 @@
 -- what a server forwards to the client came, of each channel, and it forwards none twice
-use Rattle.std.proofs.Common.{◌≡◌, ℕ, suc, ◌+◌, ◌≤◌, ◌==◌, ◌&&◌, Bool, true, false, nat_lt, if◌then◌else◌, List, [], ◌∷◌, ◌++◌, Some, None, Ok, Err, refl, sym, ap, ◌∙◌, subst, arith}
-use Rattle.std.specs.Prelude.{IfSome, find, slice_get}
-use Rattle.std.specs.List.{list_any}
-use Rattle.std.specs.declared.option.Option.{Option}
-use Rattle.law_order.proofs.ByNumber.{by_test, same_number}
-use Rattle.rh_rts.specs.declared.command.Cookie.{Cookie}
-use Rattle.rh_sig.specs.declared.named.Named.{Named}
+use Rattle.law_order.proofs.Vocabulary.{◌≡◌, ℕ, suc, ◌+◌, ◌≤◌, ◌==◌, ◌&&◌, Bool, true, false, nat_lt, if◌then◌else◌, List, [], ◌∷◌, ◌++◌, Some, None, Ok, Err, refl, sym, ap, ◌∙◌, subst, arith, IfSome, find, slice_get, list_any, Option}
 use Rattle.rh_sig.specs.declared.named.Named.TheVariants as named
-use Rattle.rh_line.specs.Queue.{front_length}
-use Rattle.rh_line.specs.declared.leg.LegKind.{LegKind}
-use Rattle.rh_line.specs.declared.leg.LegKind.TheVariants.{ClientOut, OutServer, ClientIn, InServer}
-use Rattle.rh_shell.specs.declared.answers.Count.{Count}
 use Rattle.rh_shell.specs.declared.answers.Refused.TheVariants as refused
-use Rattle.rh_shell.specs.declared.due.Due.{Due}
-use Rattle.rh_shell.specs.declared.due.Origin.TheVariants.{Forwarded}
-use Rattle.rh_shell.specs.Rules.{Message, Packet, Pdu}
-use Rattle.rh_shell.specs.Waiting.{Waiting, better, merged, own, pushed, takes, to_forward, with_due, without_first}
 use Rattle.rh_shell.specs.Waiting as waits
-use Rattle.rh_server.specs.declared.out_line.Kind.{Kind}
-use Rattle.rh_server.specs.declared.state.OutLeg.{OutLeg}
 use Rattle.rh_server.specs.OutLines as lines
-use Rattle.rh_server.specs.OutLines.{kind_of, lets}
-use Rattle.rh_server.specs.States.{Server, is_due, is_open, out_place}
-use Rattle.rh_server.specs.Opening.{Done, refuse, unexpected, is_first, up}
-use Rattle.rh_server.specs.Acknowledging.{channel_leg, forward_by, forwards, forwards_to, forwards_writing, on_ack_to, out_server}
-use Rattle.rh_server.specs.InReplacement.{take}
-use Rattle.rh_server.specs.OutReplacement.{recycle}
-use Rattle.rh_server.specs.Ending.{drawn_by, give, mark_by}
-use Rattle.rh_server.specs.Putting.{Pick, or_else, counts, gate, gate_at, is_end_due, may_end_at, may_go_at, next_out, out_greeting_at, pdu_by, put_by as put_by_kind, put_end, put_in, put_open, put_out_at, put_out_greeting, put_pdu, put_pdu_or_end, put_waiting, settled_pick, waiting_at, waiting_by, was_put}
-use Rattle.rh_server.specs.Servers.{acts, first, on_is, on_os, packet_by, pdu}
-use Rattle.rh_server.specs.Servers.{rules as server_rules}
-use Rattle.law_moves.specs.Passages.Passing.{count_of, of_kind}
-use Rattle.law_moves.proofs.Passages.Logs.{ActsKeep, PutKeeps, RowKeeps, StepsKeep, end_moves_keep}
-use Rattle.law_moves.proofs.Passages.Messages.{count_append, kind_more}
-use Rattle.law_moves.specs.Moves.{OnLeg, EndMove, EndPassage, Passage, all_end_moved, end_started}
-use Rattle.law_role_server.specs.Counted.Counting.{leg_at, often, waiting_of, waits_for}
+use Rattle.law_moves.proofs.Vocabulary.{by_test, same_number, Cookie, Named, front_length, LegKind, ClientOut, OutServer, ClientIn, InServer, Count, Due, Forwarded, Message, Packet, Pdu, Waiting, better, merged, own, pushed, takes, to_forward, with_due, without_first, count_of, of_kind, OnLeg, EndMove, EndPassage, Passage, all_end_moved, end_started}
+use Rattle.law_moves.proofs.Lemmas.{ActsKeep, PutKeeps, RowKeeps, StepsKeep, end_moves_keep, count_append, kind_more}
+use Rattle.law_role_server.proofs.Vocabulary.{Kind, OutLeg, kind_of, lets, Server, is_due, is_open, out_place, Done, refuse, unexpected, is_first, up, channel_leg, forward_by, forwards, forwards_to, forwards_writing, on_ack_to, out_server, take, recycle, drawn_by, give, mark_by, Pick, or_else, counts, gate, gate_at, is_end_due, may_end_at, may_go_at, next_out, out_greeting_at, pdu_by, put_by as put_by_kind, put_end, put_in, put_open, put_out_at, put_out_greeting, put_pdu}
+use Rattle.law_role_server.proofs.Vocabulary.{put_pdu_or_end, put_waiting, settled_pick, waiting_at, waiting_by, was_put, acts, first, on_is, on_os, packet_by, pdu, rules as server_rules, leg_at, often, waiting_of, waits_for}
 use Rattle.law_role_server.proofs.Counted.Dues.{Went, alone_none, first_goes, one_waits, push_waits}
 use Rattle.law_node_streams.proofs.Streams.EndMoves.{all_end_moved_append}
 use Rattle.law_role_server_in.specs.Handovers.{passed}
+use Rattle.law_peers_room.proofs.InRoom.Turns.{one_is as same_keys}
+use Rattle.law_peers_room.proofs.ServerRoom.Forwarded.{counts_same, give_same, in_same, pdu_same, up_same}
 use Rattle.law_peers_room.specs.ServerRoom.Overtaking.{is_ack_for}
-use Rattle.law_peers_room.proofs.ServerRoom.Ahead.{same_keys}
+use Rattle.law_peers_forwarding.proofs.ServerFull.Adding.{Keeps, drawn_serves, fewer, is_row, mark_serves, os_row, recycle_serves, same_serves, settled_serves, take_serves}
 use Rattle.law_peers_forwarding.specs.ServerFull.Keeping.{ForwardsWhatCame}
-use Rattle.law_peers_forwarding.proofs.ServerFull.Adding.{Keeps, counts_same, drawn_serves, fewer, give_same, in_same, is_row, mark_serves, os_row, pdu_same, recycle_serves, same_serves, settled_serves, take_serves, up_same}
 
 -- ---- what waits
 

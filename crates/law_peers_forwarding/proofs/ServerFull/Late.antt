@@ -1,62 +1,20 @@
 -- of which channels acknowledgements to the client came at a server since a front of its moves
-use Rattle.std.proofs.Common.{◌≡◌, ◌⊎◌, inl, inr, ℕ, zero, suc, ◌+◌, ◌<◌, ◌≤◌, Bool, true, false, if◌then◌else◌, List, [], ◌∷◌, ◌++◌, append_assoc, Ok, Err, Some, None, refl, sym, ap, ◌∙◌, subst, arith}
-use mathlib.Core.List.{IsPrefix}
-use Rattle.rh_rts.specs.declared.command.Cookie.{Cookie}
-use Rattle.rh_sig.specs.declared.named.Named.{Named}
-use Rattle.rh_sig.specs.declared.named.Named.TheVariants.{AckTo}
-use Rattle.rh_line.specs.declared.leg.Leg.{Leg}
-use Rattle.rh_line.specs.declared.leg.LegKind.{LegKind}
-use Rattle.rh_line.specs.declared.leg.LegKind.TheVariants.{ClientOut, OutServer, ClientIn, InServer}
-use Rattle.law_order.proofs.ByNumber.{test_same}
-use Rattle.law_order.proofs.Prefixes.{prefix_self, prefix_more, prefix_trans}
-use Rattle.law_moves.specs.Passages.Passing.{count_of, of_kind}
-use Rattle.law_moves.proofs.Passages.Logs.{ActsKeep, PutKeeps, RowKeeps, StepsKeep, end_moves_keep}
-use Rattle.law_moves.proofs.Passages.Messages.{count_append}
+use Rattle.law_order.proofs.Vocabulary.{◌≡◌, ◌⊎◌, inl, inr, ℕ, suc, ◌+◌, ◌<◌, ◌≤◌, Bool, true, false, if◌then◌else◌, List, [], ◌∷◌, ◌++◌, append_assoc, Ok, Err, Some, None, refl, sym, ap, ◌∙◌, subst, arith, IsPrefix}
+use Rattle.law_moves.proofs.Vocabulary.{test_same, prefix_self, prefix_more, prefix_trans, Cookie, Named, AckTo, Leg, LegKind, ClientOut, OutServer, ClientIn, InServer, Message, Row, Text, Pdu, Packet, count_of, of_kind, EndMove, EndPassage, OnLeg, Passage, all_end_moved, end_started, of_leg, all_read_of}
+use Rattle.law_moves.proofs.Lemmas.{ActsKeep, PutKeeps, RowKeeps, StepsKeep, end_moves_keep, count_append, of_append as leg_append}
+use Rattle.law_role_inproxy.proofs.Vocabulary.{InProxy, IsStream, PutsInOrder, is_leg}
+use Rattle.law_role_server.proofs.Vocabulary.{Server, Pick, acts, first, rules, in_came, is_conn_b2, is_in_r1_a2, is_in_r1_a6, is_in_r2_a2, leg_at, often}
+use Rattle.law_role_server_rows.proofs.InTurn.Splits.{kind_append}
 use Rattle.law_node_streams.proofs.Streams.EndMoves.{all_end_moved_append}
-use Rattle.law_moves.specs.Moves.{EndMove, EndPassage, OnLeg, Passage, all_end_moved, end_started}
-use Rattle.rh_shell.specs.Rules.{Message, Row, Text, Pdu, Packet}
-use Rattle.rh_shell.specs.Shells.{is_of, same_leg}
-use Rattle.law_moves.specs.Wires.{of_leg}
-use Rattle.law_moves.specs.ReadBack.Reading.{all_read_of}
-use Rattle.rh_inproxy.specs.State.{InProxy}
-use Rattle.law_role_inproxy.specs.Putting.Puts.{IsStream, PutsInOrder}
-use Rattle.law_role_inproxy.specs.Counted.{is_leg}
-use Rattle.rh_server.specs.States.{Server}
-use Rattle.rh_server.specs.Putting.{Pick}
-use Rattle.rh_server.specs.Servers.{acts, first, rules}
-use Rattle.law_role_server.specs.Counted.Counting.{in_came, is_conn_b2, is_in_r1_a2, is_in_r1_a6, is_in_r2_a2, leg_at, often}
-use Rattle.law_peers_in_channels.specs.InChannels.{passed}
-use Rattle.law_peers_moments.specs.Moments.{IsJoined, Moves, Numbers, ReadInTurn, in_behind, passages, server_behind}
 use Rattle.law_peers_moments.proofs.Joining.{is_front}
+use Rattle.law_peers_moments.specs.Moments.{IsJoined, Moves, Numbers, in_behind, passages, server_behind}
+use Rattle.law_peers_expects.proofs.InProxyExpects.Untold.{reader_most as reads_before}
+use Rattle.law_peers_in_channels.specs.InChannels.{passed}
 use Rattle.law_peers_room.specs.ServerRoom.Answered.{AreAnsweredFirst}
 use Rattle.law_peers_room.specs.ServerRoom.Overtaking.{is_ack_for}
-use Rattle.law_peers_forwarding.specs.ServerFull.Numbered.{AreLate, IsLate}
 use Rattle.law_peers_forwarding.proofs.ServerFull.Longest.{is_for}
 use Rattle.law_peers_forwarding.proofs.ServerFull.Streams.{open_before}
-
--- ---- logs
-
-kind_append : (kind : LegKind) (a b : List OnLeg)
-    → of_kind kind (a ++ b) ≡ of_kind kind a ++ of_kind kind b
-kind_append kind [] b = refl
-kind_append kind (one ∷ a) b = by (is_of kind one.0) (kind_append kind a b)
-  where
-    by : (c : Bool) → of_kind kind (a ++ b) ≡ of_kind kind a ++ of_kind kind b
-        → (if c then one.1 ∷ of_kind kind (a ++ b) else of_kind kind (a ++ b))
-        ≡ (if c then one.1 ∷ of_kind kind a else of_kind kind a) ++ of_kind kind b
-    by true e = ap (λ (ms : List Message). one.1 ∷ ms) e
-    by false e = e
-
-pub leg_append : (leg : Leg) (a b : List OnLeg)
-    → of_leg leg (a ++ b) ≡ of_leg leg a ++ of_leg leg b
-leg_append leg [] b = refl
-leg_append leg (one ∷ a) b = by (same_leg one.0 leg) (leg_append leg a b)
-  where
-    by : (c : Bool) → of_leg leg (a ++ b) ≡ of_leg leg a ++ of_leg leg b
-        → (if c then one.1 ∷ of_leg leg (a ++ b) else of_leg leg (a ++ b))
-        ≡ (if c then one.1 ∷ of_leg leg a else of_leg leg a) ++ of_leg leg b
-    by true e = ap (λ (ms : List Message). one.1 ∷ ms) e
-    by false e = e
+use Rattle.law_peers_forwarding.specs.ServerFull.Numbered.{AreLate, IsLate}
 
 -- ---- a packet of a log
 
@@ -153,18 +111,6 @@ came_grows numbers front later =
     acts (calls (passed numbers front).came)
     (all_end_moved rules acts (end_started (first numbers.window)) front) later
     (prefix_self (passed numbers front).came))
-
--- ---- readers
-
-reads_before : (reader : ℕ → ℕ) → ReadInTurn reader → (n : ℕ) → reader n ≤ n
-reads_before reader h zero = let none = h.none in omega (arith, none)
-reads_before reader h (suc n) = by (h.next n) (reads_before reader h n)
-  where
-    by : (reader (suc n) ≡ 0) ⊎ ((reader (suc n) ≡ suc n) ⊎ (reader (suc n) ≡ reader n))
-        → reader n ≤ n → reader (suc n) ≤ suc n
-    by (inl none) rest = omega (arith, none)
-    by (inr (inl own)) rest = omega (arith, own)
-    by (inr (inr same)) rest = omega (arith, same, rest)
 
 -- ---- the law
 

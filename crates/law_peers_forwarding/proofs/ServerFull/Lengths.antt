@@ -1,43 +1,20 @@
 -- few packets wait at a server, whatever happens
-use Rattle.std.proofs.Common.{◌≡◌, ℕ, ◌+◌, ◌<◌, ◌≤◌, ◌==◌, ◌||◌, Bool, true, false, nat_lt, if◌then◌else◌, List, [], ◌∷◌, ◌++◌, length, Some, None, Ok, Err, refl, sym, ap, ◌∙◌, arith}
-use Rattle.std.proofs.lemmas.Bool.{false≢true}
-use Rattle.std.proofs.lemmas.Bool.Decides.{nat_tests}
-use Rattle.std.proofs.lemmas.List.Sums.{sum_by-cons, sum_by_push}
-use Rattle.std.specs.List.{AllByRecursion, list_any}
-use Rattle.std.specs.declared.option.Option.{Option}
-use Rattle.law_order.proofs.ByNumber.{by_test}
-use Rattle.rh_rts.specs.declared.command.Cookie.{Cookie}
-use Rattle.rh_sig.specs.declared.named.Named.{Named}
+use Rattle.law_order.proofs.Vocabulary.{◌≡◌, ℕ, ◌+◌, ◌≤◌, ◌==◌, ◌||◌, Bool, true, false, nat_lt, if◌then◌else◌, List, [], ◌∷◌, ◌++◌, length, Some, None, Ok, Err, refl, sym, ap, ◌∙◌, arith, false≢true, sum_by-cons, sum_by_push, AllByRecursion, list_any, Option}
 use Rattle.rh_sig.specs.declared.named.Named.TheVariants as named
-use Rattle.rh_line.specs.declared.leg.Leg.{Leg}
-use Rattle.rh_line.specs.declared.leg.LegKind.{LegKind}
-use Rattle.rh_line.specs.declared.leg.LegKind.TheVariants.{ClientOut, OutServer, ClientIn, InServer}
-use Rattle.rh_line.proofs.Queues.{each_push}
-use Rattle.rh_shell.specs.declared.answers.Count.{Count}
-use Rattle.rh_shell.specs.declared.due.Due.{Due}
-use Rattle.rh_shell.specs.declared.due.Origin.{Origin}
-use Rattle.rh_shell.specs.declared.due.Origin.TheVariants.{Forwarded}
-use Rattle.rh_shell.specs.Rules.{Packet, Pdu}
-use Rattle.rh_shell.specs.Waiting.{Key, Waiting, added, are_one, better, count, edge_of, forwarded, is_of, key_of, merged, own, pushed, takes, to_forward, with_due, without_first}
+use Rattle.rh_shell.specs.Waiting.{is_of}
 use Rattle.rh_shell.specs.declared.answers.Refused.TheVariants as refused
-use Rattle.rh_server.specs.declared.out_line.Kind.{Kind}
 use Rattle.rh_server.specs.declared.out_line.Kind.TheVariants as kinds
-use Rattle.rh_server.specs.OutLines.{are_kind, is_ack, is_kind, kind_of, waits}
-use Rattle.rh_server.specs.States.{Server, is_some}
-use Rattle.rh_server.specs.Opening.{Done, is_first, refuse, unexpected, up}
-use Rattle.rh_server.specs.Acknowledging.{channel_leg, forward_by, forwards, forwards_to, forwards_writing, on_ack_to, out_server}
-use Rattle.rh_server.specs.Ending.{give}
-use Rattle.rh_server.specs.Putting.{Pick, put_by as put_by_kind}
-use Rattle.rh_server.specs.Servers.{acts, first, on_is, packet_by, pdu}
-use Rattle.rh_server.specs.Servers.{rules as server_rules}
-use Rattle.law_moves.proofs.Passages.Logs.{ActsKeep, PutKeeps, RowKeeps, StepsKeep, end_moves_keep}
-use Rattle.law_moves.proofs.Passages.Messages.{all_append}
-use Rattle.law_moves.specs.Moves.{OnLeg, EndMove, end_started}
-use Rattle.law_role_server.specs.Counted.Counting.{waiting_of}
+use Rattle.law_moves.proofs.Vocabulary.{by_test, Cookie, Named, each_push, Leg, LegKind, ClientOut, OutServer, ClientIn, InServer, Count, Due, Origin, Forwarded, Packet, Pdu, Key, Waiting, added, are_one, better, count, edge_of, forwarded, key_of, merged, own, pushed, takes, to_forward, with_due, without_first, OnLeg, EndMove, end_started}
+use Rattle.law_moves.proofs.Lemmas.{ActsKeep, PutKeeps, RowKeeps, StepsKeep, end_moves_keep, all_append}
+use Rattle.law_role_inproxy.proofs.LegibleKeeps.{less_than}
+use Rattle.law_role_client.proofs.Counted.Standing.{once_at_most as at_most_one}
+use Rattle.law_role_server.proofs.Vocabulary.{Kind, are_kind, is_ack, is_kind, kind_of, waits, Server, is_some, Done, is_first, refuse, unexpected, up, channel_leg, forward_by, forwards, forwards_to, forwards_writing, on_ack_to, out_server, give, Pick, put_by as put_by_kind, acts, first, on_is, packet_by, pdu, rules as server_rules, waiting_of}
 use Rattle.law_role_server.proofs.Counted.Dues.{Apart, HasOrigin, HaveOrigins, IsOfKind, adds_forwarded, alone_none, none_waits, others_have, push_waits}
+use Rattle.law_peers_moments.proofs.GoingRound.Rounding.{once as once_if}
 use Rattle.law_role_server_in.specs.Handovers.{passed}
 use Rattle.law_peers_room.proofs.ServerRoom.Apart.{one_more}
-use Rattle.law_peers_forwarding.proofs.ServerFull.Adding.{Goes, Keeps, all_go, drawn_serves, fewer, give_same, is_row, mark_serves, os_row, pdu_same, recycle_serves, same_serves, take_serves, up_same}
+use Rattle.law_peers_room.proofs.ServerRoom.Forwarded.{give_same, pdu_same, up_same}
+use Rattle.law_peers_forwarding.proofs.ServerFull.Adding.{Goes, Keeps, all_go, drawn_serves, fewer, is_row, mark_serves, os_row, recycle_serves, same_serves, take_serves}
 
 -- ---- kinds of the server's own packets
 
@@ -73,13 +50,6 @@ record Few (w : Waiting) : Type 0 where
   known : AllByRecursion IsKnown w.due
   origins : HaveOrigins w.due
   once : (kind : Kind) → waiting_of (is_kind kind) w.due ≤ 1
-
-abbrev once_if : Bool → ℕ
-once_if b = if b then 1 else 0
-
-at_most_one : (b : Bool) → once_if b ≤ 1
-at_most_one true = omega arith
-at_most_one false = omega arith
 
 -- ---- one of its own more
 
@@ -199,9 +169,6 @@ known_merged (due ∷ dues) packet h =
     by_test (AllByRecursion IsKnown) (takes packet due) (better due packet ∷ dues)
     (due ∷ merged dues packet) (λ e. (better_known due packet e h.0, h.1))
     (λ e. (h.0, known_merged dues packet h.1))
-
-less_than : (a b : ℕ) → nat_lt a b ≡ true → a < b
-less_than a b e = grind (arith, nat_tests)
 
 module _ (w : Waiting) (packet : Named) (h : Few w) where
   record Fits (x : Waiting × Bool) : Type 0 where

@@ -1,37 +1,22 @@
 -- the acknowledgement to the client that waits longest at a server
-use Rattle.std.proofs.Common.{◌≡◌, ℕ, zero, suc, ◌+◌, ◌<◌, ◌≤◌, ◌==◌, ◌&&◌, Bool, true, false, if◌then◌else◌, List, [], ◌∷◌, ◌++◌, Some, None, Ok, Err, refl, sym, ap, ◌∙◌, subst, arith}
-use Rattle.std.proofs.lemmas.Bool.{and_parts, false≢true}
-use Rattle.std.proofs.lemmas.Bool.Decides.{nat_tests}
-use Rattle.std.proofs.lemmas.Slice.Eq.{bytes_eq-Decides}
-use Rattle.std.specs.Prelude.{nat_le}
-use Rattle.std.specs.Str.{bytes_eq}
-use Rattle.law_order.proofs.ByNumber.{same_number}
-use Rattle.rh_rts.specs.declared.command.Cookie.{Cookie}
-use Rattle.rh_sig.specs.declared.named.Named.{Named}
+use Rattle.law_order.proofs.Vocabulary.{◌≡◌, ℕ, zero, suc, ◌+◌, ◌<◌, ◌≤◌, ◌==◌, ◌&&◌, Bool, true, false, if◌then◌else◌, List, [], ◌∷◌, ◌++◌, Some, None, Ok, Err, refl, sym, ap, ◌∙◌, subst, arith, and_parts, false≢true, nat_tests, bytes_eq-Decides, nat_le, bytes_eq}
 use Rattle.rh_sig.specs.declared.named.Named.TheVariants as named
-use Rattle.rh_line.specs.declared.leg.Leg.{Leg}
-use Rattle.rh_line.specs.declared.leg.LegKind.TheVariants.{OutServer}
-use Rattle.rh_shell.specs.declared.due.Due.{Due}
-use Rattle.rh_shell.specs.Rules.{Row, Pdu, Packet}
-use Rattle.rh_server.specs.States.{Server}
-use Rattle.rh_server.specs.Putting.{Pick}
-use Rattle.rh_server.specs.Servers.{acts, first, rules}
-use Rattle.law_moves.proofs.Passages.Logs.{ActsKeep, PutKeeps, RowKeeps, StepsKeep, end_moves_keep}
-use Rattle.law_moves.specs.Passages.Passing.{count_of, of_kind}
-use Rattle.law_moves.proofs.Passages.Messages.{count_append, kind_more}
-use Rattle.law_moves.specs.Moves.{EndMove, EndPassage, OnLeg, Passage, all_end_moved, end_moved, end_started}
-use Rattle.law_role_server.specs.Counted.Counting.{in_came, is_ack_to, often, out_put, waiting_of, waits_for}
+use Rattle.law_moves.proofs.Vocabulary.{same_number, Cookie, Named, Leg, OutServer, Due, Row, Pdu, Packet, count_of, of_kind, EndMove, EndPassage, OnLeg, Passage, all_end_moved, end_moved, end_started}
+use Rattle.law_moves.proofs.Lemmas.{ActsKeep, PutKeeps, RowKeeps, StepsKeep, end_moves_keep, count_append, kind_more}
+use Rattle.law_role_inproxy.proofs.LegibleKeeps.{at_most as at_least}
+use Rattle.law_role_server.proofs.Vocabulary.{Server, Pick, acts, first, rules, in_came, is_ack_to, often, out_put, waiting_of, waits_for}
+use Rattle.law_node_causes.proofs.InProxyLegs.{within as at_most_then}
 use Rattle.law_node_streams.proofs.Streams.EndMoves.{all_end_moved_append}
 use Rattle.law_peers_moments.specs.GoingRound.{taken_in}
 use Rattle.law_role_server_in.specs.Handovers.{passed}
 use Rattle.law_peers_in_channels.proofs.ServerExpects.Fronts.{behind_all}
 use Rattle.law_peers_in_channels.proofs.InHandovers.Crossing.{Crossing, crossing}
+use Rattle.law_peers_room.proofs.ServerRoom.Ahead.{same_cookies}
 use Rattle.law_peers_room.specs.ServerRoom.Forwarding.{ForwardsAcks}
 use Rattle.law_peers_room.specs.ServerRoom.Overtaking.{is_ack_for}
-use Rattle.law_peers_room.proofs.ServerRoom.Ahead.{same_cookies}
-use Rattle.law_peers_forwarding.specs.ServerFull.Oldest.{HasOldest, Oldest, due_in}
 use Rattle.law_peers_forwarding.proofs.ServerFull.Kept.{what_came}
 use Rattle.law_peers_forwarding.proofs.ServerFull.Quiet.{quiet_by}
+use Rattle.law_peers_forwarding.specs.ServerFull.Oldest.{HasOldest, Oldest, due_in}
 
 -- ---- no less was put later
 
@@ -104,12 +89,6 @@ is_for other (named.AckTo to received window of) e =
           ∙ ap (λ (c : Cookie). named.AckTo 0 received window c) (same_cookies of other parts.1),
     )
 is_for other m e = absurd cc
-
-pub at_least : (a b : ℕ) → nat_le a b ≡ true → a ≤ b
-at_least a b e = grind (arith, nat_tests)
-
-at_most_then : (a b : ℕ) → a ≤ b → nat_le a b ≡ true
-at_most_then a b h = grind (arith, nat_tests)
 
 more_than : (a b : ℕ) → nat_le a b ≡ false → b < a
 more_than a b e = grind (arith, nat_tests)

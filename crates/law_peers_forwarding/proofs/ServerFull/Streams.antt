@@ -1,36 +1,11 @@
 -- what stands on an is leg before an acknowledgement to the client
-use Rattle.std.proofs.Common.{◌≡◌, ℕ, suc, ◌+◌, ◌≤◌, Bool, true, false, if◌then◌else◌, List, [], ◌∷◌, ◌++◌, append_assoc, refl, sym, ◌∙◌, subst, arith}
-use Rattle.std.specs.List.{AllByRecursion}
-use mathlib.Core.List.{IsPrefix}
-use Rattle.rh_rts.specs.declared.command.Cookie.{Cookie}
-use Rattle.rh_sig.specs.declared.named.Named.TheVariants.{AckTo, ConnB2, InR1A2, InR1A6, InR2A2, Ping}
-use Rattle.rh_shell.specs.Hearing.{is_ping}
-use Rattle.law_moves.specs.Moves.{OnLeg}
-use Rattle.rh_shell.specs.Rules.{Message, Text, Pdu, Packet}
-use Rattle.rh_inproxy.specs.declared.state.InProxyConfig.{InProxyConfig}
-use Rattle.law_moves.specs.ReadBack.Reading.{all_read_of}
-use Rattle.law_moves.specs.Passages.Passing.{count_of}
-use Rattle.law_role_inproxy.specs.Putting.Puts.{IsPing, IsRest, IsStream}
-use Rattle.law_role_server.specs.Counted.Counting.{is_conn_b2, is_in_r1_a2, is_in_r1_a6}
+use Rattle.law_order.proofs.Vocabulary.{◌≡◌, ℕ, suc, ◌+◌, ◌≤◌, List, [], ◌∷◌, ◌++◌, append_assoc, refl, sym, ◌∙◌, subst, arith, IsPrefix}
+use Rattle.law_moves.proofs.Vocabulary.{Cookie, AckTo, ConnB2, InR1A2, InR1A6, InR2A2, Ping, Message, Text, Pdu, Packet, OnLeg, all_read_of, count_of}
+use Rattle.law_role_inproxy.proofs.Vocabulary.{InProxyConfig, IsRest, IsStream}
+use Rattle.law_role_server.proofs.Vocabulary.{is_conn_b2, is_in_r1_a2, is_in_r1_a6}
+use Rattle.law_peers_in_channels.proofs.InHandovers.Streams.{pings_read, only_pings}
 
 -- ---- Pings
-
-pings_read : (ms : List Message) → AllByRecursion IsPing ms
-    → AllByRecursion IsPing (all_read_of ms)
-pings_read [] h = tt
-pings_read (Text bytes ∷ ms) h = absurd (let e = h.0 in cc)
-pings_read (Pdu pdu ∷ ms) h = absurd (let e = h.0 in cc)
-pings_read (Packet m ∷ ms) h = by (is_ping m) h.0 (pings_read ms h.1)
-  where
-    by : (b : Bool) → Packet m ≡ Packet Ping → AllByRecursion IsPing (all_read_of ms)
-        → AllByRecursion IsPing ((if b then [] else Packet m ∷ []) ++ all_read_of ms)
-    by true one rest = rest
-    by false one rest = (one, rest)
-
-only_pings : (m : Message) (before later : List Message)
-    → AllByRecursion IsPing (before ++ m ∷ later) → m ≡ Packet Ping
-only_pings m [] later h = h.0
-only_pings m (x ∷ before) later h = only_pings m before later h.1
 
 module _ (config : InProxyConfig) (log : List OnLeg) where
   -- ---- what is read of them

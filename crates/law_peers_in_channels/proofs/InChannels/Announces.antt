@@ -1,20 +1,10 @@
 -- which channels an in proxy tells its server of, by what came at it
-use Rattle.std.proofs.Common.{◌≡◌, ◌⊎◌, ℕ, suc, ◌+◌, ◌≤◌, Bool, false, if◌then◌else◌, List, [], ◌∷◌, ◌++◌, inl, inr, refl, sym, ap, ◌∙◌, subst, arith}
-use Rattle.std.proofs.lemmas.Bool.{cases_eq}
-use Rattle.std.specs.List.{AllByRecursion}
-use mathlib.Core.List.{IsPrefix}
-use Rattle.rh_rts.specs.declared.command.Cookie.{Cookie}
-use Rattle.rh_sig.specs.declared.named.Named.{Named}
-use Rattle.rh_sig.specs.declared.named.Named.TheVariants.{ConnB2, InR1A1, InR1A2, InR1A6, InR2A2, Ping}
-use Rattle.law_moves.specs.Moves.{OnLeg}
-use Rattle.rh_shell.specs.Rules.{Message, Text, Pdu, Packet}
-use Rattle.law_moves.specs.Wires.{of_leg}
-use Rattle.rh_inproxy.specs.declared.state.InProxyConfig.{InProxyConfig}
-use Rattle.law_moves.specs.ReadBack.Reading.{all_read_of, read_of}
-use Rattle.law_moves.specs.Passages.Passing.{count_of, HasOne}
-use Rattle.law_moves.proofs.Passages.Messages.{count_append, one_so}
-use Rattle.law_role_server.specs.Counted.Counting.{is_conn_b2, is_in_r1_a2, is_in_r2_a2}
-use Rattle.law_role_inproxy.specs.Putting.Puts.{ci, IsFirst, IsPing, IsPlainPacket, IsRest, IsStream, Joins, Replaces}
+use Rattle.law_order.proofs.Vocabulary.{◌≡◌, ◌⊎◌, ℕ, suc, ◌+◌, ◌≤◌, Bool, false, if◌then◌else◌, List, [], ◌∷◌, ◌++◌, inl, inr, refl, sym, ap, ◌∙◌, subst, arith, cases_eq, AllByRecursion, IsPrefix}
+use Rattle.law_moves.proofs.Vocabulary.{Cookie, Named, ConnB2, InR1A1, InR1A2, InR1A6, InR2A2, Ping, Message, Text, Pdu, Packet, OnLeg, of_leg, all_read_of, read_of, count_of, HasOne}
+use Rattle.law_moves.proofs.Lemmas.{count_append, one_so}
+use Rattle.law_role_inproxy.proofs.Vocabulary.{InProxyConfig, ci, IsFirst, IsPing, IsPlainPacket, IsRest, IsStream, Joins}
+use Rattle.law_role_inproxy.specs.Putting.Puts.{Replaces}
+use Rattle.law_role_server.proofs.Vocabulary.{is_conn_b2, is_in_r1_a2, is_in_r2_a2}
 use Rattle.law_peers_moments.proofs.Read.{front_count}
 use Rattle.law_peers_in_channels.proofs.ServerExpects.FirstIn.{IsConnB1, IsConnB2, passes_conn_b2}
 use Rattle.law_peers_in_channels.proofs.ServerExpects.Logs.{some_counted}
@@ -26,7 +16,7 @@ abbrev pub IsInR1A1 : Named → Type 0
 IsInR1A1 (InR1A1 version connection predecessor successor) = Unit {0}
 IsInR1A1 packet = ⊥
 
-joins_in_r1_a1 : (successor : Cookie) (m : Named) → Joins successor m → IsInR1A1 m
+pub joins_in_r1_a1 : (successor : Cookie) (m : Named) → Joins successor m → IsInR1A1 m
 joins_in_r1_a1 successor (InR1A1 version of before own) h = tt
 joins_in_r1_a1 successor m h = absurd h
 

@@ -1,25 +1,14 @@
 -- a server answers IN channels in the order in which they were announced
-use Rattle.std.proofs.Common.{◌≡◌, ◌⊎◌, ℕ, zero, suc, ◌+◌, ◌≤◌, Bool, List, [], ◌∷◌, ◌++◌, append_assoc, Some, None, Ok, Err, inl, inr, refl, sym, ap, ◌∙◌, subst, arith}
-use Rattle.std.proofs.lemmas.List.{append-nil}
-use Rattle.std.specs.declared.option.Option.{Option}
-use Rattle.rh_sig.specs.declared.named.Named.{Named}
-use Rattle.rh_line.specs.declared.leg.Leg.{Leg}
-use Rattle.rh_line.specs.declared.leg.LegKind.{LegKind}
-use Rattle.rh_line.specs.declared.leg.LegKind.TheVariants.{InServer, OutServer}
-use Rattle.rh_shell.specs.Rules.{Acts, Message, Row, Rules, Packet, Pdu}
-use Rattle.rh_server.specs.Servers.{acts, first, rules}
-use Rattle.rh_server.specs.States.{Server}
-use Rattle.law_moves.specs.Moves.{EndMove, EndPassage, OnLeg, Passage, all_end_moved, end_moved, end_started}
-use Rattle.law_moves.specs.Passages.Passing.{count_of, of_kind}
-use Rattle.law_moves.proofs.Passages.Logs.{ActsKeep, PutKeeps, RowKeeps, StepsKeep, end_moves_keep}
-use Rattle.law_moves.proofs.Passages.Messages.{count_rises, kind_more}
+use Rattle.law_order.proofs.Vocabulary.{◌≡◌, ◌⊎◌, ℕ, zero, suc, ◌+◌, ◌≤◌, Bool, List, [], ◌∷◌, ◌++◌, append_assoc, Some, None, Ok, Err, inl, inr, refl, sym, ap, ◌∙◌, subst, arith, append-nil, Option}
+use Rattle.law_moves.proofs.Vocabulary.{Named, Leg, LegKind, InServer, OutServer, Acts, Message, Row, Rules, Packet, Pdu, EndMove, EndPassage, OnLeg, Passage, all_end_moved, end_moved, end_started, count_of, of_kind}
+use Rattle.law_moves.proofs.Lemmas.{ActsKeep, PutKeeps, RowKeeps, StepsKeep, end_moves_keep, count_rises, kind_more}
+use Rattle.law_role_server.proofs.Vocabulary.{acts, first, rules, Server, in_came, is_in_r1_a2, is_in_r1_a3, is_in_r2_a2, out_put}
 use Rattle.law_role_server.specs.Counted.Answering as answering
-use Rattle.law_role_server.specs.Counted.Counting.{in_came, is_in_r1_a2, is_in_r1_a3, is_in_r2_a2, out_put}
 use Rattle.law_peers_moments.specs.GoingRound.{GoRound, announced, taken_in}
 use Rattle.law_peers_moments.specs.Moments.{IsJoined, IsMoment, Moves, Numbers, client_behind, server_behind}
 use Rattle.law_peers_in_channels.proofs.ServerExpects.Fronts.{IsOneMore, behind_all, one_more}
-use Rattle.law_peers_in_channels.specs.InChannels.{AreAnswered, passed}
 use Rattle.law_peers_in_channels.proofs.InChannels.More.{OneMore, one_more_of}
+use Rattle.law_peers_in_channels.specs.InChannels.{AreAnswered, passed}
 
 -- ---- what was put stays
 

@@ -1,17 +1,12 @@
 -- the channels that were announced are the first so many: at the beginning, and behind each message
 -- that comes
-use Rattle.std.proofs.Common.{◌≡◌, ◌⊎◌, ℕ, zero, suc, ◌+◌, ◌≤◌, Bool, true, false, inl, inr, refl, sym, ◌∙◌, subst, arith}
-use Rattle.std.proofs.lemmas.Bool.{cases_eq}
-use Rattle.std.proofs.lemmas.Bool.Decides.{nat_tests}
-use Rattle.std.specs.Prelude.{nat_le}
-use Rattle.rh_sig.specs.declared.named.Named.{Named}
-use Rattle.rh_server.specs.States.{Server}
-use Rattle.law_moves.specs.Moves.{Passage}
-use Rattle.law_role_server.specs.Counted.Counting.{is_conn_b2, is_in_r1_a2, is_in_r2_a2}
+use Rattle.law_order.proofs.Vocabulary.{◌≡◌, ◌⊎◌, ℕ, zero, suc, ◌+◌, ◌≤◌, Bool, true, false, inl, inr, refl, sym, ◌∙◌, subst, arith, cases_eq, nat_tests, nat_le}
+use Rattle.law_moves.proofs.Vocabulary.{Named, Passage}
+use Rattle.law_role_server.proofs.Vocabulary.{Server, is_conn_b2, is_in_r1_a2, is_in_r2_a2}
 use Rattle.law_role_server_in.specs.Refusing.{came_at, first_at}
-use Rattle.law_peers_in_channels.specs.InChannels.{IsAnnouncedOn, channels}
 use Rattle.law_peers_in_channels.proofs.InChannels.More.{OneMore}
 use Rattle.law_peers_in_channels.proofs.InChannels.Told.{AreTold}
+use Rattle.law_peers_in_channels.specs.InChannels.{IsAnnouncedOn, channels}
 
 pub record Fits (p : Passage Server) : Type 0 where
   pub each : (k : ℕ) → 1 ≤ k → k ≤ channels p → (m : ℕ) × IsAnnouncedOn p m k

@@ -1,29 +1,19 @@
 -- at each moment the channels that were announced are the first so many, and what stands next
 -- announces the next one
-use Rattle.std.proofs.Common.{◌≡◌, ℕ, suc, ◌+◌, ◌≤◌, Bool, true, false, if◌then◌else◌, List, [], ◌∷◌, ◌++◌, append_assoc, inl, inr, refl, sym, ap, ◌∙◌, subst, arith}
-use Rattle.std.proofs.lemmas.List.{append-nil}
-use Rattle.rh_sig.specs.declared.named.Named.{Named}
-use Rattle.rh_sig.specs.declared.named.Named.TheVariants.{InR1A2, InR2A2}
-use Rattle.rh_line.specs.declared.leg.LegKind.TheVariants.{InServer}
-use Rattle.rh_shell.specs.Rules.{Message, Packet}
-use Rattle.rh_server.specs.Servers.{acts, first, rules}
-use Rattle.rh_server.specs.States.{Server}
-use Rattle.law_moves.specs.Moves.{EndMove, EndPassage, OnLeg, Passage, all_end_moved, end_moved, end_started}
-use Rattle.law_moves.specs.Wires.{of_leg}
-use Rattle.law_moves.specs.Passages.Passing.{count_of, of_kind}
-use Rattle.law_moves.proofs.Passages.Messages.{count_append, count_rises, leg_more}
-use Rattle.law_moves.specs.ReadBack.Reading.{all_read_of}
-use Rattle.law_role_inproxy.specs.Counted.{is_leg}
-use Rattle.law_role_client.specs.Counted.Replacing.{in_asked}
-use Rattle.law_role_server.specs.Counted.Counting.{is_conn_b2, is_in_r1_a2, is_in_r2_a2}
+use Rattle.law_order.proofs.Vocabulary.{◌≡◌, ℕ, suc, ◌+◌, ◌≤◌, Bool, true, false, if◌then◌else◌, List, [], ◌∷◌, ◌++◌, append_assoc, inl, inr, refl, sym, ap, ◌∙◌, subst, arith, append-nil}
+use Rattle.law_moves.proofs.Vocabulary.{Named, InR1A2, InR2A2, InServer, Message, Packet, EndMove, EndPassage, OnLeg, Passage, all_end_moved, end_moved, end_started, of_leg, count_of, of_kind, all_read_of}
+use Rattle.law_moves.proofs.Lemmas.{count_append, count_rises, leg_more}
+use Rattle.law_role_inproxy.proofs.Vocabulary.{is_leg}
+use Rattle.law_role_client.proofs.Vocabulary.{in_asked}
+use Rattle.law_role_server.proofs.Vocabulary.{acts, first, rules, Server, is_conn_b2, is_in_r1_a2, is_in_r2_a2}
 use Rattle.law_peers_moments.specs.Expecting.{IsAhead}
 use Rattle.law_peers_moments.specs.Moments.{IsJoined, IsMoment, IsPast, Moves, Numbers, client_behind, in_behind}
 use Rattle.law_role_server_in.specs.Refusing.{came_at, first_at}
 use Rattle.law_peers_in_channels.proofs.ServerExpects.Fronts.{IsOneMore, all_fronts, behind_all, one_more}
-use Rattle.law_peers_in_channels.specs.InChannels.{AnnounceNext, AreAnnounced, IsAnnouncedOn, IsNextChannel, channels, passed}
 use Rattle.law_peers_in_channels.proofs.InChannels.Fits.{Fits, beyond_all, fits_behind, same_fit}
 use Rattle.law_peers_in_channels.proofs.InChannels.More.{one_more_of}
 use Rattle.law_peers_in_channels.proofs.InChannels.Told.{AreTold, IsTold, Laws, are_told, is_told}
+use Rattle.law_peers_in_channels.specs.InChannels.{AnnounceNext, AreAnnounced, IsAnnouncedOn, IsNextChannel, channels, passed}
 
 -- ---- behind a move
 

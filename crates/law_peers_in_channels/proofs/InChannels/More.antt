@@ -1,19 +1,9 @@
 -- how many packets a server was told channels by, where one message more came
-use Rattle.std.proofs.Common.{◌≡◌, ℕ, ◌+◌, ◌≤◌, ◌==◌, Bool, true, false, if◌then◌else◌, List, [], ◌∷◌, ◌++◌, refl, ap, ◌∙◌, arith}
-use Rattle.std.proofs.lemmas.Bool.Decides.{nat_tests}
-use Rattle.rh_sig.specs.declared.named.Named.{Named}
-use Rattle.rh_sig.specs.declared.named.Named.TheVariants.{ConnB2, InR1A2, InR2A2}
-use Rattle.rh_line.specs.declared.leg.Leg.{Leg}
-use Rattle.rh_line.specs.declared.leg.LegKind.TheVariants.{InServer, OutServer}
-use Rattle.rh_shell.specs.Rules.{Message, Text, Pdu, Packet}
-use Rattle.rh_shell.specs.Shells.{is_of, same_leg}
-use Rattle.rh_server.specs.States.{Server}
-use Rattle.law_moves.specs.Moves.{OnLeg, Passage}
-use Rattle.law_moves.specs.Wires.{of_leg}
-use Rattle.law_moves.specs.Passages.Passing.{count_of, of_kind}
-use Rattle.law_moves.proofs.Passages.Messages.{count_append, kind_more, leg_more}
-use Rattle.law_role_inproxy.specs.Counted.{is_leg}
-use Rattle.law_role_server.specs.Counted.Counting.{in_came, is_conn_b2, is_in_r1_a2, is_in_r1_a3, is_in_r2_a2, is_in_r2_a3, often}
+use Rattle.law_order.proofs.Vocabulary.{◌≡◌, ℕ, ◌+◌, ◌≤◌, ◌==◌, Bool, true, false, if◌then◌else◌, List, [], ◌∷◌, ◌++◌, refl, ap, ◌∙◌, arith, nat_tests}
+use Rattle.law_moves.proofs.Vocabulary.{Named, ConnB2, InR1A2, InR2A2, Leg, InServer, OutServer, Message, Text, Pdu, Packet, is_of, same_leg, OnLeg, Passage, of_leg, count_of, of_kind}
+use Rattle.law_moves.proofs.Lemmas.{count_append, kind_more, leg_more}
+use Rattle.law_role_inproxy.proofs.Vocabulary.{is_leg}
+use Rattle.law_role_server.proofs.Vocabulary.{Server, in_came, is_conn_b2, is_in_r1_a2, is_in_r1_a3, is_in_r2_a2, is_in_r2_a3, often}
 use Rattle.law_peers_moments.specs.GoingRound.{taken_in}
 use Rattle.law_role_server_in.specs.Refusing.{came_at}
 

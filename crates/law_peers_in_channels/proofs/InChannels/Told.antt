@@ -1,38 +1,20 @@
 -- of which channels a server is told at a moment of a virtual connection
-use Rattle.std.proofs.Common.{◌≡◌, ℕ, zero, suc, ◌+◌, ◌-◌, ◌≤◌, true, List, refl, subst, arith}
-use Rattle.std.proofs.lemmas.Bool.Decides.{nat_tests}
-use mathlib.Core.List.{IsPrefix}
-use Rattle.rh_sig.specs.declared.named.Named.{Named}
+use Rattle.law_order.proofs.Vocabulary.{◌≡◌, ℕ, zero, suc, ◌+◌, ◌-◌, ◌≤◌, true, List, refl, subst, arith, nat_tests, IsPrefix}
 use Rattle.rh_sig.specs.declared.named.Named.TheVariants as named
-use Rattle.rh_line.specs.declared.leg.LegKind.TheVariants.{ClientOut, OutServer}
-use Rattle.law_moves.specs.Moves.{Passage}
-use Rattle.rh_shell.specs.Rules.{Message}
-use Rattle.law_moves.specs.Wires.{of_leg}
-use Rattle.rh_client.specs.declared.state.ClientRole.{ClientRole}
-use Rattle.rh_client.specs.State.{ci}
-use Rattle.rh_inproxy.specs.State.{InProxy}
-use Rattle.rh_server.specs.declared.state.Stage.{Stage}
 use Rattle.rh_server.specs.declared.state.Stage.TheVariants as stages
-use Rattle.rh_server.specs.States.{Server}
-use Rattle.law_moves.specs.ReadBack.Reading.{all_read_of}
-use Rattle.law_moves.specs.Passages.Passing.{count_of, HasOne}
-use Rattle.law_role_client.specs.Counted.Counting.{is_among, is_in_r1_a1, once_if}
-use Rattle.law_role_client.specs.Counted.Naming.{NamesIns}
-use Rattle.law_role_client.specs.Counted.Opening as client_opening
-use Rattle.law_role_client.specs.Counted.Opening.{opened}
-use Rattle.law_role_client.specs.Counted.Replacing.{ReplacesIns, in_asked}
-use Rattle.law_role_inproxy.specs.Counted.{is_leg}
+use Rattle.law_moves.proofs.Vocabulary.{Named, ClientOut, OutServer, Message, Passage, of_leg, all_read_of, count_of, HasOne}
+use Rattle.law_moves.proofs.Lemmas.{by_proxies}
 use Rattle.law_moves.specs.PacketKinds as at_proxy
-use Rattle.law_role_outproxy.specs.Counted.{ForwardsWhatCame}
-use Rattle.law_role_server.specs.Counted.Counting.{in_came, is_conn_b2, is_conn_c1, is_in_r1_a2, out_put}
-use Rattle.law_role_server.specs.Counted.Opening.{OpensOnce, since_conn_b2, since_open}
-use Rattle.law_role_inproxy.specs.Putting.Puts.{IsStream, PutsInOrder}
-use Rattle.law_moves.proofs.Chains.Along.{by_proxies}
-use Rattle.law_peers_moments.specs.GoingRound.{GoRound, announced, taken_in}
+use Rattle.law_role_inproxy.proofs.Vocabulary.{InProxy, is_leg, IsStream, PutsInOrder}
+use Rattle.law_role_client.proofs.Vocabulary.{ClientRole, ci, is_among, is_in_r1_a1, once_if, NamesIns, opened, ReplacesIns, in_asked}
+use Rattle.law_role_client.specs.Counted.Opening as client_opening
+use Rattle.law_role_server.proofs.Vocabulary.{Stage, Server, in_came, is_conn_b2, is_conn_c1, is_in_r1_a2, out_put, OpensOnce, since_conn_b2, since_open}
+use Rattle.law_role_outproxy.proofs.Vocabulary.{ForwardsWhatCame}
 use Rattle.law_peers_moments.proofs.GoingRound.Fronts.{are_fronts}
-use Rattle.law_peers_moments.specs.Moments.{IsJoined, Moves, Numbers, Passages, client_behind, in_behind, out_behind, passages, server_behind}
 use Rattle.law_peers_moments.proofs.Joining.{in_front, in_reads, is_front}
 use Rattle.law_peers_moments.proofs.Read.{front_one}
+use Rattle.law_peers_moments.specs.GoingRound.{GoRound, announced, taken_in}
+use Rattle.law_peers_moments.specs.Moments.{IsJoined, Moves, Numbers, Passages, client_behind, in_behind, out_behind, passages, server_behind}
 use Rattle.law_peers_in_channels.proofs.ServerExpects.FirstIn.{IsConnB1, conn_b1_first}
 use Rattle.law_peers_in_channels.proofs.ServerExpects.Logs.{counted_some}
 use Rattle.law_peers_in_channels.proofs.InChannels.Announces.{Announces, IsInR1A1, announces, firsts, nexts}
@@ -60,7 +42,7 @@ pub record AreTold (reader : ℕ → ℕ) (asked : ℕ) (p : Passage Server) : T
 
 -- ---- counts
 
-in_r1_a1_counts : (m : Named) → IsInR1A1 m → is_in_r1_a1 m ≡ true
+pub in_r1_a1_counts : (m : Named) → IsInR1A1 m → is_in_r1_a1 m ≡ true
 in_r1_a1_counts (named.InR1A1 version connection predecessor successor) h = refl
 in_r1_a1_counts m h = absurd h
 

@@ -1,10 +1,6 @@
 -- a server expects what comes next on an is leg, by the kinds of packets
-use Rattle.std.proofs.Common.{List}
-use Rattle.rh_sig.specs.declared.named.Named.{Named}
-use Rattle.rh_sig.specs.declared.named.Named.TheVariants.{InR1A2, InR1A6, InR2A2}
-use Rattle.rh_line.specs.declared.leg.Leg.{Leg}
-use Rattle.rh_shell.specs.Rules.{Message, Rules}
-use Rattle.law_moves.specs.Moves.{Passage}
+use Rattle.law_order.proofs.Vocabulary.{List}
+use Rattle.law_moves.proofs.Vocabulary.{Named, InR1A2, InR1A6, InR2A2, Leg, Message, Rules, Passage}
 use Rattle.law_peers_moments.specs.Expecting.{Expects}
 use Rattle.law_peers_in_channels.specs.ServerExpects.Expected.{AnnouncesNone, ExpectsPdus, ExpectsThose}
 use Rattle.law_peers_in_channels.specs.InSuccessors.Successors.{Announces}

@@ -1,9 +1,6 @@
 -- the move of an end by which a number rises
-use Rattle.std.proofs.Common.{◌≡◌, ℕ, ◌<◌, ◌≤◌, Bool, true, false, List, [], ◌∷◌, ◌++◌, refl, ap, arith}
-use Rattle.std.proofs.lemmas.Bool.Decides.{nat_tests}
-use Rattle.std.specs.Prelude.{nat_le}
-use Rattle.rh_shell.specs.Rules.{Rules, Acts}
-use Rattle.law_moves.specs.Moves.{EndMove, EndPassage, end_moved, all_end_moved}
+use Rattle.law_order.proofs.Vocabulary.{◌≡◌, ℕ, ◌<◌, ◌≤◌, Bool, true, false, List, [], ◌∷◌, ◌++◌, refl, ap, arith, nat_tests, nat_le}
+use Rattle.law_moves.proofs.Vocabulary.{Rules, Acts, EndMove, EndPassage, end_moved, all_end_moved}
 
 module _ {S : Type 0} (rules : Rules S) (acts : Acts S) where
   -- the move by which a number reaches another

@@ -1,45 +1,25 @@
 -- a server expects the handovers of IN channels that come next
-use Rattle.std.proofs.Common.{◌≡◌, ℕ, zero, suc, ◌+◌, ◌≤◌, [], ◌∷◌, ◌++◌, IsTrue, Err, Some, None, inl, inr, refl, sym, ◌∙◌, subst, arith}
-use mathlib.Core.List.{IsPrefix}
-use Rattle.rh_rts.specs.declared.command.Cookie.{Cookie}
-use Rattle.rh_sig.specs.declared.named.Named.{Named}
-use Rattle.rh_sig.specs.declared.named.Named.TheVariants.{InR1A6}
-use Rattle.rh_line.specs.declared.leg.LegKind.TheVariants.{InServer}
-use Rattle.rh_shell.specs.declared.answers.Count.{Count}
-use Rattle.rh_shell.specs.declared.answers.Refused.{Refused}
+use Rattle.law_order.proofs.Vocabulary.{◌≡◌, ℕ, zero, suc, ◌+◌, ◌≤◌, [], ◌∷◌, ◌++◌, IsTrue, Err, Some, None, inl, inr, refl, sym, subst, arith, IsPrefix}
 use Rattle.rh_shell.specs.declared.answers.Refused.TheVariants as refused
-use Rattle.law_moves.specs.Moves.{Passage, is_in_use}
-use Rattle.rh_shell.specs.Rules.{Packet}
-use Rattle.law_moves.specs.Wires.{of_leg}
-use Rattle.rh_client.specs.State.{ci}
-use Rattle.rh_client.specs.declared.state.ClientRole.{ClientRole}
-use Rattle.rh_inproxy.specs.State.{InProxy}
-use Rattle.rh_server.specs.Servers.{rules}
-use Rattle.rh_server.specs.States.{Server}
-use Rattle.law_moves.specs.ReadBack.Reading.{all_read_of}
-use Rattle.law_moves.specs.Passages.Passing.{HasBegunIn, HasOne, BeginsIn}
-use Rattle.law_role_inproxy.specs.Counted.{is_leg}
-use Rattle.law_role_client.specs.Counted.Naming.{NamesIns}
-use Rattle.law_role_client.specs.Counted.Replacing.{ReplacesIns}
-use Rattle.law_role_server.specs.Counted.Counting.{is_in_r2_a2, leg_at}
+use Rattle.law_moves.proofs.Vocabulary.{Cookie, Named, InR1A6, InServer, Count, Refused, Packet, Passage, is_in_use, of_leg, all_read_of, HasBegunIn, HasOne, BeginsIn}
+use Rattle.law_role_inproxy.proofs.Vocabulary.{InProxy, is_leg, IsStream, Leaves, PutsInOrder}
+use Rattle.law_role_client.proofs.Vocabulary.{ci, ClientRole, NamesIns, ReplacesIns}
+use Rattle.law_role_server.proofs.Vocabulary.{rules, Server, is_in_r2_a2, leg_at}
 use Rattle.law_role_server_rows.specs.Refusing.Refusing.{IsOther}
-use Rattle.law_role_server_in.specs.Handovers.{NextNames, RefusesInR1A6, UnexpectedInR1A6}
-use Rattle.law_role_server_in.specs.Refusing.{came_at, last_of, successor_by}
-use Rattle.law_role_inproxy.specs.Putting.Puts.{IsStream, Leaves, PutsInOrder}
+use Rattle.law_peers_moments.proofs.Joining.{in_front, is_front}
+use Rattle.law_peers_moments.proofs.Read.{front_one}
 use Rattle.law_peers_moments.specs.GoingRound.{taken_in}
 use Rattle.law_peers_moments.specs.Expecting.{IsAmiss}
 use Rattle.law_peers_moments.specs.Moments.{IsMoment, Moves, Numbers, client_behind, in_behind, passages, server_behind}
-use Rattle.law_peers_moments.proofs.Joining.{in_front, is_front}
-use Rattle.law_peers_moments.proofs.Read.{front_one}
-use Rattle.law_peers_in_channels.specs.ServerExpects.Expected.{ExpectsThose}
-use Rattle.law_peers_in_channels.specs.InHandovers.{HandsOver}
+use Rattle.law_role_server_in.specs.Handovers.{NextNames, RefusesInR1A6, UnexpectedInR1A6}
+use Rattle.law_role_server_in.specs.Refusing.{came_at, last_of, successor_by}
 use Rattle.law_peers_in_channels.proofs.InHandovers.Known.{Known}
 use Rattle.law_peers_in_channels.proofs.InHandovers.Left.{IsLeftFor, left_for}
 use Rattle.law_peers_in_channels.proofs.InHandovers.Next.{Later, before, had_opened, later, not_last, not_yet}
 use Rattle.law_peers_in_channels.proofs.InHandovers.Streams.{HandsOverTo, hands_over_next, names_begun}
-
-not_other : (cookie expected got : Cookie) → expected ≡ cookie → IsOther cookie expected got → ⊥
-not_other cookie expected got e other = other.differs (e ∙ other.is_got)
+use Rattle.law_peers_in_channels.proofs.ServerExpects.Refused.{not_other}
+use Rattle.law_peers_in_channels.specs.ServerExpects.Expected.{ExpectsThose}
+use Rattle.law_peers_in_channels.specs.InHandovers.{HandsOver}
 
 one_less : (k : ℕ) → 1 ≤ k → (j : ℕ) × (k ≡ suc j)
 one_less zero some = absurd (omega (arith, some))

@@ -1,19 +1,14 @@
 -- fronts of a server's moves behind which so many IN channels were announced, and all are answered
-use Rattle.std.proofs.Common.{◌≡◌, ℕ, suc, ◌+◌, ◌<◌, ◌≤◌, Bool, true, false, List, [], ◌∷◌, ◌++◌, append_assoc, refl, sym, ap, ◌∙◌, subst, arith}
-use Rattle.std.proofs.lemmas.Bool.Decides.{nat_tests}
-use Rattle.std.specs.Prelude.{nat_le}
-use Rattle.rh_server.specs.Servers.{acts, first, rules}
-use Rattle.rh_server.specs.States.{Server}
-use Rattle.law_moves.specs.Moves.{EndMove, EndPassage, Passage, all_end_moved, end_moved, end_started}
+use Rattle.law_order.proofs.Vocabulary.{◌≡◌, ℕ, suc, ◌+◌, ◌<◌, ◌≤◌, Bool, true, false, List, [], ◌∷◌, ◌++◌, append_assoc, refl, sym, ap, ◌∙◌, subst, arith, nat_tests, nat_le}
+use Rattle.law_moves.proofs.Vocabulary.{EndMove, EndPassage, Passage, all_end_moved, end_moved, end_started}
+use Rattle.law_role_server.proofs.Vocabulary.{acts, first, rules, Server, in_came, is_conn_a2, is_conn_b2, is_in_r1_a2, is_in_r1_a3, out_came, out_put, OpensOnce}
 use Rattle.law_role_server.specs.Counted.Answering as at_server
-use Rattle.law_role_server.specs.Counted.Counting.{in_came, is_conn_a2, is_conn_b2, is_in_r1_a2, is_in_r1_a3, out_came, out_put}
-use Rattle.law_role_server.specs.Counted.Opening.{OpensOnce}
 use Rattle.law_peers_moments.specs.GoingRound.{GoRound, announced, taken_in}
 use Rattle.law_peers_moments.specs.Moments.{AreJoined, AreMade, IsMoment, IsPast, Moves, Numbers, client_behind, passages, server_behind}
-use Rattle.law_peers_in_channels.specs.InChannels.{AreAnnounced, AreAnswered, passed}
 use Rattle.law_peers_in_channels.proofs.ServerExpects.Fronts.{IsOneMore, behind_all, one_more}
 use Rattle.law_peers_in_channels.proofs.InHandovers.Crossing.{Crossing, crossing}
 use Rattle.law_peers_in_channels.proofs.InHandovers.Rising.{IsAnnouncedBy, announced_by}
+use Rattle.law_peers_in_channels.specs.InChannels.{AreAnnounced, AreAnswered, passed}
 
 -- what is known of a moment
 pub record Known (numbers : Numbers) (reader : ℕ → ℕ) (moves : Moves) : Type 0 where

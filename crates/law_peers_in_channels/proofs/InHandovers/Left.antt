@@ -1,19 +1,8 @@
 -- where IN_R1/A5 came at an in proxy, the client put it, behind the answer for the successor
-use Rattle.std.proofs.Common.{◌≡◌, ℕ, ◌+◌, ◌≤◌, true, List, [], ◌∷◌, inl, inr, refl, subst, arith}
-use Rattle.std.proofs.lemmas.Bool.Decides.{nat_tests}
-use Rattle.rh_rts.specs.declared.command.Cookie.{Cookie}
-use Rattle.rh_sig.specs.declared.named.Named.{Named}
-use Rattle.rh_sig.specs.declared.named.Named.TheVariants.{InR1A5}
-use Rattle.rh_shell.specs.Rules.{Message, Text, Pdu, Packet}
-use Rattle.rh_client.specs.State.{ci}
-use Rattle.rh_client.specs.declared.state.ClientRole.{ClientRole}
-use Rattle.law_moves.specs.Moves.{Passage}
-use Rattle.law_moves.specs.Wires.{of_leg}
-use Rattle.law_moves.specs.Passages.Passing.{Has, HasBegunIn, HasOne, count_of}
-use Rattle.law_role_inproxy.specs.Putting.Puts.{Leaves}
-use Rattle.law_role_client.specs.Counted.Counting.{is_among, is_in_r1_a5, once_if}
-use Rattle.law_role_client.specs.Counted.Naming.{NamesIns}
-use Rattle.law_role_client.specs.Counted.Replacing.{ReplacesIns, in_answered, in_handed_over}
+use Rattle.law_order.proofs.Vocabulary.{◌≡◌, ℕ, ◌+◌, ◌≤◌, true, List, [], ◌∷◌, inl, inr, refl, subst, arith, nat_tests}
+use Rattle.law_moves.proofs.Vocabulary.{Cookie, Named, InR1A5, Message, Text, Pdu, Packet, Passage, of_leg, Has, HasBegunIn, HasOne, count_of}
+use Rattle.law_role_inproxy.proofs.Vocabulary.{Leaves}
+use Rattle.law_role_client.proofs.Vocabulary.{ci, ClientRole, is_among, is_in_r1_a5, once_if, NamesIns, ReplacesIns, in_answered, in_handed_over}
 use Rattle.law_peers_in_channels.proofs.ServerExpects.Logs.{counted_some}
 
 leaves_has : (successor : Cookie) (ms : List Message) → HasOne (Leaves successor) ms

@@ -1,22 +1,15 @@
 -- the IN channel that was announced behind one that is left has an is leg of its own, and there was
 -- a front of the server's moves where it was the next to be announced
-use Rattle.std.proofs.Common.{◌≡◌, ◌⊎◌, ℕ, zero, suc, ◌+◌, ◌≤◌, Bool, true, false, List, [], ◌∷◌, ◌++◌, inl, inr, refl, sym, ◌∙◌, subst, arith}
-use Rattle.std.proofs.lemmas.Bool.Decides.{nat_tests}
-use Rattle.std.proofs.lemmas.List.{append-nil}
-use Rattle.std.specs.Prelude.{nat_lt}
-use Rattle.rh_server.specs.States.{Server}
-use Rattle.law_moves.specs.Moves.{EndMove, Passage}
-use Rattle.law_role_server.specs.Counted.Counting.{in_came, is_conn_b2, is_in_r1_a2, is_in_r1_a3, is_in_r2_a2, out_put}
+use Rattle.law_order.proofs.Vocabulary.{◌≡◌, ◌⊎◌, ℕ, suc, ◌+◌, ◌≤◌, Bool, true, false, List, [], ◌∷◌, ◌++◌, inl, inr, refl, sym, ◌∙◌, subst, arith, nat_tests, append-nil, nat_lt}
+use Rattle.law_moves.proofs.Vocabulary.{EndMove, Passage}
+use Rattle.law_role_server.proofs.Vocabulary.{Server, in_came, is_conn_b2, is_in_r1_a2, is_in_r1_a3, is_in_r2_a2, out_put}
 use Rattle.law_peers_moments.specs.GoingRound.{announced, taken_in}
 use Rattle.law_peers_moments.specs.Moments.{IsMoment, Moves, Numbers}
+use Rattle.law_role_server_in.proofs.Opened.{none_or_some}
 use Rattle.law_role_server_in.specs.Handovers.{HadOpened, IsLastAnswered}
 use Rattle.law_role_server_in.specs.Refusing.{came_at, first_at}
-use Rattle.law_peers_in_channels.specs.InChannels.{AreAnnounced, IsAnnouncedOn, channels, passed}
 use Rattle.law_peers_in_channels.proofs.InHandovers.Known.{Known, Next, behind_is, connected, next_announced, none_waits}
-
-none_or_some : (n : ℕ) → (n ≡ 0) ⊎ (1 ≤ n)
-none_or_some zero = inl refl
-none_or_some (suc n) = inr (omega arith)
+use Rattle.law_peers_in_channels.specs.InChannels.{AreAnnounced, IsAnnouncedOn, channels, passed}
 
 reached : (a b c : ℕ) → nat_lt a b ≡ false → a ≤ c → c ≤ b → b ≡ a
 reached a b c e least most = grind (arith, nat_tests, e, least, most)

@@ -1,12 +1,7 @@
 -- what one message more adds to the announcements that came at a server
-use Rattle.std.proofs.Common.{◌≡◌, ◌⊎◌, ℕ, suc, ◌+◌, ◌<◌, ◌≤◌, Bool, inl, inr, sym, ap, subst, arith}
-use Rattle.std.proofs.lemmas.Bool.{cases_eq}
-use Rattle.rh_sig.specs.declared.named.Named.{Named}
-use Rattle.rh_line.specs.declared.leg.LegKind.TheVariants.{InServer}
-use Rattle.rh_server.specs.Servers.{acts, rules}
-use Rattle.rh_server.specs.States.{Server}
-use Rattle.law_moves.specs.Moves.{Passage}
-use Rattle.law_role_server.specs.Counted.Counting.{in_came, is_conn_b2, is_in_r1_a2, is_in_r2_a2, often}
+use Rattle.law_order.proofs.Vocabulary.{◌≡◌, ◌⊎◌, ℕ, suc, ◌+◌, ◌<◌, ◌≤◌, Bool, inl, inr, sym, ap, subst, arith, cases_eq}
+use Rattle.law_moves.proofs.Vocabulary.{Named, InServer, Passage}
+use Rattle.law_role_server.proofs.Vocabulary.{acts, rules, Server, in_came, is_conn_b2, is_in_r1_a2, is_in_r2_a2, often}
 use Rattle.law_peers_moments.specs.GoingRound.{announced, taken_in}
 use Rattle.law_role_server_in.specs.Refusing.{came_at, first_at}
 use Rattle.law_peers_in_channels.proofs.ServerExpects.Fronts.{IsOneMore}

@@ -1,27 +1,17 @@
 -- what stands on an is leg where IN_R1/A6 comes next there, and where IN_R1/A2 named a successor
-use Rattle.std.proofs.Common.{◌≡◌, ℕ, suc, ◌+◌, ◌≤◌, Bool, true, false, if◌then◌else◌, List, [], ◌∷◌, ◌++◌, append_assoc, Some, None, refl, sym, ◌∙◌, subst, arith}
-use Rattle.std.specs.declared.option.Option.{Option}
-use Rattle.std.specs.List.{AllByRecursion}
-use mathlib.Core.List.{IsPrefix}
-use Rattle.rh_rts.specs.declared.command.Cookie.{Cookie}
-use Rattle.rh_sig.specs.declared.named.Named.{Named}
-use Rattle.rh_sig.specs.declared.named.Named.TheVariants.{ConnB2, InR1A1, InR1A2, InR1A6, InR2A2, Ping}
-use Rattle.rh_shell.specs.Hearing.{is_ping}
-use Rattle.law_moves.specs.Moves.{OnLeg}
-use Rattle.rh_shell.specs.Rules.{Message, Text, Pdu, Packet}
-use Rattle.law_moves.specs.Wires.{of_leg}
-use Rattle.rh_inproxy.specs.declared.state.InProxyConfig.{InProxyConfig}
-use Rattle.law_moves.specs.ReadBack.Reading.{all_read_of}
-use Rattle.law_moves.specs.Passages.Passing.{BeginsIn, HasBegunIn, count_of}
-use Rattle.law_moves.proofs.Passages.Messages.{one_so}
-use Rattle.law_role_inproxy.specs.Putting.Puts.{ci, CameOn, IsPing, IsRest, IsStream, Leaves, Replaces}
-use Rattle.law_role_server.specs.Counted.Counting.{is_conn_b2, is_in_r1_a2, is_in_r1_a6, is_in_r2_a2}
+use Rattle.law_order.proofs.Vocabulary.{◌≡◌, ℕ, suc, ◌+◌, ◌≤◌, Bool, true, false, if◌then◌else◌, List, [], ◌∷◌, ◌++◌, append_assoc, Some, None, refl, sym, ◌∙◌, subst, arith, Option, AllByRecursion, IsPrefix}
+use Rattle.law_moves.proofs.Vocabulary.{Cookie, ConnB2, InR1A2, InR1A6, InR2A2, Ping, is_ping, Message, Text, Pdu, Packet, OnLeg, of_leg, all_read_of, BeginsIn, HasBegunIn, count_of}
+use Rattle.law_moves.proofs.Lemmas.{one_so}
+use Rattle.law_role_inproxy.proofs.Vocabulary.{InProxyConfig, ci, CameOn, IsPing, IsRest, IsStream, Leaves}
+use Rattle.law_role_inproxy.specs.Putting.Puts.{Replaces}
+use Rattle.law_role_server.proofs.Vocabulary.{is_conn_b2, is_in_r1_a2, is_in_r1_a6, is_in_r2_a2}
 use Rattle.law_role_server_in.specs.Refusing.{last_of, successor_by}
+use Rattle.law_peers_expects.proofs.InProxyExpects.OnServer.{replaces_begin}
 use Rattle.law_peers_in_channels.proofs.ServerExpects.Streams.{first_one}
 
 -- ---- Pings
 
-pings_read : (ms : List Message) → AllByRecursion IsPing ms
+pub pings_read : (ms : List Message) → AllByRecursion IsPing ms
     → AllByRecursion IsPing (all_read_of ms)
 pings_read [] h = tt
 pings_read (Text bytes ∷ ms) h = absurd (let e = h.0 in cc)
@@ -33,7 +23,7 @@ pings_read (Packet m ∷ ms) h = by (is_ping m) h.0 (pings_read ms h.1)
     by true one rest = rest
     by false one rest = (one, rest)
 
-only_pings : (m : Message) (before later : List Message)
+pub only_pings : (m : Message) (before later : List Message)
     → AllByRecursion IsPing (before ++ m ∷ later) → m ≡ Packet Ping
 only_pings m [] later h = h.0
 only_pings m (x ∷ before) later h = only_pings m before later h.1
@@ -46,11 +36,6 @@ pings_name known (x ∷ before) later h =
     (pings_name known before later h.1)
 
 -- ---- packets
-
-replaces_begin : (connection predecessor successor : Cookie) (m : Named)
-    → Replaces connection predecessor successor m → BeginsIn successor m
-replaces_begin connection predecessor successor (InR1A1 version of before own) h = h.2
-replaces_begin connection predecessor successor m h = absurd h
 
 module _ (config : InProxyConfig) (log : List OnLeg) where
   -- ---- what is read of them

@@ -1,19 +1,8 @@
 -- what begins an IN channel of the client, and which cookies that names
-use Rattle.std.proofs.Common.{◌≡◌, ◌⊎◌, ℕ, zero, suc, List, [], ◌∷◌, inl, inr, refl, sym, subst}
-use Rattle.std.specs.List.{AllByRecursion}
-use Rattle.rh_rts.specs.declared.command.Cookie.{Cookie}
-use Rattle.rh_sig.specs.declared.named.Named.{Named}
-use Rattle.rh_sig.specs.declared.named.Named.TheVariants.{ConnB1, InR1A1}
-use Rattle.rh_http.specs.declared.config.ClientConfig.{ClientConfig}
-use Rattle.rh_line.specs.declared.leg.Leg.{Leg}
-use Rattle.rh_shell.specs.Rules.{Message, Text, Pdu, Packet}
-use Rattle.rh_client.specs.State.{ci}
-use Rattle.law_moves.specs.Moves.{EndMove}
-use Rattle.law_moves.specs.Wires.{of_leg}
-use Rattle.law_moves.specs.Passages.Passing.{BeginsIn, HasBegunIn, HasOne}
-use Rattle.law_moves.specs.Passages.Rising.{HasComeUp}
+use Rattle.law_order.proofs.Vocabulary.{◌≡◌, ◌⊎◌, ℕ, zero, suc, List, [], ◌∷◌, inl, inr, refl, sym, subst, AllByRecursion}
+use Rattle.law_moves.proofs.Vocabulary.{Cookie, Named, ConnB1, InR1A1, ClientConfig, Leg, Message, Text, Pdu, Packet, EndMove, of_leg, BeginsIn, HasBegunIn, HasOne, HasComeUp}
 use Rattle.law_role_inproxy.specs.Putting.Puts as puts
-use Rattle.law_role_client.specs.Order.{client_moved}
+use Rattle.law_role_client.proofs.Vocabulary.{ci, client_moved}
 use Rattle.law_role_client_rows.specs.Putting.{Begins, Direction, IsBegun, IsBehind, IsBehindPacket, OpenedBefore, OpensInChannels, in_way}
 
 module _ (config : ClientConfig) (moves : List EndMove) (opens : OpensInChannels config moves) where

@@ -1,21 +1,11 @@
 -- which connection what came at the server names, of CONN/A2 and CONN/B2
-use Rattle.std.proofs.Common.{◌≡◌, ◌⊎◌, ℕ, suc, List, [], ◌∷◌, inl, inr, sym, ◌∙◌, subst}
-use Rattle.std.specs.List.{AllByRecursion}
-use Rattle.rh_rts.specs.declared.command.Cookie.{Cookie}
-use Rattle.rh_sig.specs.declared.named.Named.{Named}
-use Rattle.rh_sig.specs.declared.named.Named.TheVariants.{Ack, ConnA1, ConnA2, ConnB2, InR1A2, InR1A6, InR2A2, OutR1A4}
-use Rattle.rh_line.specs.declared.leg.Leg.{Leg}
-use Rattle.rh_shell.specs.Rules.{Message, Text, Pdu, Packet}
-use Rattle.rh_inproxy.specs.declared.state.InProxyConfig.{InProxyConfig}
-use Rattle.rh_outproxy.specs.declared.state.OutProxyConfig.{OutProxyConfig}
-use Rattle.law_moves.specs.Moves.{OnLeg}
-use Rattle.law_moves.specs.Wires.{of_leg}
-use Rattle.law_moves.specs.Passages.Passing.{HasOne}
+use Rattle.law_order.proofs.Vocabulary.{◌≡◌, ◌⊎◌, ℕ, suc, List, [], ◌∷◌, inl, inr, sym, ◌∙◌, subst, AllByRecursion}
+use Rattle.rh_sig.specs.declared.named.Named.TheVariants.{Ack}
+use Rattle.law_moves.proofs.Vocabulary.{Cookie, Named, ConnA1, ConnA2, ConnB2, InR1A2, InR1A6, InR2A2, OutR1A4, Leg, Message, Text, Pdu, Packet, OnLeg, of_leg, HasOne}
+use Rattle.law_role_inproxy.proofs.Vocabulary.{InProxyConfig, ci, IsRest, IsStream}
 use Rattle.law_role_inproxy.specs.Putting.Puts as puts
-use Rattle.law_role_inproxy.specs.Putting.Puts.{ci, IsRest, IsStream}
-use Rattle.law_role_client.specs.Counted.Naming.{EachBehind, NamesOut}
-use Rattle.law_role_outproxy.specs.Counted.{NamesNew}
-use Rattle.law_role_outproxy.specs.Putting.{AcksPacket, IsAck, IsToServer, OpensServer}
+use Rattle.law_role_client.proofs.Vocabulary.{EachBehind, NamesOut}
+use Rattle.law_role_outproxy.proofs.Vocabulary.{OutProxyConfig, NamesNew, AcksPacket, IsAck, IsToServer, OpensServer}
 use Rattle.law_role_server_rows.specs.Refusing.Cookies.{Connects}
 use Rattle.law_peers_in_channels.proofs.ServerExpects.Streams.{first_one}
 use Rattle.law_peers_in_channels.proofs.InSuccessors.Logs.{each_one}

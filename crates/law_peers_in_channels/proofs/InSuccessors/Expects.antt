@@ -1,49 +1,29 @@
 -- what comes next from an in proxy is what the server expects, of packets that announce a successor
-use Rattle.std.proofs.Common.{◌≡◌, ◌⊎◌, ℕ, suc, ◌+◌, ◌<◌, ◌≤◌, nat_lt, Bool, true, false, List, [], Err, inl, inr, sym, ap, ◌∙◌, refl, subst, arith}
-use Rattle.std.proofs.lemmas.Bool.Decides.{nat_tests}
-use Rattle.std.specs.Prelude.{IsTrue}
-use Rattle.rh_rts.specs.declared.command.Cookie.{Cookie}
-use Rattle.rh_sig.specs.declared.named.Named.{Named}
-use Rattle.rh_sig.specs.declared.named.Named.TheVariants.{InR1A2, InR2A2}
-use Rattle.rh_line.specs.declared.leg.LegKind.TheVariants.{InServer, OutServer}
-use Rattle.rh_shell.specs.declared.answers.Count.{Count}
-use Rattle.rh_shell.specs.declared.answers.Refused.{Refused}
+use Rattle.law_order.proofs.Vocabulary.{◌≡◌, ◌⊎◌, ℕ, suc, ◌+◌, ◌<◌, ◌≤◌, nat_lt, Bool, true, false, List, [], Err, inl, inr, sym, ap, ◌∙◌, refl, subst, arith, nat_tests, IsTrue}
 use Rattle.rh_shell.specs.declared.answers.Refused.TheVariants as refused
-use Rattle.rh_shell.specs.Rules.{Message, Packet}
-use Rattle.rh_inproxy.specs.State.{InProxy}
-use Rattle.rh_client.specs.declared.state.ClientRole.{ClientRole}
-use Rattle.rh_client.specs.State.{ci}
-use Rattle.rh_server.specs.Servers.{rules as server_rules}
-use Rattle.rh_server.specs.States.{Server}
-use Rattle.law_moves.specs.Moves.{Passage, is_in_use}
-use Rattle.law_moves.specs.Wires.{of_leg}
-use Rattle.law_moves.specs.ReadBack.Reading.{all_read_of}
-use Rattle.law_moves.specs.Passages.Counted.{packets, Tells}
-use Rattle.law_moves.specs.Passages.Passing.{HasOne}
-use Rattle.law_moves.specs.Passages.Rising.{HasComeUp}
-use Rattle.law_moves.proofs.Passages.Messages.{one_so}
-use Rattle.law_role_inproxy.specs.Counted.{is_leg}
+use Rattle.law_moves.proofs.Vocabulary.{Cookie, Named, InR1A2, InR2A2, InServer, OutServer, Count, Refused, Message, Packet, Passage, is_in_use, of_leg, all_read_of, packets, Tells, HasOne, HasComeUp}
+use Rattle.law_moves.proofs.Lemmas.{one_so}
+use Rattle.law_role_inproxy.proofs.Vocabulary.{InProxy, is_leg, IsFront, Joins}
 use Rattle.law_role_inproxy.specs.Putting.Puts as puts
-use Rattle.law_role_inproxy.specs.Putting.Puts.{IsFront, Joins}
-use Rattle.law_role_client.specs.Counted.Replacing.{in_answered, in_asked}
-use Rattle.law_role_server.specs.Order.{came_up}
-use Rattle.law_role_server.specs.Counted.Counting.{is_conn_b2, is_in_r1_a2, is_in_r2_a2}
+use Rattle.law_role_client.proofs.Vocabulary.{ClientRole, ci, in_answered, in_asked}
+use Rattle.law_role_server.proofs.Vocabulary.{rules as server_rules, Server, came_up, is_conn_b2, is_in_r1_a2, is_in_r2_a2}
+use Rattle.law_role_outproxy.proofs.Counted.OutProxyOnce.{at_most_all as count_most}
 use Rattle.law_role_server_rows.specs.Refusing.Cookies.{IsConnection}
 use Rattle.law_role_server_rows.specs.Refusing.Refusing.{IsOther}
 use Rattle.law_peers_moments.specs.Expecting.{IsAhead, IsAmiss}
 use Rattle.law_peers_moments.specs.Moments.{IsMoment, Moves, Numbers}
 use Rattle.law_role_server_in.specs.Refusing.{NewestNames, UnexpectedInR1A2, UnexpectedInR2A2, came_at}
+use Rattle.law_peers_in_channels.proofs.InSuccessors.Moment.{Knows, replaces_is}
+use Rattle.law_peers_in_channels.proofs.InSuccessors.Numbered.{asked_numbered}
+use Rattle.law_peers_in_channels.proofs.InSuccessors.Refused.{Either, neither, not_first, not_second, with_other}
+use Rattle.law_peers_in_channels.proofs.InSuccessors.Streams.{next_first, next_joins}
+use Rattle.law_peers_in_channels.proofs.InChannels.Announces.{IsInR1A1, joins_in_r1_a1 as joins_is}
+use Rattle.law_peers_in_channels.proofs.InSuccessors.Begins as begins
+use Rattle.law_peers_in_channels.proofs.InSuccessors.Moment as at
+use Rattle.law_peers_in_channels.proofs.InSuccessors.Streams as streams
 use Rattle.law_peers_in_channels.specs.ServerExpects.Expected.{ExpectsThose}
 use Rattle.law_peers_in_channels.specs.InChannels.{IsNextChannel, channels}
 use Rattle.law_peers_in_channels.specs.InSuccessors.Successors.{Announces}
-use Rattle.law_peers_in_channels.proofs.InSuccessors.Begins as begins
-use Rattle.law_peers_in_channels.proofs.InSuccessors.Logs.{count_most}
-use Rattle.law_peers_in_channels.proofs.InSuccessors.Moment as at
-use Rattle.law_peers_in_channels.proofs.InSuccessors.Moment.{IsInR1A1, Knows, joins_is, replaces_is}
-use Rattle.law_peers_in_channels.proofs.InSuccessors.Numbered.{asked_numbered}
-use Rattle.law_peers_in_channels.proofs.InSuccessors.Refused.{Either, neither, not_first, not_second, with_other}
-use Rattle.law_peers_in_channels.proofs.InSuccessors.Streams as streams
-use Rattle.law_peers_in_channels.proofs.InSuccessors.Streams.{next_first, next_joins}
 
 module _ (numbers : Numbers) (reader : ℕ → ℕ) (moves : Moves)
     (moment : IsMoment numbers reader moves) (know : Knows numbers reader moves) (n : ℕ) where

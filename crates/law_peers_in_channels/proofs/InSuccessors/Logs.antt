@@ -1,28 +1,7 @@
 -- packets of a log: how many of them pass a test, and what is said of each
-use Rattle.std.proofs.Common.{suc, ◌≤◌, Bool, true, false, if◌then◌else◌, List, [], ◌∷◌, ◌++◌, inl, inr, arith}
-use Rattle.rh_sig.specs.declared.named.Named.{Named}
-use Rattle.rh_line.specs.declared.leg.Leg.{Leg}
-use Rattle.rh_shell.specs.Rules.{Message, Text, Pdu, Packet}
-use Rattle.rh_shell.specs.Shells.{same_leg}
-use Rattle.law_moves.specs.Moves.{OnLeg}
-use Rattle.law_moves.specs.Wires.{of_leg}
-use Rattle.law_moves.specs.Passages.Counted.{packets}
-use Rattle.law_moves.specs.Passages.Passing.{count_of, HasOne}
-use Rattle.law_role_client.specs.Counted.Naming.{EachBehind}
-
--- ---- counts
-
--- no more pass a test than packets are there
-pub count_most : (test : Named → Bool) (ms : List Message) → count_of test ms ≤ packets ms
-count_most test [] = omega arith
-count_most test (Text bytes ∷ ms) = count_most test ms
-count_most test (Pdu pdu ∷ ms) = count_most test ms
-count_most test (Packet m ∷ ms) = by (test m) (count_most test ms)
-  where
-    by : (b : Bool) → count_of test ms ≤ packets ms
-        → (if b then suc (count_of test ms) else count_of test ms) ≤ suc (packets ms)
-    by true rest = omega (arith, rest)
-    by false rest = omega (arith, rest)
+use Rattle.law_order.proofs.Vocabulary.{Bool, true, false, if◌then◌else◌, List, [], ◌∷◌, ◌++◌, inl, inr}
+use Rattle.law_moves.proofs.Vocabulary.{Named, Leg, Message, Text, Pdu, Packet, same_leg, OnLeg, of_leg, HasOne}
+use Rattle.law_role_client.proofs.Vocabulary.{EachBehind}
 
 -- ---- what is said of each message
 

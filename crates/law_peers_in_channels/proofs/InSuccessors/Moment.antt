@@ -1,72 +1,38 @@
 -- a moment of a virtual connection, by what came at the server on its is legs and what the client
 -- put
-use Rattle.std.proofs.Common.{◌≡◌, ◌⊎◌, ℕ, zero, suc, ◌+◌, ◌<◌, ◌≤◌, nat_lt, Bool, true, false, List, [], ◌∷◌, ◌++◌, inl, inr, refl, sym, ◌∙◌, subst, arith}
-use Rattle.std.proofs.lemmas.Bool.Decides.{nat_tests}
-use Rattle.std.specs.Prelude.{IsTrue}
-use Rattle.rh_rts.specs.declared.command.Cookie.{Cookie}
-use Rattle.rh_sig.specs.declared.named.Named.{Named}
-use Rattle.rh_sig.specs.declared.named.Named.TheVariants.{InR1A1}
-use Rattle.rh_line.specs.declared.leg.LegKind.TheVariants.{ClientIn, InServer, OutServer}
-use Rattle.rh_shell.specs.Rules.{Message}
-use Rattle.rh_inproxy.specs.State.{InProxy}
-use Rattle.rh_outproxy.specs.OutProxy.{OutProxy}
-use Rattle.rh_client.specs.declared.state.ClientRole.{ClientRole}
-use Rattle.rh_client.specs.Client.{rules as client_rules}
-use Rattle.rh_client.specs.State.{ci}
-use Rattle.rh_server.specs.States.{Server, in_leg, is_some}
-use Rattle.law_moves.specs.Moves.{Passage}
-use Rattle.law_moves.specs.Wires.{of_leg}
-use Rattle.law_moves.specs.ReadBack.Reading.{all_read_of}
-use Rattle.law_moves.specs.Passages.Passing.{BeginsIn, HasOne}
-use Rattle.law_moves.specs.Passages.Rising.{HasComeUp}
-use Rattle.law_moves.specs.Chains.Sums.{count_on}
-use Rattle.law_moves.proofs.Chains.Summing.{some_legs, sum_rises}
-use Rattle.law_role_inproxy.specs.Counted.{is_leg}
+use Rattle.law_order.proofs.Vocabulary.{◌≡◌, ◌⊎◌, ℕ, zero, suc, ◌+◌, ◌<◌, ◌≤◌, nat_lt, Bool, true, false, List, [], ◌∷◌, ◌++◌, inl, inr, refl, sym, ◌∙◌, subst, arith, nat_tests, IsTrue}
+use Rattle.law_moves.proofs.Vocabulary.{Cookie, Named, InR1A1, ClientIn, InServer, OutServer, Message, Passage, of_leg, all_read_of, BeginsIn, HasOne, HasComeUp, count_on}
+use Rattle.law_moves.proofs.Lemmas.{some_legs, sum_rises, sum_plus as sum_both}
+use Rattle.law_role_inproxy.proofs.Vocabulary.{InProxy, is_leg, IsStream, PutsInOrder}
 use Rattle.law_role_inproxy.specs.Putting.Puts as puts
-use Rattle.law_role_inproxy.specs.Putting.Puts.{IsStream, Joins, PutsInOrder}
-use Rattle.law_role_client.specs.Counted.Counting.{is_in_r1_a1}
-use Rattle.law_role_client.specs.Counted.Naming.{EachBehind, NamesOut}
-use Rattle.law_role_client.specs.Counted.Replacing.{ReplacesIns, in_answered, in_asked}
-use Rattle.law_role_server.specs.Order.{came_up}
-use Rattle.law_role_server.specs.Counted.Answering.{AreAnswered}
-use Rattle.law_role_server.specs.Counted.Counting.{in_came, is_conn_b2, is_in_r1_a2, is_in_r2_a2}
+use Rattle.law_role_client.proofs.Vocabulary.{ClientRole, rules as client_rules, ci, is_in_r1_a1, EachBehind, NamesOut, ReplacesIns, in_answered, in_asked}
+use Rattle.law_role_server.proofs.Vocabulary.{Server, in_leg, is_some, came_up, AreAnswered, in_came, is_conn_b2, is_in_r1_a2, is_in_r2_a2}
 use Rattle.law_node_causes.specs.Numbers.{ClientIsNumbered}
-use Rattle.law_role_outproxy.specs.Counted.{NamesNew, co_leg, os_leg}
-use Rattle.law_role_outproxy.specs.Putting.{IsToServer, PutsToServer}
+use Rattle.law_role_outproxy.proofs.Vocabulary.{OutProxy, NamesNew, co_leg, os_leg, IsToServer, PutsToServer}
 use Rattle.law_role_client_rows.specs.Putting.{OpenedBefore, OpensInChannels}
 use Rattle.law_role_server_rows.specs.Refusing.Cookies.{Connects, IsConnection}
 use Rattle.law_role_server_rows.specs.Refusing.Refusing as rows
+use Rattle.law_peers_moments.proofs.Joining.{co_front, in_front, in_reads, is_front, os_front}
+use Rattle.law_peers_moments.proofs.Read.{front_one}
 use Rattle.law_peers_moments.specs.GoingRound.{InGoesRound}
 use Rattle.law_peers_moments.specs.Expecting.{IsAhead}
 use Rattle.law_peers_moments.specs.Moments.{IsMoment, Moves, Numbers, client_behind, in_behind, out_behind, passages, server_behind}
-use Rattle.law_peers_moments.proofs.Joining.{co_front, in_front, in_reads, is_front, os_front}
-use Rattle.law_peers_moments.proofs.Read.{front_one}
 use Rattle.law_role_server_in.specs.Refusing.{IsOpening, NewestNames, RefusesInFor, came_at, first_at, in_ups}
 use Rattle.law_peers_in_channels.proofs.ServerExpects.Logs.{counted_some, leg_of_all, some_leg}
 use Rattle.law_peers_in_channels.proofs.ServerExpects.Streams.{first_one}
-use Rattle.law_peers_in_channels.specs.InChannels.{AnnounceNext, AreAnnounced, IsAnnouncedOn, channels}
-use Rattle.law_peers_in_channels.specs.InSuccessors.Connected.{AreConnected}
-use Rattle.law_peers_in_channels.proofs.InSuccessors.Begins as begins
 use Rattle.law_peers_in_channels.proofs.InSuccessors.Connections.{connects_asked, new_of, stream_asked}
 use Rattle.law_peers_in_channels.proofs.InSuccessors.Numbered.{asked_on, up_most}
 use Rattle.law_peers_in_channels.proofs.InSuccessors.Opened.{Opening, conn_b2_came, not_opening}
 use Rattle.law_peers_in_channels.proofs.InSuccessors.Streams.{came_stream, last_begun}
-use Rattle.law_peers_in_channels.proofs.InSuccessors.Sums.{reader_behind, sum_both}
+use Rattle.law_peers_in_channels.proofs.InSuccessors.Sums.{reader_behind}
 use Rattle.law_peers_in_channels.proofs.InSuccessors.Ups.{came_up_at, ups_at, ups_summed}
+use Rattle.law_peers_in_channels.proofs.InChannels.Announces.{IsInR1A1}
+use Rattle.law_peers_in_channels.proofs.InChannels.Told.{in_r1_a1_counts}
+use Rattle.law_peers_in_channels.proofs.InSuccessors.Begins as begins
+use Rattle.law_peers_in_channels.specs.InChannels.{AnnounceNext, AreAnnounced, IsAnnouncedOn, channels}
+use Rattle.law_peers_in_channels.specs.InSuccessors.Connected.{AreConnected}
 
 -- ---- packets
-
-abbrev pub IsInR1A1 : Named → Type 0
-IsInR1A1 (InR1A1 version connection predecessor successor) = Unit {0}
-IsInR1A1 packet = ⊥
-
-in_r1_a1_counts : (m : Named) → IsInR1A1 m → is_in_r1_a1 m ≡ true
-in_r1_a1_counts (InR1A1 version connection predecessor successor) h = refl
-in_r1_a1_counts m h = absurd h
-
-pub joins_is : (successor : Cookie) (m : Named) → Joins successor m → IsInR1A1 m
-joins_is successor (InR1A1 version of before own) h = tt
-joins_is successor m h = absurd h
 
 pub replaces_is : (connection predecessor successor : Cookie) (m : Named)
     → puts.Replaces connection predecessor successor m → IsInR1A1 m

@@ -1,43 +1,12 @@
 -- the numbers of a client's IN channels, by how many replacements it asked for
-use Rattle.std.proofs.Common.{◌≡◌, ◌⊎◌, ◌==◌, ◌&&◌, ◌||◌, ℕ, ◌+◌, ◌<◌, ◌≤◌, nat_lt, Bool, true, false, inl, inr, refl, arith}
-use Rattle.std.proofs.lemmas.Bool.Decides.{nat_tests}
-use Rattle.rh_http.specs.declared.config.ClientConfig.{ClientConfig}
-use Rattle.rh_client.specs.declared.channels.TheConstants.{LAST_NUMBER}
-use Rattle.rh_client.specs.declared.replacement.Replacement.{Replacement}
-use Rattle.rh_client.specs.declared.replacement.Replacement.TheVariants.{NoneUnderWay, In, Out}
+use Rattle.law_order.proofs.Vocabulary.{◌≡◌, ◌⊎◌, ◌==◌, ◌&&◌, ◌||◌, ℕ, ◌+◌, ◌<◌, ◌≤◌, nat_lt, Bool, true, false, inl, inr, refl, arith, nat_tests}
 use Rattle.rh_client.specs.declared.replacement.InStage.TheVariants as in_stage
-use Rattle.rh_client.specs.declared.state.ClientRole.{ClientRole}
-use Rattle.rh_client.specs.Channels.{is_put, is_up}
-use Rattle.rh_client.specs.Client.{rules}
-use Rattle.rh_client.specs.Opening.{was_in_up}
-use Rattle.rh_client.specs.Replacements.{is_in}
-use Rattle.rh_client.specs.State.{ci, first, is_in_successor, is_writing}
-use Rattle.law_moves.specs.Moves.{Passage}
-use Rattle.law_moves.specs.Wires.{of_leg}
-use Rattle.law_moves.specs.Passages.Passing.{count_of}
-use Rattle.law_role_client.specs.Counted.Counting.{is_among, is_in_r1_a1, once_if}
-use Rattle.law_role_client.specs.Counted.Replacing.{InIsAt, ReplacesIns, in_answered, in_asked}
+use Rattle.law_moves.proofs.Lemmas.{both}
+use Rattle.law_moves.proofs.Vocabulary.{Passage, of_leg, count_of}
+use Rattle.law_role_client.proofs.Vocabulary.{LAST_NUMBER, Replacement, NoneUnderWay, In, Out, ClientRole, is_put, is_up, rules, was_in_up, is_in, ci, is_in_successor, is_writing, is_among, is_in_r1_a1, once_if, InIsAt, ReplacesIns, in_answered, in_asked}
+use Rattle.law_role_client.proofs.Counted.Standing.{once_at_most as once_most}
 use Rattle.law_node_causes.specs.Numbers.{ClientIsNumbered}
-
-pub first_numbered : (config : ClientConfig) → ClientIsNumbered (first config)
-first_numbered config = record {
-  ins = record {
-    first = omega arith;
-    behind = λ e. absurd cc;
-    now_last = omega arith;
-    next_last = λ e. absurd cc;
-  };
-  outs = record {
-    first = omega arith;
-    behind = λ e. absurd cc;
-    now_last = omega arith;
-    next_last = λ e. absurd cc;
-  };
-}
-
-once_most : (b : Bool) → once_if b ≤ 1
-once_most true = omega arith
-once_most false = omega arith
+use Rattle.law_role_outproxy.proofs.Refusing.Refusals.{same_number}
 
 -- ---- legs that were up
 
@@ -45,15 +14,8 @@ either : (a b : Bool) → (a || b) ≡ true → (a ≡ true) ⊎ (b ≡ true)
 either true b e = inl refl
 either false b e = inr e
 
-both : (a b : Bool) → (a && b) ≡ true → (a ≡ true) × (b ≡ true)
-both true b e = (refl, e)
-both false b e = absurd cc
-
 at_most : (n w : ℕ) → (nat_lt 0 n && nat_lt n w) ≡ true → n ≤ w
 at_most n w e = grind (arith, nat_tests, e)
-
-same_number : (n w : ℕ) → (n == w) ≡ true → n ≡ w
-same_number n w e = grind (arith, nat_tests, e)
 
 -- the leg is of a channel up to the writing one, or of the successor
 up_number : (s : ClientRole) (n : ℕ) → was_in_up s n ≡ true

@@ -1,40 +1,20 @@
 -- where the client asked for a successor, the server is open
-use Rattle.std.proofs.Common.{◌≡◌, ℕ, zero, suc, ◌≤◌, Bool, List, [], ◌∷◌, refl, arith}
-use Rattle.std.specs.List.{AllByRecursion}
-use Rattle.rh_sig.specs.declared.named.Named.{Named}
-use Rattle.rh_sig.specs.declared.named.Named.TheVariants.{ConnC1, ConnC2}
-use Rattle.rh_line.specs.declared.leg.LegKind.TheVariants.{ClientOut, OutServer}
-use Rattle.rh_shell.specs.Rules.{Message, Text, Pdu, Packet}
-use Rattle.law_moves.specs.Passages.Passing.{count_of, of_kind}
-use Rattle.law_moves.proofs.Chains.Along.{by_proxies}
+use Rattle.law_order.proofs.Vocabulary.{◌≡◌, ℕ, zero, suc, ◌≤◌, refl, arith}
+use Rattle.law_moves.proofs.Vocabulary.{ClientOut, OutServer, of_kind}
+use Rattle.law_moves.proofs.Lemmas.{by_proxies}
 use Rattle.law_moves.specs.PacketKinds as at_proxy
+use Rattle.law_role_client.proofs.Vocabulary.{opened, in_asked}
 use Rattle.law_role_client.specs.Counted.Counting as at_client
 use Rattle.law_role_client.specs.Counted.Opening as opening
-use Rattle.law_role_client.specs.Counted.Opening.{opened}
-use Rattle.law_role_client.specs.Counted.Replacing.{in_asked}
+use Rattle.law_role_server.proofs.Vocabulary.{in_came, OpensOnce}
 use Rattle.law_role_server.specs.Counted.Counting as at_server
-use Rattle.law_role_server.specs.Counted.Counting.{in_came}
-use Rattle.law_role_server.specs.Counted.Opening.{IsText, OpensOnce}
-use Rattle.law_role_outproxy.specs.Counted.{ForwardsWhatCame}
+use Rattle.law_role_outproxy.proofs.Vocabulary.{ForwardsWhatCame}
+use Rattle.law_role_server_rows.proofs.Refusing.OutRows.{no_packets as texts_count}
 use Rattle.law_peers_moments.proofs.GoingRound.Fronts.{are_fronts, logs_of}
-use Rattle.law_peers_moments.proofs.GoingRound.Rounding.{once, same_counts}
+use Rattle.law_peers_moments.proofs.GoingRound.Rounding.{same_counts}
 use Rattle.law_peers_moments.specs.Moments.{AreJoined, Passages}
 use Rattle.law_role_server_in.specs.Refusing as in_rows
-
-conn_c2 : (m : Named) → once (at_client.is_conn_c2 m) ≡ once (at_proxy.is_conn_c2 m)
-conn_c2 (ConnC2 version window timeout) = refl
-conn_c2 m = refl
-
-conn_c1 : (m : Named) → once (at_proxy.is_conn_c1 m) ≡ once (at_server.is_conn_c1 m)
-conn_c1 (ConnC1 version window timeout) = refl
-conn_c1 m = refl
-
-texts_count : (test : Named → Bool) (ms : List Message) → AllByRecursion IsText ms
-    → count_of test ms ≡ 0
-texts_count test [] h = refl
-texts_count test (Text bytes ∷ ms) h = texts_count test ms h.1
-texts_count test (Pdu pdu ∷ ms) h = absurd h.0
-texts_count test (Packet m ∷ ms) h = absurd h.0
+use Rattle.law_peers_expects.proofs.ClientExpects.Forwarding.{is_connected as conn_c1, connects as conn_c2}
 
 -- what is known of the ends and the out proxies
 pub record Opening (all : Passages) : Type 0 where

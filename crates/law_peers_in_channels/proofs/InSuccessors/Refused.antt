@@ -1,18 +1,9 @@
 -- which cookie of IN_R1/A2 a server refuses, told by what it does with another predecessor
-use Rattle.std.proofs.Common.{◌≡◌, ◌⊎◌, ℕ, ◌∷◌, ◌++◌, Bool, true, false, not, if◌then◌else◌, List, Some, None, Err, inl, inr, refl, sym, ap, ◌∙◌, subst, length, arith}
-use Rattle.std.proofs.lemmas.List.{length-append}
-use Rattle.std.proofs.lemmas.Slice.Eq.{bytes_eq-Decides}
-use Rattle.std.specs.Prelude.{◌&&◌}
-use Rattle.std.specs.declared.option.Option.{Option}
-use Rattle.rh_rts.specs.declared.command.Cookie.{Cookie}
-use Rattle.rh_shell.specs.declared.answers.Count.{Count}
+use Rattle.law_order.proofs.Vocabulary.{◌≡◌, ◌⊎◌, ℕ, ◌∷◌, ◌++◌, Bool, true, false, not, if◌then◌else◌, List, Some, None, Err, inl, inr, refl, sym, ap, ◌∙◌, subst, length, arith, length-append, bytes_eq-Decides, ◌&&◌, Option}
 use Rattle.rh_shell.specs.declared.answers.Refused.TheVariants as refused
-use Rattle.rh_server.specs.declared.state.InLeg.{InLeg}
-use Rattle.rh_server.specs.declared.state.Stage.{Stage}
 use Rattle.rh_server.specs.declared.state.Stage.TheVariants as stage
-use Rattle.rh_server.specs.States.{Server, in_leg, is_fresh, same_cookie}
-use Rattle.rh_server.specs.Opening.{Done, is_first, refuse, took, unexpected}
-use Rattle.rh_server.specs.InReplacement.{announced, has_fresh_below, in_r1_a2_at, in_r1_a2_by, on_in_r1_a2}
+use Rattle.law_moves.proofs.Vocabulary.{Cookie, Count}
+use Rattle.law_role_server.proofs.Vocabulary.{InLeg, Stage, Server, in_leg, is_fresh, same_cookie, Done, is_first, refuse, took, unexpected, announced, has_fresh_below, in_r1_a2_at, in_r1_a2_by, on_in_r1_a2}
 
 -- ---- another cookie
 

@@ -1,21 +1,11 @@
 -- what came of what an in proxy put on its is leg: a stream as it was put, without Pings
-use Rattle.std.proofs.Common.{◌≡◌, ℕ, suc, ◌+◌, ◌≤◌, List, [], ◌∷◌, ◌++◌, Some, None, refl, sym, subst, arith}
-use Rattle.std.specs.List.{AllByRecursion}
-use mathlib.Core.List.{IsPrefix}
-use Rattle.rh_rts.specs.declared.command.Cookie.{Cookie}
-use Rattle.rh_sig.specs.declared.named.Named.{Named}
-use Rattle.rh_sig.specs.declared.named.Named.TheVariants.{ConnB1, ConnB2, InR1A1, InR1A2, InR1A6, InR2A2, Ping}
-use Rattle.rh_shell.specs.Rules.{Message, Text, Pdu, Packet}
-use Rattle.law_moves.specs.Moves.{OnLeg}
-use Rattle.law_moves.specs.Wires.{of_leg}
-use Rattle.rh_inproxy.specs.declared.state.InProxyConfig.{InProxyConfig}
-use Rattle.law_moves.specs.ReadBack.Reading.{all_read_of}
-use Rattle.law_moves.specs.Passages.Passing.{BeginsIn, count_of, HasOne}
-use Rattle.law_moves.proofs.Passages.Messages.{one_so}
-use Rattle.law_role_server.specs.Counted.Counting.{is_conn_b2, is_in_r1_a2, is_in_r1_a6, is_in_r2_a2}
-use Rattle.law_role_server_in.specs.Refusing.{last_of, named_by}
+use Rattle.law_order.proofs.Vocabulary.{◌≡◌, ℕ, suc, ◌+◌, ◌≤◌, List, [], ◌∷◌, ◌++◌, Some, None, refl, sym, subst, arith, AllByRecursion, IsPrefix}
+use Rattle.law_moves.proofs.Vocabulary.{Cookie, Named, ConnB1, ConnB2, InR1A1, InR1A2, InR1A6, InR2A2, Ping, Message, Text, Pdu, Packet, OnLeg, of_leg, all_read_of, BeginsIn, count_of, HasOne}
+use Rattle.law_moves.proofs.Lemmas.{one_so}
+use Rattle.law_role_inproxy.proofs.Vocabulary.{InProxyConfig, ci, CameOn, IsFront, IsPing, IsRest, IsStream, Joins}
 use Rattle.law_role_inproxy.specs.Putting.Puts as puts
-use Rattle.law_role_inproxy.specs.Putting.Puts.{ci, CameOn, IsFirst, IsFront, IsPing, IsRest, IsStream, Joins}
+use Rattle.law_role_server.proofs.Vocabulary.{is_conn_b2, is_in_r1_a2, is_in_r1_a6, is_in_r2_a2}
+use Rattle.law_role_server_in.specs.Refusing.{last_of, named_by}
 use Rattle.law_peers_in_channels.proofs.ServerExpects.Streams.{first_one}
 
 -- ---- packets

@@ -1,9 +1,9 @@
 -- sums over the first numbers, and numbers of readers
-use Rattle.std.proofs.Common.{◌≡◌, ◌⊎◌, ℕ, zero, suc, ◌+◌, ◌<◌, ◌≤◌, nat_lt, Bool, true, false, inl, inr, refl, subst, arith}
-use Rattle.std.proofs.lemmas.Bool.Decides.{nat_tests}
-use Rattle.law_moves.specs.Chains.Sums.{sum_below}
-use Rattle.law_moves.proofs.Chains.Summing.{sum_rises}
+use Rattle.law_order.proofs.Vocabulary.{◌≡◌, ◌⊎◌, ℕ, zero, suc, ◌+◌, ◌<◌, ◌≤◌, nat_lt, Bool, true, false, inl, inr, refl, subst, arith, nat_tests}
+use Rattle.law_moves.proofs.Lemmas.{sum_rises}
+use Rattle.law_moves.proofs.Vocabulary.{sum_below}
 use Rattle.law_peers_moments.specs.Moments.{ReadInTurn}
+use Rattle.law_role_server_in.proofs.Tests.{at_least as not_below}
 
 -- ---- sums
 
@@ -26,15 +26,7 @@ sum_more f g j more each here (suc n) less =
         let one : f n + more ≤ g n = subst (λ (k : ℕ). f k + more ≤ g k) same here in
         omega (arith, rest, one)
 
-pub sum_both : (f g : ℕ → ℕ) (n : ℕ)
-    → sum_below (λ k. f k + g k) n ≡ sum_below f n + sum_below g n
-sum_both f g zero = refl
-sum_both f g (suc n) = let rest = sum_both f g n in omega (arith, rest)
-
 -- ---- readers
-
-not_below : (k l : ℕ) → nat_lt k l ≡ false → l ≤ k
-not_below k l e = grind (arith, nat_tests, e)
 
 next_above : (k l : ℕ) → nat_lt k l ≡ true → l ≤ suc k → l ≡ suc k
 next_above k l e most = grind (arith, nat_tests, e, most)

@@ -1,30 +1,13 @@
 -- legs that come up once at an end: each was up from then on, and the is legs of a server that came
 -- up are no more than their numbers
-use Rattle.std.proofs.Common.{◌≡◌, ◌⊎◌, ◌||◌, ◌&&◌, ℕ, ◌+◌, ◌<◌, ◌≤◌, nat_eq, Bool, true, false, if◌then◌else◌, List, [], ◌∷◌, inl, inr, refl, sym, ap, ◌∙◌, subst, arith}
-use Rattle.std.proofs.lemmas.Bool.Decides.{nat_tests}
-use Rattle.std.specs.Prelude.{IsTrue}
-use Rattle.rh_rts.specs.declared.command.Cookie.{Cookie}
-use Rattle.rh_line.specs.declared.leg.Leg.{Leg}
-use Rattle.rh_line.specs.declared.leg.LegKind.TheVariants.{InServer}
-use Rattle.rh_shell.specs.Rules.{Acts, Rules}
-use Rattle.rh_shell.specs.Shells.{is_of, same_leg}
-use Rattle.law_moves.specs.Moves.{Up, HeadCame, PduCame, PacketCame, Puts, IsDrawn, Marks, Pings, EndMove, Moves, Gives, Takes, Closes, Recycles, MayEndMove, EndPassage, end_moved, all_end_moved, AreAllowedAtEnd}
-use Rattle.law_moves.specs.Chains.Sums.{sum_below}
-use Rattle.law_moves.proofs.Chains.Summing.{sum_rises}
-use Rattle.law_moves.specs.Passages.Rising.{HasComeUp}
-use Rattle.law_role_server.specs.Order.{came_up, is_up}
-use Rattle.law_role_server.specs.Counted.Counting.{leg_at}
-use Rattle.law_node_history.proofs.Wired.{cases_leg}
+use Rattle.law_order.proofs.Vocabulary.{◌≡◌, ◌||◌, ◌&&◌, ℕ, ◌+◌, ◌<◌, ◌≤◌, nat_eq, Bool, true, false, if◌then◌else◌, List, [], ◌∷◌, inl, inr, refl, sym, ap, ◌∙◌, subst, arith, nat_tests, IsTrue}
+use Rattle.law_moves.proofs.Vocabulary.{Cookie, Leg, InServer, Acts, Rules, is_of, Up, HeadCame, PduCame, PacketCame, Puts, IsDrawn, Marks, Pings, EndMove, Moves, Gives, Takes, Closes, Recycles, MayEndMove, EndPassage, end_moved, all_end_moved, AreAllowedAtEnd, sum_below, HasComeUp}
+use Rattle.law_moves.proofs.Lemmas.{sum_rises, leg_is as leg_same}
+use Rattle.law_role_server.proofs.Vocabulary.{came_up, is_up, leg_at}
 use Rattle.law_node_causes.specs.Once.{ComesUpOnce, KeepsUp}
+use Rattle.law_peers_moments.proofs.GoingRound.Rounding.{once as one_if}
 use Rattle.law_role_server_in.specs.Refusing.{in_ups}
 use Rattle.law_peers_in_channels.proofs.InSuccessors.Sums.{sum_more}
-
-leg_same : (a b : Leg) → same_leg a b ≡ true → a ≡ b
-leg_same a b e = by (cases_leg a b)
-  where
-    by : (a ≡ b) ⊎ (same_leg a b ≡ false) → a ≡ b
-    by (inl is) = is
-    by (inr apart) = absurd (let both = sym e ∙ apart in cc)
 
 -- ---- at an end
 
@@ -69,10 +52,6 @@ module _ {S : Type 0} (rules : Rules S) (acts : Acts S) (Holds : S → Type 0)
       was_up (end_moved rules acts p move) moves (keeps.kept p move holds may.0) may.1 has
 
 -- ---- is legs
-
--- how often an is leg came up
-abbrev one_if : Bool → ℕ
-one_if b = if b then 1 else 0
 
 abbrev pub ups_at : List EndMove → ℕ → ℕ
 ups_at [] n = 0

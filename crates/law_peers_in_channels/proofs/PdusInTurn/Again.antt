@@ -1,21 +1,10 @@
 -- where IN_R1/B2 goes on an is leg on which IN_R1/B1 is due, that goes next
-use Rattle.std.proofs.Common.{◌≡◌, ℕ, zero, suc, ◌+◌, ◌==◌, ◌&&◌, cond, nat_lt, not, Bool, true, false, true≢false, List, [], ◌∷◌, length, Some, None, refl, sym, ap, ◌∙◌}
-use Rattle.std.specs.Prelude.{slice_get, slice_set}
-use Rattle.std.specs.List.{position_or_len}
-use Rattle.std.specs.declared.option.Option.{Option}
-use Rattle.law_order.proofs.ByNumber.{by_test}
+use Rattle.law_order.proofs.Vocabulary.{◌≡◌, ℕ, zero, suc, ◌+◌, ◌==◌, ◌&&◌, cond, nat_lt, not, Bool, true, false, true≢false, List, [], ◌∷◌, length, Some, None, refl, sym, ap, ◌∙◌, slice_get, slice_set, position_or_len, Option}
 use Rattle.rh_sig.specs.declared.named.Named.TheVariants as named
-use Rattle.rh_line.specs.Lines.{after_tell}
-use Rattle.rh_line.specs.declared.which.Which.TheVariants.{Current}
-use Rattle.rh_shell.specs.Rules.{Packet}
-use Rattle.rh_server.specs.declared.state.Edge.TheVariants.{Told}
-use Rattle.rh_server.specs.declared.state.InLeg.{InLeg}
-use Rattle.rh_server.specs.declared.state.Leaving.{Leaving}
 use Rattle.rh_server.specs.declared.state.Leaving.TheVariants as leaving
-use Rattle.rh_server.specs.declared.state.Tells.{Tells}
 use Rattle.rh_server.specs.declared.state.Tells.TheVariants as tells
-use Rattle.rh_server.specs.Putting.{Pick, or_else, put_ack, put_b1, put_b1_by, put_in, put_in_by, put_tells, put_tells_by, told_by, was_current}
-use Rattle.rh_server.specs.States.{Server, in_at, in_leg, in_place, is_due, is_shut, set_at, with_in}
+use Rattle.law_moves.proofs.Vocabulary.{by_test, after_tell, Current, Packet}
+use Rattle.law_role_server.proofs.Vocabulary.{Told, InLeg, Leaving, Tells, Pick, or_else, put_ack, put_b1, put_b1_by, put_in, put_in_by, put_tells, put_tells_by, told_by, was_current, Server, in_at, in_leg, in_place, is_due, is_shut, set_at, with_in}
 
 -- ---- a leg that changed is found by its number
 

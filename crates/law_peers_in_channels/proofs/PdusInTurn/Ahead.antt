@@ -1,39 +1,27 @@
 -- where an RPC PDU stands on an is leg, IN_R1/A6 came on the leg of each IN channel before
-use Rattle.std.proofs.Common.{◌≡◌, ℕ, suc, ◌+◌, ◌≤◌, Bool, if◌then◌else◌, List, [], ◌∷◌, refl, ap, ◌∙◌, subst, arith}
-use Rattle.rh_sig.specs.declared.named.Named.{Named}
+use Rattle.law_order.proofs.Vocabulary.{◌≡◌, ℕ, ◌+◌, ◌≤◌, Bool, List, refl, subst, arith}
 use Rattle.rh_sig.specs.declared.named.Named.TheVariants as named
-use Rattle.rh_shell.specs.Rules.{Message, Text, Pdu, Packet}
-use Rattle.rh_server.specs.States.{Server}
-use Rattle.law_moves.specs.Moves.{Passage}
-use Rattle.law_moves.specs.Wires.{of_leg}
-use Rattle.law_moves.specs.Passages.Passing.{count_of}
-use Rattle.law_role_inproxy.specs.Putting.Puts.{HasPdu, is_leg}
-use Rattle.law_role_inproxy.specs.Putting.Standing.{SendsWhereTold}
+use Rattle.law_moves.proofs.Vocabulary.{Named, Message, Passage, of_leg, count_of}
+use Rattle.law_role_inproxy.proofs.Vocabulary.{HasPdu, SendsWhereTold}
+use Rattle.law_role_inproxy.specs.Putting.Puts.{is_leg}
 use Rattle.law_role_inproxy.specs.Putting.Standing as at_proxy
+use Rattle.law_role_server.proofs.Vocabulary.{Server}
 use Rattle.law_role_server.specs.Counted.Counting as at_server
-use Rattle.law_peers_moments.specs.Moments.{AreJoined, AreMade, Moves, Numbers, in_behind, passages, server_behind}
 use Rattle.law_peers_moments.proofs.Joining.{is_back}
 use Rattle.law_peers_moments.proofs.Read.{front_count}
+use Rattle.law_peers_moments.specs.Moments.{AreJoined, AreMade, Moves, Numbers, in_behind, passages, server_behind}
 use Rattle.law_role_server_in.specs.Refusing as in_rows
+use Rattle.law_peers_expects.proofs.InProxyExpects.Fronts.{same_counts as as_many}
 use Rattle.law_peers_in_channels.specs.PdusInTurn.Telling.{IsTold, TellsBehind}
 use Rattle.law_peers_in_channels.specs.PdusInTurn.Turns.{ComeBehindHandovers}
 
 -- ---- tests that are the same
 
-as_many : (a b : Named → Bool) → ((m : Named) → a m ≡ b m) → (ms : List Message)
-    → count_of a ms ≡ count_of b ms
-as_many a b same [] = refl
-as_many a b same (Text bytes ∷ ms) = as_many a b same ms
-as_many a b same (Pdu pdu ∷ ms) = as_many a b same ms
-as_many a b same (Packet m ∷ ms) =
-    ap (λ (t : Bool). if t then suc (count_of a ms) else count_of a ms) (same m)
-    ∙ ap (λ (n : ℕ). if b m then suc n else n) (as_many a b same ms)
-
-same_conn_b3 : (m : Named) → at_proxy.is_conn_b3 m ≡ at_server.is_conn_b3 m
+pub same_conn_b3 : (m : Named) → at_proxy.is_conn_b3 m ≡ at_server.is_conn_b3 m
 same_conn_b3 (named.ConnB3 window version) = refl
 same_conn_b3 m = refl
 
-same_in_r1_b2 : (m : Named) → at_proxy.is_in_r1_b2 m ≡ in_rows.is_in_r1_b2 m
+pub same_in_r1_b2 : (m : Named) → at_proxy.is_in_r1_b2 m ≡ in_rows.is_in_r1_b2 m
 same_in_r1_b2 (named.InR1B2 window) = refl
 same_in_r1_b2 m = refl
 

@@ -1,50 +1,26 @@
 -- where IN_R1/B2 was put on an is leg, IN_R1/A6 came on each leg below that came up
-use Rattle.std.proofs.Common.{◌≡◌, ◌⊎◌, ℕ, zero, suc, ◌+◌, ◌<◌, ◌≤◌, ◌==◌, ◌&&◌, ◌||◌, nat_eq, nat_lt, Bool, true, false, true≢false, not, if◌then◌else◌, List, [], ◌∷◌, ◌++◌, Some, None, Ok, Err, inl, inr, refl, sym, ap, ◌∙◌, subst, arith}
-use Rattle.std.proofs.lemmas.Bool.{and_parts}
-use Rattle.std.proofs.lemmas.Bool.Decides.{nat_tests}
-use Rattle.std.specs.Prelude.{IfSome, IsTrue}
-use Rattle.std.specs.declared.option.Option.{Option}
-use Rattle.std.specs.declared.result.Result.{Result}
-use Rattle.rh_window.specs.declared.recv_window.Ack.{Ack}
-use Rattle.law_order.specs.Items.{has_handover}
-use Rattle.law_order.specs.Taking.{TakerLaw}
-use Rattle.law_order.proofs.ByNumber.{by_test, other_number, same_number}
-use Rattle.rh_rts.specs.declared.command.Cookie.{Cookie}
+use Rattle.law_order.proofs.Vocabulary.{◌≡◌, ◌⊎◌, ℕ, ◌+◌, ◌<◌, ◌≤◌, ◌==◌, ◌&&◌, ◌||◌, nat_eq, nat_lt, Bool, true, false, true≢false, not, if◌then◌else◌, List, [], ◌∷◌, ◌++◌, Some, None, Ok, Err, inl, inr, refl, sym, ap, ◌∙◌, subst, arith, and_parts, nat_tests, IfSome, IsTrue, Option, Result, has_handover, TakerLaw}
 use Rattle.rh_sig.specs.declared.named.Named.TheVariants as named
-use Rattle.rh_line.specs.declared.leg.Leg.{Leg}
-use Rattle.rh_line.specs.declared.leg.LegKind.{LegKind}
-use Rattle.rh_line.specs.declared.leg.LegKind.TheVariants.{ClientOut, OutServer, ClientIn, InServer}
-use Rattle.rh_shell.specs.declared.end_role.GiveRefused.{GiveRefused}
-use Rattle.rh_shell.specs.Rules.{Message, Pdu, Packet, Row}
-use Rattle.rh_shell.specs.Shells.{is_of}
-use Rattle.rh_server.specs.declared.state.InLeg.{InLeg}
-use Rattle.rh_server.specs.declared.state.Leaving.{Leaving}
 use Rattle.rh_server.specs.declared.state.Leaving.TheVariants as leaving
-use Rattle.rh_server.specs.declared.state.Tells.{Tells}
 use Rattle.rh_server.specs.declared.state.Tells.TheVariants as tells
-use Rattle.rh_server.specs.declared.state.Stage.{Stage}
-use Rattle.rh_server.specs.Ending.{in_is_done}
-use Rattle.rh_server.specs.Opening.{has_room, may_up_by}
-use Rattle.rh_server.specs.Putting.{Pick, ack_due, or_else, put_ack, put_ack_by, put_b1, put_b1_by, put_in, put_in_by, put_tells, put_tells_by, was_current}
-use Rattle.rh_server.specs.Servers.{acts, first, rules}
-use Rattle.rh_server.specs.States.{Server, has_left, in_leg, in_place, is_due, is_lost, is_open, is_some, stays, with_in}
-use Rattle.law_moves.specs.Passages.Passing.{count_of}
-use Rattle.law_moves.specs.Moves.{Up, HeadCame, PduCame, PacketCame, Puts, IsDrawn, Marks, Pings, Passage, EndMove, Moves, Gives, Takes, Closes, Recycles, EndPassage, MayEndMove, AreAllowedAtEnd, OnLeg, all_end_moved, end_moved, end_now_at, end_started, given_by, is_at_work, is_in_use, put_by, taken_by, with_first}
-use Rattle.law_moves.specs.Wires.{of_leg}
-use Rattle.law_role_server.specs.Order.{came_up, following, got, has_leg, is_up, taker_of}
-use Rattle.law_role_server.specs.Counted.Counting.{is_conn_b2, is_in_r1_a2, is_in_r1_a6, leg_at, often_at}
+use Rattle.law_moves.proofs.Vocabulary.{Ack, by_test, other_number, same_number, or_false as or_none, Cookie, Leg, LegKind, ClientOut, OutServer, ClientIn, InServer, GiveRefused, Message, Pdu, Packet, Row, is_of, count_of, Up, HeadCame, PduCame, PacketCame, Puts, IsDrawn, Marks, Pings, Passage, EndMove, Moves, Gives, Takes, Closes, Recycles, EndPassage, MayEndMove, AreAllowedAtEnd, OnLeg, all_end_moved, end_moved, end_now_at, end_started, given_by, is_at_work, is_in_use}
+use Rattle.law_moves.proofs.Vocabulary.{put_by, taken_by, with_first, of_leg}
+use Rattle.law_role_inproxy.proofs.OrderPuts.{ended_now as or_right}
+use Rattle.law_role_client.proofs.Counted.Behind.{both_true}
+use Rattle.law_role_server.proofs.Vocabulary.{InLeg, Leaving, Tells, Stage, in_is_done, has_room, may_up_by, Pick, ack_due, or_else, put_ack, put_ack_by, put_b1, put_b1_by, put_in, put_in_by, put_tells, put_tells_by, was_current, acts, first, rules, Server, has_left, in_leg, in_place, is_due, is_lost, is_open, is_some, stays, with_in, came_up, following, got, has_leg, is_up, taker_of, is_conn_b2, is_in_r1_a2, is_in_r1_a6, leg_at, often_at}
+use Rattle.law_role_server_rows.proofs.Putting.Each.{number_found}
 use Rattle.law_role_server_rows.specs.InTurn.Answers.{AnswersInOrder, is_in_r1_b1}
-use Rattle.law_role_server_in.specs.Handovers.{passed}
-use Rattle.law_role_server_in.specs.Refusing.{came_at, first_at, is_in_r1_b2, put_at}
-use Rattle.law_role_server_in.proofs.Places.{number_found}
 use Rattle.law_role_server_in.proofs.Steps.{in_use, known}
 use Rattle.law_role_server_in.proofs.Takes.{IsKept}
 use Rattle.law_role_server_in.proofs.Tallies.{here, often_more, once_more, other_here}
+use Rattle.law_role_server_in.proofs.Opened.{allowed_parts, moved_append, none_or_some}
+use Rattle.law_role_server_in.specs.Handovers.{passed}
+use Rattle.law_role_server_in.specs.Refusing.{came_at, first_at, is_in_r1_b2, put_at}
 use Rattle.law_peers_in_channels.proofs.ServerExpects.Fronts.{all_fronts, behind_all}
-use Rattle.law_peers_in_channels.specs.PdusInTurn.Telling.{IsTold, TellsBehind}
 use Rattle.law_peers_in_channels.proofs.PdusInTurn.Again.{behind, first_put, kept, same_stage, second_put}
 use Rattle.law_peers_in_channels.proofs.PdusInTurn.FirstTold.{on_first}
 use Rattle.law_peers_in_channels.proofs.PdusInTurn.Marks.{marks}
+use Rattle.law_peers_in_channels.specs.PdusInTurn.Telling.{IsTold, TellsBehind}
 
 -- ---- tests
 
@@ -52,22 +28,9 @@ or_left : (a b : Bool) → a ≡ true → a || b ≡ true
 or_left true b e = refl
 or_left false b e = absurd (true≢false (sym e))
 
-or_right : (a b : Bool) → b ≡ true → a || b ≡ true
-or_right true b e = refl
-or_right false b e = e
-
-or_none : (a : Bool) → a || false ≡ true → a ≡ true
-or_none true e = refl
-or_none false e = absurd (true≢false (sym e))
-
 or_joined : (a b c : Bool) → a || (b || c) ≡ (a || b) || c
 or_joined true b c = refl
 or_joined false b c = refl
-
-both_true : (a b : Bool) → a ≡ true → b ≡ true → a && b ≡ true
-both_true true true e f = refl
-both_true true false e f = absurd (true≢false (sym f))
-both_true false b e f = absurd (true≢false (sym e))
 
 -- where the first fails, the second is denied
 denied : (a b : Bool) → a || not b ≡ true → a ≡ false → b ≡ false
@@ -79,17 +42,7 @@ kept_some : (o : Option InLeg) → IsKept o → is_some o ≡ true
 kept_some None h = absurd h
 kept_some (Some leg) h = refl
 
-none_or_some : (n : ℕ) → (n ≡ 0) ⊎ (1 ≤ n)
-none_or_some zero = inl refl
-none_or_some (suc n) = inr (omega arith)
-
 -- ---- more moves
-
-moved_append : (p : EndPassage Server) (front rest : List EndMove)
-    → all_end_moved rules acts p (front ++ rest)
-    ≡ all_end_moved rules acts (all_end_moved rules acts p front) rest
-moved_append p [] rest = refl
-moved_append p (move ∷ front) rest = moved_append (end_moved rules acts p move) front rest
 
 allowed_append : (p : EndPassage Server) (front rest : List EndMove)
     → AreAllowedAtEnd rules acts p front
@@ -98,15 +51,6 @@ allowed_append : (p : EndPassage Server) (front rest : List EndMove)
 allowed_append p [] rest may more = more
 allowed_append p (move ∷ front) rest may more =
     (may.0, allowed_append (end_moved rules acts p move) front rest may.1 more)
-
-allowed_parts : (p : EndPassage Server) (front rest : List EndMove)
-    → AreAllowedAtEnd rules acts p (front ++ rest)
-    → AreAllowedAtEnd rules acts p front
-    × AreAllowedAtEnd rules acts (all_end_moved rules acts p front) rest
-allowed_parts p [] rest may = (tt, may)
-allowed_parts p (move ∷ front) rest may =
-    let parts = allowed_parts (end_moved rules acts p move) front rest may.1 in
-    ((may.0, parts.0), parts.1)
 
 came_append : (front rest : List EndMove) (m : ℕ)
     → came_up (front ++ rest) m ≡ came_up front m || came_up rest m

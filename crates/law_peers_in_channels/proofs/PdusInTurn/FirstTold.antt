@@ -1,10 +1,8 @@
 -- CONN/B3 stands on a server's first is leg alone
-use Rattle.std.proofs.Common.{◌≡◌, ℕ, ◌≤◌, List, [], ◌∷◌, inl, inr, refl, sym, subst, arith}
+use Rattle.law_order.proofs.Vocabulary.{◌≡◌, ℕ, ◌≤◌, List, [], ◌∷◌, inl, inr, refl, sym, subst, arith}
 use Rattle.rh_sig.specs.declared.named.Named.TheVariants as named
-use Rattle.rh_shell.specs.Rules.{Message, Text, Pdu, Packet}
-use Rattle.law_moves.specs.Moves.{OnLeg}
-use Rattle.law_moves.specs.Passages.Passing.{count_of}
-use Rattle.law_role_server.specs.Counted.Counting.{is_conn_b3}
+use Rattle.law_moves.proofs.Vocabulary.{Message, Text, Pdu, Packet, OnLeg, count_of}
+use Rattle.law_role_server.proofs.Vocabulary.{is_conn_b3}
 use Rattle.law_role_server_rows.specs.InTurn.Answers.{AcksOn, AnswersOn, TellsOn}
 
 module _ (n : ℕ) (came : List OnLeg) where

@@ -1,26 +1,11 @@
 -- what order sees of an in proxy, in the messages of its legs
-use Rattle.std.proofs.Common.{◌≡◌, ℕ, zero, suc, ◌<◌, ◌≤◌, ◌==◌, Bool, true, false, true≢false, if◌then◌else◌, List, [], ◌∷◌, ◌++◌, length, refl, sym, ap, ◌∙◌, subst, arith}
-use Rattle.std.proofs.lemmas.Bool.Decides.{nat_tests}
-use mathlib.Core.List.{IsPrefix}
+use Rattle.law_order.proofs.Vocabulary.{◌≡◌, ℕ, zero, suc, ◌<◌, ◌≤◌, ◌==◌, Bool, true, false, true≢false, if◌then◌else◌, List, [], ◌∷◌, ◌++◌, length, refl, sym, ap, ◌∙◌, subst, arith, nat_tests, IsPrefix, Item, has_handover, pdus, Log, below}
 use Rattle.rh_sig.specs.declared.named.Named.TheVariants as named
-use Rattle.rh_line.specs.declared.leg.LegKind.{LegKind}
-use Rattle.rh_line.specs.declared.leg.LegKind.TheVariants.{ClientOut, OutServer, ClientIn, InServer}
-use Rattle.law_order.specs.Items.{Item, has_handover, pdus}
-use Rattle.law_order.specs.Logs.{Log, below}
-use Rattle.law_order.proofs.ByNumber.{below_prefix}
-use Rattle.law_order.proofs.ItemLists.{pdus-append}
-use Rattle.law_order.proofs.Prefixes.{prefix_pdus, prefix_trans}
-use Rattle.law_moves.specs.Moves.{OnLeg, Passage}
-use Rattle.rh_shell.specs.Rules.{Message, Text, Pdu, Packet}
-use Rattle.rh_shell.specs.Shells.{is_of}
-use Rattle.law_moves.specs.Wires.{of_leg}
-use Rattle.law_moves.specs.Passages.Passing.{count_of, of_kind}
-use Rattle.law_moves.specs.PacketKinds.{is_in_r1_a5}
-use Rattle.law_role_inproxy.specs.Order.{KeepsOrder, came_log, is_on, item_came, item_put, put_items}
-use Rattle.rh_inproxy.specs.State.{InProxy}
-use Rattle.law_role_inproxy.specs.Putting.Puts.{ci, is_leg}
-use Rattle.law_peers_in_channels.specs.PdusInTurn.Passing.{HoldsBack, pdus_of, pdus_up_to}
+use Rattle.law_moves.proofs.Vocabulary.{below_prefix, pdus-append, prefix_pdus, prefix_trans, LegKind, ClientOut, OutServer, ClientIn, InServer, Message, Text, Pdu, Packet, is_of, OnLeg, Passage, of_leg, count_of, of_kind, is_in_r1_a5}
+use Rattle.law_role_inproxy.proofs.Vocabulary.{InProxy, KeepsOrder, came_log, is_on, item_came, item_put, put_items, ci}
+use Rattle.law_role_inproxy.specs.Putting.Puts.{is_leg}
 use Rattle.law_peers_in_channels.proofs.PdusInTurn.Legs.{same_bool}
+use Rattle.law_peers_in_channels.specs.PdusInTurn.Passing.{HoldsBack, pdus_of, pdus_up_to}
 
 -- ---- what was put on is legs
 

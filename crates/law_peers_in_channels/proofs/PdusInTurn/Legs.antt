@@ -1,9 +1,6 @@
 -- tests of legs
-use Rattle.std.proofs.Common.{◌≡◌, ℕ, ◌==◌, ◌&&◌, Bool, true, false, nat_eq, refl, ap, ◌∙◌, arith}
-use Rattle.std.proofs.lemmas.Bool.Decides.{nat_tests}
-use Rattle.rh_line.specs.declared.leg.Leg.{Leg}
-use Rattle.rh_line.specs.declared.leg.LegKind.{LegKind}
-use Rattle.rh_shell.specs.Shells.{is_of, kind_number, same_leg}
+use Rattle.law_order.proofs.Vocabulary.{◌≡◌, ℕ, ◌==◌, ◌&&◌, Bool, true, false, nat_eq, refl, ap, ◌∙◌, arith, nat_tests}
+use Rattle.law_moves.proofs.Vocabulary.{Leg, LegKind, is_of, kind_number, same_leg}
 
 turned : (k n : ℕ) → (k == n) ≡ nat_eq n k
 turned k n = by (k == n) (nat_eq n k) refl refl

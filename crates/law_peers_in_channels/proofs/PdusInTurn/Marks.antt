@@ -1,15 +1,8 @@
 -- handover marks among what a server took, by counts
-use Rattle.std.proofs.Common.{◌≡◌, ℕ, ◌≤◌, ◌&&◌, Bool, true, false, true≢false, nat_eq, if◌then◌else◌, List, [], ◌∷◌, ◌++◌, refl, sym, subst, arith}
-use Rattle.law_order.specs.Items.{Item, has_handover}
+use Rattle.law_order.proofs.Vocabulary.{◌≡◌, ℕ, ◌≤◌, ◌&&◌, Bool, true, false, true≢false, nat_eq, if◌then◌else◌, List, [], ◌∷◌, ◌++◌, refl, sym, subst, arith, Item, has_handover}
 use Rattle.rh_sig.specs.declared.named.Named.TheVariants as named
-use Rattle.rh_line.specs.declared.leg.LegKind.TheVariants.{InServer}
-use Rattle.rh_shell.specs.Rules.{Message, Text, Pdu, Packet}
-use Rattle.rh_shell.specs.Shells.{is_of}
-use Rattle.law_moves.specs.Moves.{OnLeg}
-use Rattle.law_moves.specs.Wires.{of_leg}
-use Rattle.law_moves.specs.Passages.Passing.{count_of}
-use Rattle.law_role_server.specs.Order.{in_items, items_if, items_on}
-use Rattle.law_role_server.specs.Counted.Counting.{is_in_r1_a6, leg_at}
+use Rattle.law_moves.proofs.Vocabulary.{InServer, Message, Text, Pdu, Packet, is_of, OnLeg, of_leg, count_of}
+use Rattle.law_role_server.proofs.Vocabulary.{in_items, items_if, items_on, is_in_r1_a6, leg_at}
 use Rattle.law_peers_in_channels.proofs.PdusInTurn.Legs.{same_bool}
 
 -- the mark is among the items where IN_R1/A6 is among the messages, and only there

@@ -1,42 +1,23 @@
 -- what comes next from an out proxy is what the server expects
-use Rattle.std.proofs.Common.{◌≡◌, ◌⊎◌, ℕ, suc, ◌+◌, ◌<◌, ◌≤◌, nat_lt, Bool, true, false, IsTrue, List, [], ◌∷◌, ◌++◌, Err, inl, inr, refl, sym, ap, ◌∙◌, subst, arith}
-use Rattle.std.proofs.lemmas.Bool.Decides.{nat_tests}
-use mathlib.Core.List.{IsPrefix}
-use Rattle.rh_rts.specs.declared.command.Cookie.{Cookie}
-use Rattle.rh_sig.specs.declared.named.Named.{Named}
-use Rattle.rh_sig.specs.declared.named.Named.TheVariants.{Ack, ConnA2, OutR1A3, OutR1A4}
-use Rattle.rh_line.specs.declared.leg.LegKind.TheVariants.{OutServer}
-use Rattle.rh_shell.specs.declared.answers.Count.{Count}
-use Rattle.rh_shell.specs.declared.answers.Refused.{Refused}
+use Rattle.law_order.proofs.Vocabulary.{◌≡◌, ◌⊎◌, ℕ, suc, ◌+◌, ◌<◌, ◌≤◌, nat_lt, Bool, true, false, IsTrue, List, [], ◌∷◌, ◌++◌, Err, inl, inr, refl, sym, ap, ◌∙◌, subst, arith, nat_tests, IsPrefix}
+use Rattle.rh_sig.specs.declared.named.Named.TheVariants.{Ack}
 use Rattle.rh_shell.specs.declared.answers.Refused.TheVariants as refused
-use Rattle.law_moves.specs.Moves.{Passage, is_in_use}
-use Rattle.rh_shell.specs.Rules.{Message, Packet, Pdu}
-use Rattle.law_moves.specs.Wires.{of_leg}
-use Rattle.rh_client.specs.State.{co}
-use Rattle.rh_server.specs.Servers.{rules as server_rules}
-use Rattle.rh_server.specs.States.{Server}
-use Rattle.law_moves.specs.ReadBack.Reading.{all_read_of}
-use Rattle.law_moves.specs.Passages.Counted.{packets, Tells}
-use Rattle.law_moves.specs.Passages.Passing.{count_of, HasOne, of_kind}
-use Rattle.law_moves.specs.Passages.Rising.{HasComeUp}
-use Rattle.law_role_client.specs.Counted.Counting.{is_among, is_out_r1_a3, once_if}
-use Rattle.law_role_client.specs.Counted.Replacing.{ReplacesOuts, out_asked}
-use Rattle.law_role_server.specs.Counted.Counting.{is_conn_a2, is_out_r1_a1, is_out_r1_a4, is_out_r1_a9, out_came, out_put}
-use Rattle.law_role_server.specs.Counted.Replacing.{AreInTurn, ArePutInTurn}
+use Rattle.law_moves.proofs.Vocabulary.{Cookie, Named, ConnA2, OutR1A3, OutR1A4, OutServer, Count, Refused, Message, Packet, Pdu, Passage, is_in_use, of_leg, all_read_of, packets, Tells, count_of, HasOne, of_kind, HasComeUp}
+use Rattle.law_role_client.proofs.Vocabulary.{co, is_among, is_out_r1_a3, once_if, ReplacesOuts, out_asked}
+use Rattle.law_role_server.proofs.Vocabulary.{rules as server_rules, Server, is_conn_a2, is_out_r1_a1, is_out_r1_a4, is_out_r1_a9, out_came, out_put, AreInTurn, ArePutInTurn}
+use Rattle.law_role_outproxy.proofs.Vocabulary.{os_leg, NamesSuccessor, OpensServer}
+use Rattle.law_role_client_rows.specs.Putting.{OpenedBefore}
 use Rattle.law_role_server_rows.specs.Refusing.Cookies.{IsOutChannel, OpensOut}
 use Rattle.law_role_server_rows.specs.Refusing.Refusing.{MismatchOut, RefusesFor, UnexpectedOut}
-use Rattle.law_role_outproxy.specs.Counted.{os_leg, NamesSuccessor}
-use Rattle.law_role_client_rows.specs.Putting.{OpenedBefore}
-use Rattle.law_role_outproxy.specs.Putting.{OpensServer}
 use Rattle.law_peers_moments.specs.GoingRound.{GoRound}
 use Rattle.law_peers_moments.specs.Expecting.{Expects, IsAmiss}
 use Rattle.law_peers_moments.specs.Moments.{AreJoined, HaveCookies, Moves, Numbers, client_behind, out_behind, passages, server_behind}
 use Rattle.law_peers_in_channels.proofs.ServerExpects.Connections.{Connecting, channel_is, connection_is}
 use Rattle.law_peers_in_channels.proofs.ServerExpects.Logs.{counted_some, some_counted, some_leg}
-use Rattle.law_peers_in_channels.proofs.ServerExpects.Moment as at
 use Rattle.law_peers_in_channels.proofs.ServerExpects.Moment.{IsConnA2, OpensOuts, passes_conn_a2}
 use Rattle.law_peers_in_channels.proofs.ServerExpects.Refused.{not_other, nothing_before, one_before}
 use Rattle.law_peers_in_channels.proofs.ServerExpects.Opened.{IsFirstPacket, IsLaterPacket, IsNext, next_packet, no_acks, no_pdu}
+use Rattle.law_peers_in_channels.proofs.ServerExpects.Moment as at
 
 -- ---- numbers
 

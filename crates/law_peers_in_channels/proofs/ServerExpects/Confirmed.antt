@@ -1,34 +1,21 @@
 -- at each moment of a virtual connection OUT_R1/A8 came at the server in the order of the channels,
 -- and the next one is that of the next channel
-use Rattle.std.proofs.Common.{◌≡◌, ℕ, suc, ◌+◌, ◌≤◌, Bool, true, List, [], ◌∷◌, ◌++◌, length, append_assoc, inl, inr, refl, sym, ap, ◌∙◌, subst, arith}
-use mathlib.Core.List.{IsPrefix}
-use Rattle.rh_rts.specs.declared.command.Cookie.{Cookie}
-use Rattle.rh_sig.specs.declared.named.Named.{Named}
-use Rattle.rh_sig.specs.declared.named.Named.TheVariants.{OutR1A8}
-use Rattle.rh_line.specs.declared.leg.Leg.{Leg}
-use Rattle.rh_line.specs.declared.leg.LegKind.TheVariants.{ClientIn, ClientOut, InServer, OutServer}
-use Rattle.law_moves.specs.Moves.{OnLeg, EndMove, EndPassage, Passage, all_end_moved, end_moved, end_started}
-use Rattle.rh_shell.specs.Rules.{Packet}
-use Rattle.law_moves.specs.Wires.{of_leg}
-use Rattle.rh_client.specs.State.{co}
-use Rattle.rh_server.specs.Servers.{acts, first, rules as server_rules}
-use Rattle.rh_server.specs.States.{Server}
-use Rattle.law_moves.specs.ReadBack.Reading.{all_read_of}
-use Rattle.law_moves.specs.Passages.Passing.{count_of, of_kind}
-use Rattle.law_moves.specs.Passages.Rising.{HasComeUp}
-use Rattle.law_moves.proofs.Passages.Messages.{count_append}
-use Rattle.law_moves.specs.Chains.Sums.{count_on}
-use Rattle.law_role_inproxy.specs.Counted.{PutsForWhatCame}
+use Rattle.law_order.proofs.Vocabulary.{◌≡◌, ℕ, suc, ◌+◌, ◌≤◌, Bool, true, List, [], ◌∷◌, ◌++◌, length, append_assoc, inl, inr, refl, sym, ap, ◌∙◌, subst, arith, IsPrefix}
+use Rattle.law_moves.proofs.Vocabulary.{Cookie, Named, OutR1A8, ClientIn, ClientOut, InServer, OutServer, Packet, OnLeg, EndMove, EndPassage, Passage, all_end_moved, end_moved, end_started, of_leg, all_read_of, count_of, of_kind, HasComeUp, count_on}
+use Rattle.law_moves.proofs.Lemmas.{count_append}
 use Rattle.law_moves.specs.PacketKinds as at_proxy
+use Rattle.law_role_inproxy.proofs.Vocabulary.{PutsForWhatCame}
+use Rattle.law_role_client.proofs.Vocabulary.{co}
+use Rattle.law_role_server.proofs.Vocabulary.{acts, first, rules as server_rules, Server, in_came, out_put, AreInTurn}
 use Rattle.law_role_server.specs.Counted.Counting as at_server
-use Rattle.law_role_server.specs.Counted.Counting.{in_came, out_put}
-use Rattle.law_role_server.specs.Counted.Replacing.{AreInTurn}
 use Rattle.law_role_client_rows.specs.Putting.{SwitchesInOrder}
-use Rattle.law_peers_moments.specs.GoingRound.{GoRound}
-use Rattle.law_peers_moments.specs.Moments.{AreJoined, AreMade, IsMoment, IsPast, Moves, Numbers, client_behind, in_behind, passages, server_behind}
+use Rattle.law_node_streams.proofs.Streams.Rising.{come_up_more}
 use Rattle.law_peers_moments.proofs.Joining.{is_front}
 use Rattle.law_peers_moments.proofs.Read.{front_count}
-use Rattle.law_peers_in_channels.proofs.ServerExpects.Confirms.{ahead_counts, all_within, any, is_leg, kind_here, more_in_order, next_confirms}
+use Rattle.law_peers_moments.proofs.GoingRound.Rounding.{any}
+use Rattle.law_peers_moments.specs.GoingRound.{GoRound}
+use Rattle.law_peers_moments.specs.Moments.{AreJoined, AreMade, IsMoment, IsPast, Moves, Numbers, client_behind, in_behind, passages, server_behind}
+use Rattle.law_peers_in_channels.proofs.ServerExpects.Confirms.{ahead_counts, all_within, is_leg, kind_here, more_in_order, next_confirms}
 use Rattle.law_peers_in_channels.proofs.ServerExpects.Cookies.{is_same}
 use Rattle.law_peers_in_channels.proofs.ServerExpects.Fronts.{IsOneMore, all_fronts, behind_all, one_more}
 use Rattle.law_peers_in_channels.proofs.ServerExpects.InOrder.{AreOwn, InOrder, all_confirmed, confirms, in_order_so, last_in_order, named_in, switched_in_order, switches}
@@ -47,12 +34,6 @@ pub record Confirming (numbers : Numbers) : Type 0 where
   pub round : (reader : ℕ → ℕ) (moves : Moves) → AreMade numbers moves
       → AreJoined reader (passages numbers moves)
       → GoRound (client_behind numbers moves).passage (server_behind numbers moves).passage
-
-come_up_more : (a b : List EndMove) (leg : Leg) (cookie : Cookie) → HasComeUp a leg cookie
-    → HasComeUp (a ++ b) leg cookie
-come_up_more [] b leg cookie h = absurd h
-come_up_more (move ∷ a) b leg cookie (inl is) = inl is
-come_up_more (move ∷ a) b leg cookie (inr rest) = inr (come_up_more a b leg cookie rest)
 
 -- a server's OUT_R1/A5 are at most one more than OUT_R1/A8
 one_left : (p : Passage Server) → AreInTurn p

@@ -1,53 +1,20 @@
 -- OUT_R1/A8 comes at the server in the order of the channels: each for the OUT_R1/A7 of its turn
-use Rattle.std.proofs.Common.{◌≡◌, ℕ, suc, ◌≤◌, ◌==◌, Bool, true, false, if◌then◌else◌, List, [], ◌∷◌, ◌++◌, refl, sym, ap, ◌∙◌, subst, arith}
-use Rattle.std.proofs.lemmas.Bool.Decides.{nat_tests}
-use Rattle.std.proofs.lemmas.List.{append-nil}
-use mathlib.Core.List.{IsPrefix}
-use Rattle.rh_rts.specs.declared.command.Cookie.{Cookie}
-use Rattle.rh_sig.specs.declared.named.Named.{Named}
-use Rattle.rh_sig.specs.declared.named.Named.TheVariants.{OutR1A7, OutR1A8}
-use Rattle.rh_line.specs.declared.leg.Leg.{Leg}
-use Rattle.rh_line.specs.declared.leg.LegKind.{LegKind}
-use Rattle.rh_line.specs.declared.leg.LegKind.TheVariants.{ClientIn, InServer}
-use Rattle.law_moves.specs.Moves.{OnLeg}
-use Rattle.rh_shell.specs.Rules.{Message, Text, Pdu, Packet}
-use Rattle.rh_shell.specs.Shells.{is_of}
-use Rattle.law_moves.specs.Wires.{of_leg}
-use Rattle.law_moves.specs.ReadBack.Reading.{all_read_of}
-use Rattle.law_moves.specs.Passages.Passing.{count_of, of_kind}
-use Rattle.law_moves.proofs.Passages.Messages.{kind_more, leg_more}
-use Rattle.law_moves.specs.Chains.Sums.{count_on}
-use Rattle.law_moves.proofs.Chains.Along.{by_in_proxies}
-use Rattle.law_role_client.specs.Counted.Counting as at_client
-use Rattle.law_role_inproxy.specs.Counted.{PutsForWhatCame}
+use Rattle.law_order.proofs.Vocabulary.{◌≡◌, ℕ, suc, ◌≤◌, ◌==◌, Bool, true, false, if◌then◌else◌, List, [], ◌∷◌, ◌++◌, refl, sym, ap, ◌∙◌, subst, arith, nat_tests, append-nil, IsPrefix}
+use Rattle.law_moves.proofs.Vocabulary.{Cookie, Named, OutR1A7, OutR1A8, Leg, LegKind, ClientIn, InServer, Message, Text, Pdu, Packet, is_of, OnLeg, of_leg, all_read_of, count_of, of_kind, count_on}
+use Rattle.law_moves.proofs.Lemmas.{kind_more, leg_more, by_in_proxies}
 use Rattle.law_moves.specs.PacketKinds as at_proxy
+use Rattle.law_role_inproxy.proofs.Vocabulary.{PutsForWhatCame}
+use Rattle.law_role_client.specs.Counted.Counting as at_client
 use Rattle.law_role_server.specs.Counted.Counting as at_server
 use Rattle.law_peers_moments.proofs.GoingRound.Fronts.{are_fronts}
-use Rattle.law_peers_moments.specs.Moments.{AreJoined, Moves, Numbers, client_behind, in_behind, passages}
 use Rattle.law_peers_moments.proofs.Read.{front_count}
+use Rattle.law_peers_moments.proofs.GoingRound.Rounding.{any}
+use Rattle.law_peers_moments.specs.Moments.{AreJoined, Moves, Numbers, client_behind, in_behind, passages}
+use Rattle.law_peers_expects.proofs.InProxyExpects.Fronts.{same_counts}
 use Rattle.law_peers_in_channels.proofs.ServerExpects.Cookies.{is_same}
 use Rattle.law_peers_in_channels.proofs.ServerExpects.InOrder.{AreOwn, InOrder, all_confirmed, all_switched, append_names, confirmed_often, confirms, how_often, named_in, next_in_order, switched_often, switches}
 
 -- ---- counts
-
-pub same_counts : (one other : Named → Bool) → ((m : Named) → one m ≡ other m)
-    → (ms : List Message) → count_of one ms ≡ count_of other ms
-same_counts one other is [] = refl
-same_counts one other is (Text bytes ∷ ms) = same_counts one other is ms
-same_counts one other is (Pdu pdu ∷ ms) = same_counts one other is ms
-same_counts one other is (Packet m ∷ ms) =
-    by (one m) (other m) (is m) (same_counts one other is ms)
-  where
-    by : (a b : Bool) → a ≡ b → count_of one ms ≡ count_of other ms
-        → (if a then suc (count_of one ms) else count_of one ms)
-        ≡ (if b then suc (count_of other ms) else count_of other ms)
-    by true true e rest = ap (λ (n : ℕ). suc n) rest
-    by false false e rest = rest
-    by true false e rest = absurd cc
-    by false true e rest = absurd cc
-
-abbrev pub any : Cookie → Bool
-any cookie = true
 
 any_out_r1_a7 : (m : Named) → at_proxy.is_out_r1_a7 any m ≡ at_client.is_out_r1_a7 m
 any_out_r1_a7 (OutR1A7 to successor) = refl

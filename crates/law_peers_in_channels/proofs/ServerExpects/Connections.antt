@@ -1,28 +1,17 @@
 -- all cookies of connections that came at the server are the client's, and those of OUT channels
 -- are the ones with which their legs came up
-use Rattle.std.proofs.Common.{◌≡◌, ◌⊎◌, ℕ, Bool, true, false, if◌then◌else◌, List, [], ◌∷◌, ◌++◌, sym, ◌∙◌, subst, arith, inl, inr}
-use Rattle.rh_rts.specs.declared.command.Cookie.{Cookie}
-use Rattle.rh_sig.specs.declared.named.Named.{Named}
-use Rattle.rh_sig.specs.declared.named.Named.TheVariants.{ConnA2, ConnB1, ConnB2, OutR1A4}
-use Rattle.rh_line.specs.declared.leg.Leg.{Leg}
-use Rattle.rh_line.specs.declared.leg.LegKind.TheVariants.{ClientIn, InServer, OutServer}
-use Rattle.rh_shell.specs.Rules.{Message, Text, Pdu, Packet}
-use Rattle.rh_shell.specs.Shells.{same_leg}
-use Rattle.rh_client.specs.State.{co}
-use Rattle.law_moves.specs.Moves.{OnLeg}
-use Rattle.law_moves.specs.Wires.{of_leg}
-use Rattle.law_moves.specs.Passages.Passing.{HasOne, of_kind}
-use Rattle.law_moves.specs.Passages.Rising.{HasComeUp}
-use Rattle.law_role_client.specs.Counted.Naming.{EachBehind, NamesIn, NamesIns}
+use Rattle.law_order.proofs.Vocabulary.{◌≡◌, ◌⊎◌, ℕ, Bool, true, false, if◌then◌else◌, List, [], ◌∷◌, ◌++◌, sym, ◌∙◌, subst, arith, inl, inr}
+use Rattle.law_moves.proofs.Vocabulary.{Cookie, Named, ConnA2, ConnB1, ConnB2, OutR1A4, Leg, ClientIn, InServer, OutServer, Message, Text, Pdu, Packet, same_leg, OnLeg, of_leg, HasOne, of_kind, HasComeUp}
+use Rattle.law_role_client.proofs.Vocabulary.{co, EachBehind, NamesIn, NamesIns}
 use Rattle.law_role_server_rows.specs.Refusing.Cookies.{Connects, IsConnection, IsOutChannel, OpensOut}
-use Rattle.law_peers_moments.specs.Moments.{AreJoined, Moves, Numbers, client_behind, in_behind, passages, server_behind}
 use Rattle.law_peers_moments.proofs.Joining.{in_front, is_front}
 use Rattle.law_peers_moments.proofs.Read.{front_one}
-use Rattle.law_peers_in_channels.specs.ServerExpects.Connecting.{asks, connects, ConnectsForWhatCame}
+use Rattle.law_peers_moments.specs.Moments.{AreJoined, Moves, Numbers, client_behind, in_behind, passages, server_behind}
 use Rattle.law_peers_in_channels.proofs.ServerExpects.Cookies.{cookie_same, is_same, same_cookie}
 use Rattle.law_peers_in_channels.proofs.ServerExpects.Logs.{counted_some, leg_at, some_counted, some_leg}
-use Rattle.law_peers_in_channels.proofs.ServerExpects.Moment as at
 use Rattle.law_peers_in_channels.proofs.ServerExpects.Moment.{OpensOuts}
+use Rattle.law_peers_in_channels.proofs.ServerExpects.Moment as at
+use Rattle.law_peers_in_channels.specs.ServerExpects.Connecting.{asks, connects, ConnectsForWhatCame}
 
 -- ---- packets
 

@@ -1,8 +1,7 @@
 -- cookies are the same by a test
-use Rattle.std.proofs.Common.{◌≡◌, Bool, true, List, ℕ, ap}
-use Rattle.std.proofs.lemmas.Slice.Eq.{bytes_eq-Decides}
 use Rattle.std.specs.Prelude.{bytes_eq}
-use Rattle.rh_rts.specs.declared.command.Cookie.{Cookie}
+use Rattle.law_order.proofs.Vocabulary.{◌≡◌, Bool, true, List, ℕ, ap, bytes_eq-Decides}
+use Rattle.law_moves.proofs.Vocabulary.{Cookie}
 
 abbrev pub is_same : Cookie → Cookie → Bool
 is_same a b = bytes_eq a.0 b.0

@@ -1,11 +1,8 @@
 -- what doesn't follow END/A2
-use Rattle.std.proofs.Common.{◌≡◌, List, [], ◌∷◌, ◌++◌, refl}
-use Rattle.std.specs.List.{AllByRecursion}
-use Rattle.rh_sig.specs.declared.named.Named.TheVariants.{EndA2}
-use Rattle.rh_shell.specs.Rules.{Message, Text, Pdu, Packet}
-use Rattle.law_moves.specs.Passages.Passing.{count_of}
-use Rattle.law_role_inproxy.specs.Putting.Standing.{EndsLast, MayFollowEnd}
-use Rattle.law_role_server.specs.Counted.Counting.{is_end_a2}
+use Rattle.law_order.proofs.Vocabulary.{◌≡◌, List, [], ◌∷◌, ◌++◌, refl, AllByRecursion}
+use Rattle.law_moves.proofs.Vocabulary.{EndA2, Message, Text, Pdu, Packet, count_of}
+use Rattle.law_role_inproxy.proofs.Vocabulary.{EndsLast, MayFollowEnd}
+use Rattle.law_role_server.proofs.Vocabulary.{is_end_a2}
 
 module _ (m : Message) (later : List Message) (barred : MayFollowEnd m → ⊥) where
   none_follows : (ms : List Message) → AllByRecursion MayFollowEnd (ms ++ m ∷ later) → ⊥

@@ -1,18 +1,8 @@
 -- CONN/B1 is on the client's first IN channel alone
-use Rattle.std.proofs.Common.{◌≡◌, ℕ, ◌≤◌, true, refl, arith}
-use Rattle.std.proofs.lemmas.Bool.Decides.{nat_tests}
-use Rattle.rh_rts.specs.declared.command.Cookie.{Cookie}
-use Rattle.rh_sig.specs.declared.named.Named.{Named}
-use Rattle.rh_sig.specs.declared.named.Named.TheVariants.{ConnB1, ConnB2}
-use Rattle.rh_line.specs.declared.leg.LegKind.TheVariants.{ClientIn}
-use Rattle.rh_client.specs.declared.state.ClientRole.{ClientRole}
-use Rattle.rh_client.specs.State.{ci}
-use Rattle.law_moves.specs.Moves.{Passage}
-use Rattle.law_moves.specs.Wires.{of_leg}
-use Rattle.law_moves.specs.Passages.Passing.{count_of, HasOne}
-use Rattle.law_role_client.specs.Counted.Counting.{is_among, is_conn_b1, once_if, total}
-use Rattle.law_role_client.specs.Counted.Naming.{NamesIns}
-use Rattle.law_role_server.specs.Counted.Counting.{is_conn_b2}
+use Rattle.law_order.proofs.Vocabulary.{◌≡◌, ℕ, ◌≤◌, true, refl, arith, nat_tests}
+use Rattle.law_moves.proofs.Vocabulary.{Cookie, Named, ConnB1, ConnB2, ClientIn, Passage, of_leg, count_of, HasOne}
+use Rattle.law_role_client.proofs.Vocabulary.{ClientRole, ci, is_among, is_conn_b1, once_if, total, NamesIns}
+use Rattle.law_role_server.proofs.Vocabulary.{is_conn_b2}
 use Rattle.law_peers_in_channels.proofs.ServerExpects.Logs.{counted_some}
 
 abbrev pub IsConnB2 : Named → Type 0

@@ -1,12 +1,6 @@
 -- moves of an end one by one: of each, at most one message more came, and then none was put
-use Rattle.std.proofs.Common.{◌≡◌, ◌⊎◌, ℕ, List, [], ◌∷◌, ◌++◌, append_assoc, Some, None, Ok, Err, inl, inr, refl, sym, ◌∙◌, subst}
-use Rattle.std.proofs.lemmas.List.{append-nil}
-use Rattle.std.specs.declared.option.Option.{Option}
-use Rattle.std.specs.declared.result.Result.{Result}
-use Rattle.rh_line.specs.declared.leg.Leg.{Leg}
-use Rattle.rh_shell.specs.declared.end_role.GiveRefused.{GiveRefused}
-use Rattle.rh_shell.specs.Rules.{Rules, Acts, Row, Message, Pdu, Packet}
-use Rattle.law_moves.specs.Moves.{OnLeg, Move, Up, HeadCame, PduCame, PacketCame, Puts, IsDrawn, Marks, Pings, Passage, moved, taken_by, put_by, EndMove, Moves, Gives, Takes, Closes, Recycles, EndPassage, end_moved, all_end_moved, end_now_at, given_by, with_first}
+use Rattle.law_order.proofs.Vocabulary.{◌≡◌, ◌⊎◌, ℕ, List, [], ◌∷◌, ◌++◌, append_assoc, Some, None, Ok, Err, inl, inr, refl, sym, ◌∙◌, subst, append-nil, Option, Result}
+use Rattle.law_moves.proofs.Vocabulary.{Leg, GiveRefused, Rules, Acts, Row, Message, Pdu, Packet, OnLeg, Move, Up, HeadCame, PduCame, PacketCame, Puts, IsDrawn, Marks, Pings, Passage, moved, taken_by, put_by, EndMove, Moves, Gives, Takes, Closes, Recycles, EndPassage, end_moved, all_end_moved, end_now_at, given_by, with_first}
 
 -- all fronts have what the first has, if each has it behind the one before
 pub all_fronts : {X : Type 0} (P : List X → Type 0) (all : List X)

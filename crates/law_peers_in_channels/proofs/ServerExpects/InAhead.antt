@@ -1,39 +1,24 @@
 -- what comes next from an in proxy is what the server expects, but for packets that announce a
 -- successor of an IN channel, or hand over to it
-use Rattle.std.proofs.Common.{◌≡◌, ◌⊎◌, ℕ, suc, ◌+◌, ◌≤◌, IsTrue, List, [], ◌∷◌, ◌++◌, Err, inl, inr, sym, ◌∙◌, subst, refl, arith}
-use mathlib.Core.List.{IsPrefix}
-use Rattle.rh_rts.specs.declared.command.Cookie.{Cookie}
-use Rattle.rh_sig.specs.declared.named.Named.{Named}
-use Rattle.rh_sig.specs.declared.named.Named.TheVariants.{AckTo, ConnB1, ConnB2, ConnB3, EndA2, InR1A2, InR1A6, InR1B2, InR2A2, OutR1A8}
-use Rattle.rh_line.specs.declared.leg.LegKind.TheVariants.{InServer}
-use Rattle.rh_shell.specs.declared.answers.Count.{Count}
+use Rattle.law_order.proofs.Vocabulary.{◌≡◌, ◌⊎◌, ℕ, suc, ◌+◌, ◌≤◌, IsTrue, List, [], ◌∷◌, ◌++◌, Err, inl, inr, sym, ◌∙◌, subst, arith, IsPrefix}
 use Rattle.rh_shell.specs.declared.answers.Refused.TheVariants as refused
-use Rattle.law_moves.specs.Moves.{OnLeg, Passage, is_in_use}
-use Rattle.rh_shell.specs.Rules.{Message, Pdu, Packet}
-use Rattle.law_moves.specs.Wires.{of_leg}
-use Rattle.rh_client.specs.State.{ci, co}
-use Rattle.rh_inproxy.specs.State.{InProxy}
-use Rattle.rh_server.specs.Servers.{rules as server_rules}
-use Rattle.rh_server.specs.States.{Server}
-use Rattle.law_moves.specs.ReadBack.Reading.{all_read_of}
-use Rattle.law_moves.specs.Passages.Counted.{packets, Tells}
-use Rattle.law_moves.specs.Passages.Passing.{count_of, HasOne, of_kind}
-use Rattle.law_moves.proofs.Passages.Messages.{one_so}
-use Rattle.law_role_server.specs.Counted.Counting as at_server
-use Rattle.law_role_server.specs.Counted.Counting.{in_came, out_put}
-use Rattle.law_role_server_rows.specs.Refusing.Refusing.{MismatchIn, RefusesFor, UnexpectedIn}
-use Rattle.law_role_server_in.specs.Refusing as in_rows
-use Rattle.law_role_server_in.specs.Refusing.{IsUnopened, RefusesInFor, UnexpectedEndA2, UnexpectedPdu, came_at, first_at}
+use Rattle.law_moves.proofs.Vocabulary.{Cookie, Named, AckTo, ConnB1, ConnB2, EndA2, InR1A2, InR1A6, InR2A2, OutR1A8, InServer, Count, Message, Pdu, Packet, OnLeg, Passage, is_in_use, of_leg, all_read_of, packets, Tells, count_of, HasOne, of_kind}
+use Rattle.law_moves.proofs.Lemmas.{one_so}
+use Rattle.law_role_inproxy.proofs.Vocabulary.{InProxy, CameFirst, HasPdu, IsPlainPacket, IsStream, PutsInOrder, EndsLast, MayFollowEnd, SendsWhereTold}
 use Rattle.law_role_inproxy.specs.Putting.Puts as puts
-use Rattle.law_role_inproxy.specs.Putting.Puts.{CameFirst, HasPdu, IsPlainPacket, IsStream, PutsInOrder}
 use Rattle.law_role_inproxy.specs.Putting.Standing as standing
-use Rattle.law_role_inproxy.specs.Putting.Standing.{EndsLast, MayFollowEnd, SendsWhereTold}
-use Rattle.law_peers_moments.specs.Moments.{IsMoment, Moves, Numbers, client_behind, in_behind, passages, server_behind}
+use Rattle.law_role_client.proofs.Vocabulary.{ci, co}
+use Rattle.law_role_server.proofs.Vocabulary.{rules as server_rules, Server, in_came, out_put}
+use Rattle.law_role_server.specs.Counted.Counting as at_server
+use Rattle.law_role_server_rows.specs.Refusing.Refusing.{MismatchIn, RefusesFor, UnexpectedIn}
 use Rattle.law_peers_moments.proofs.Joining.{in_front, is_back, is_front}
 use Rattle.law_peers_moments.proofs.Read.{front_count, front_one}
-use Rattle.law_peers_in_channels.specs.ServerExpects.Expected.{AnnouncesNone, ExpectsPdus, ExpectsThose}
+use Rattle.law_peers_moments.specs.Moments.{IsMoment, Moves, Numbers, client_behind, in_behind, passages, server_behind}
+use Rattle.law_role_server_in.specs.Refusing.{IsUnopened, RefusesInFor, UnexpectedEndA2, UnexpectedPdu, came_at, first_at}
+use Rattle.law_role_server_in.specs.Refusing as in_rows
+use Rattle.law_peers_expects.proofs.InProxyExpects.Fronts.{same_counts}
 use Rattle.law_peers_in_channels.proofs.ServerExpects.Confirmed.{Confirming, next_is, one_asked}
-use Rattle.law_peers_in_channels.proofs.ServerExpects.Confirms.{is_leg, same_counts}
+use Rattle.law_peers_in_channels.proofs.ServerExpects.Confirms.{is_leg}
 use Rattle.law_peers_in_channels.proofs.ServerExpects.Connections.{Asks, Connecting, all_same, channel_is, connection_is}
 use Rattle.law_peers_in_channels.proofs.ServerExpects.Ended.{none_ended}
 use Rattle.law_peers_in_channels.proofs.ServerExpects.FirstIn.{IsConnB1, IsConnB2, conn_b1_first, passes_conn_b2}
@@ -43,6 +28,8 @@ use Rattle.law_peers_in_channels.proofs.ServerExpects.NoCookie.{no_cookie}
 use Rattle.law_peers_in_channels.proofs.ServerExpects.OpenFirst.{OpensByServer, no_pdu_put, pdu_front, pdu_stands}
 use Rattle.law_peers_in_channels.proofs.ServerExpects.Refused.{not_other, nothing_before, one_before}
 use Rattle.law_peers_in_channels.proofs.ServerExpects.Streams.{IsFirstMessage, IsLaterMessage, came_before, conn_b2_asked, connects_conn_b1, first_begins, first_one, next_message, next_of}
+use Rattle.law_peers_in_channels.proofs.PdusInTurn.Ahead.{same_conn_b3 as conn_b3, same_in_r1_b2 as in_r1_b2}
+use Rattle.law_peers_in_channels.specs.ServerExpects.Expected.{AnnouncesNone, ExpectsPdus, ExpectsThose}
 
 -- ---- packets
 
@@ -51,14 +38,6 @@ conn_b1_asks : (connection channel group : Cookie) (m : Named)
 conn_b1_asks connection channel group
     (ConnB1 version of own lifetime keepalive in_group) h = sym h.0
 conn_b1_asks connection channel group m h = absurd h
-
-conn_b3 : (m : Named) → standing.is_conn_b3 m ≡ at_server.is_conn_b3 m
-conn_b3 (ConnB3 window version) = refl
-conn_b3 m = refl
-
-in_r1_b2 : (m : Named) → standing.is_in_r1_b2 m ≡ in_rows.is_in_r1_b2 m
-in_r1_b2 (InR1B2 window) = refl
-in_r1_b2 m = refl
 
 -- ---- what else is known of a moment
 

@@ -1,14 +1,9 @@
 -- cookies of channels that are named in order, and those that are confirmed, of which none is more
 -- often than it was named
-use Rattle.std.proofs.Common.{◌≡◌, ℕ, suc, ◌+◌, ◌≤◌, Bool, true, false, if◌then◌else◌, List, [], ◌∷◌, ◌++◌, length, append_assoc, refl, sym, ap, ◌∙◌, subst, arith}
-use Rattle.rh_rts.specs.declared.command.Cookie.{Cookie}
-use Rattle.rh_sig.specs.declared.named.Named.{Named}
-use Rattle.rh_sig.specs.declared.named.Named.TheVariants.{OutR1A7, OutR1A8}
-use Rattle.rh_line.specs.declared.leg.Leg.{Leg}
-use Rattle.rh_shell.specs.Rules.{Message, Text, Pdu, Packet}
-use Rattle.rh_client.specs.State.{co}
-use Rattle.law_moves.specs.Passages.Passing.{count_of}
+use Rattle.law_order.proofs.Vocabulary.{◌≡◌, ℕ, suc, ◌+◌, ◌≤◌, Bool, true, false, if◌then◌else◌, List, [], ◌∷◌, ◌++◌, length, append_assoc, refl, sym, ap, ◌∙◌, subst, arith}
+use Rattle.law_moves.proofs.Vocabulary.{Cookie, Named, OutR1A7, OutR1A8, Leg, Message, Text, Pdu, Packet, count_of}
 use Rattle.law_moves.specs.PacketKinds as at_proxy
+use Rattle.law_role_client.proofs.Vocabulary.{co}
 use Rattle.law_role_client.specs.Counted.Counting as at_client
 use Rattle.law_role_server.specs.Counted.Counting as at_server
 use Rattle.law_role_client_rows.specs.Putting.{SwitchesFrom}

@@ -1,10 +1,7 @@
 -- for which connections an in proxy speaks to the server
-use Rattle.std.proofs.Common.{Bool, List, refl, arith}
-use Rattle.rh_rts.specs.declared.command.Cookie.{Cookie}
-use Rattle.rh_inproxy.specs.declared.state.InProxyConfig.{InProxyConfig}
-use Rattle.rh_inproxy.specs.Machine.{rules as proxy_rules}
-use Rattle.rh_inproxy.specs.State.{first}
-use Rattle.law_moves.specs.Moves.{Move, all_moved, started}
+use Rattle.law_order.proofs.Vocabulary.{Bool, List, refl, arith}
+use Rattle.law_moves.proofs.Vocabulary.{Cookie, Move, all_moved, started}
+use Rattle.law_role_inproxy.proofs.Vocabulary.{InProxyConfig, rules as proxy_rules, first}
 use Rattle.law_role_inproxy.proofs.Counted.InProxyOwes.{Leads}
 use Rattle.law_role_inproxy.proofs.Counted.InProxyPays.{in_proxy_pays}
 use Rattle.law_peers_in_channels.specs.ServerExpects.Connecting.{asks, connects, ConnectsForWhatCame}

@@ -1,15 +1,9 @@
 -- where moves are in turn, a message is put only on a leg that is up
-use Rattle.std.proofs.Common.{◌≡◌, ◌⊎◌, Bool, true, false, if◌then◌else◌, List, [], ◌∷◌, Some, inl, inr, refl, sym, ap, ◌∙◌, subst}
-use Rattle.std.specs.Prelude.{is_some}
-use Rattle.rh_line.specs.declared.leg.Leg.{Leg}
-use Rattle.rh_shell.specs.declared.stage.Stage.{Stage}
-use Rattle.rh_shell.specs.NearEnds.{first_stage}
-use Rattle.rh_shell.specs.Rules.{Rules}
-use Rattle.rh_shell.specs.Shells.{same_leg}
-use Rattle.law_moves.specs.Moves.{Move, Up, HeadCame, PduCame, PacketCame, Puts, IsDrawn, Marks, Pings, MayMove, AreAllowed, Passage, moved}
-use Rattle.law_moves.specs.Turns.{AreInTurnFrom, IsInTurn, Stages, behind_head, stages_after, with_stage}
-use Rattle.law_role_inproxy.specs.Putting.Puts.{ArePutUp, IsPutUp}
-use Rattle.law_node_history.proofs.Wired.{cases_leg}
+use Rattle.law_order.proofs.Vocabulary.{◌≡◌, ◌⊎◌, Bool, true, false, if◌then◌else◌, List, [], ◌∷◌, Some, inl, inr, refl, sym, ap, ◌∙◌, subst, is_some}
+use Rattle.law_moves.proofs.Vocabulary.{Leg, Stage, first_stage, Rules, same_leg, Move, Up, HeadCame, PduCame, PacketCame, Puts, IsDrawn, Marks, Pings, MayMove, AreAllowed, Passage, moved, AreInTurnFrom, IsInTurn, Stages, stages_after, with_stage}
+use Rattle.law_moves.specs.Turns.{behind_head}
+use Rattle.law_role_inproxy.proofs.Vocabulary.{ArePutUp, IsPutUp}
+use Rattle.law_node_history.proofs.Lemmas.{cases_leg}
 use Rattle.law_node_causes.specs.Once.{ComesUpOnce}
 
 module _ {S : Type 0} (rules : Rules S) (Holds : S → Type 0) (once : ComesUpOnce rules Holds) where

@@ -1,17 +1,7 @@
 -- packets of a log: on which leg they stand, and how many of them pass a test
-use Rattle.std.proofs.Common.{◌≡◌, ◌⊎◌, ℕ, suc, ◌≤◌, Bool, true, false, if◌then◌else◌, List, [], ◌∷◌, inl, inr, refl, sym, subst, arith}
-use Rattle.std.proofs.lemmas.Bool.Decides.{nat_tests}
-use Rattle.rh_sig.specs.declared.named.Named.{Named}
-use Rattle.rh_line.specs.declared.leg.Leg.{Leg}
-use Rattle.rh_line.specs.declared.leg.LegKind.{LegKind}
-use Rattle.rh_shell.specs.Rules.{Message, Text, Pdu, Packet}
-use Rattle.rh_shell.specs.Shells.{is_of, same_leg}
-use Rattle.law_moves.specs.Moves.{OnLeg}
-use Rattle.law_moves.specs.Wires.{of_leg}
-use Rattle.law_moves.specs.Passages.Passing.{count_of, of_kind, Has, HasOne}
-use Rattle.law_moves.proofs.Passages.Messages.{one_more_so}
-use Rattle.law_moves.specs.Chains.Sums.{count_on}
-use Rattle.law_moves.proofs.Chains.Summing.{some_legs}
+use Rattle.law_order.proofs.Vocabulary.{◌≡◌, ◌⊎◌, ℕ, suc, ◌≤◌, Bool, true, false, if◌then◌else◌, List, [], ◌∷◌, inl, inr, refl, sym, subst, arith, nat_tests}
+use Rattle.law_moves.proofs.Vocabulary.{Named, Leg, LegKind, Message, Text, Pdu, Packet, is_of, same_leg, OnLeg, of_leg, count_of, of_kind, HasOne, count_on}
+use Rattle.law_moves.proofs.Lemmas.{one_more_so, some_legs}
 
 -- ---- tests
 
@@ -48,11 +38,6 @@ module _ (P : Named → Type 0) (test : Named → Bool) where
           (sym (so m is)) (omega arith)
       by (inr more) rest = at (test m) (rest more)
 
-packet_one : (P : Named → Type 0) (m : Named) (message : Message) → message ≡ Packet m → P m
-    → HasOne P (message ∷ [])
-packet_one P m message e is =
-    subst (λ (x : Message). HasOne P (x ∷ [])) (sym e) (inl is)
-
 -- ---- a message at the front
 
 module _ (P : Named → Type 0) where
@@ -67,12 +52,6 @@ module _ (P : Named → Type 0) where
   first_or_behind (Pdu pdu) ms has = inr has
   first_or_behind (Packet m) ms (inl is) = inl (inl is)
   first_or_behind (Packet m) ms (inr has) = inr has
-
-  -- one that is among the messages
-  pub has_so : (m : Named) (ms : List Message) → P m → Has m ms → HasOne P ms
-  has_so m [] is has = absurd has
-  has_so m (message ∷ ms) is (inl e) = one_more_so P (message ∷ []) ms (packet_one P m message e is)
-  has_so m (message ∷ ms) is (inr has) = behind_one message ms (has_so m ms is has)
 
 -- ---- legs of a kind
 

@@ -1,32 +1,18 @@
 -- OUT channels at a moment of a virtual connection, by what came at the server and what the client
 -- put
-use Rattle.std.proofs.Common.{◌≡◌, ℕ, true, List, subst}
-use mathlib.Core.List.{IsPrefix}
-use Rattle.rh_rts.specs.declared.command.Cookie.{Cookie}
-use Rattle.rh_sig.specs.declared.named.Named.{Named}
-use Rattle.rh_sig.specs.declared.named.Named.TheVariants.{Ack, ConnA2, OutR1A4}
-use Rattle.rh_line.specs.declared.leg.Leg.{Leg}
-use Rattle.rh_line.specs.declared.leg.LegKind.TheVariants.{OutServer}
-use Rattle.law_moves.specs.Moves.{Passage}
-use Rattle.rh_shell.specs.Rules.{Message}
-use Rattle.law_moves.specs.Wires.{of_leg}
-use Rattle.rh_client.specs.declared.state.ClientRole.{ClientRole}
-use Rattle.rh_client.specs.State.{co}
-use Rattle.rh_outproxy.specs.OutProxy.{OutProxy}
-use Rattle.rh_server.specs.States.{Server}
-use Rattle.law_moves.specs.ReadBack.Reading.{all_read_of}
-use Rattle.law_role_server.specs.Counted.Counting.{is_conn_a2}
-use Rattle.law_moves.specs.Passages.Passing.{HasOne, of_kind}
-use Rattle.law_moves.specs.Passages.Rising.{HasComeUp}
-use Rattle.law_role_outproxy.specs.Counted.{co_leg, os_leg, NamesNew, NamesSuccessor}
+use Rattle.law_order.proofs.Vocabulary.{◌≡◌, ℕ, true, List, subst, IsPrefix}
+use Rattle.rh_sig.specs.declared.named.Named.TheVariants.{Ack}
+use Rattle.law_moves.proofs.Vocabulary.{Cookie, Named, ConnA2, OutR1A4, Leg, OutServer, Message, Passage, of_leg, all_read_of, HasOne, of_kind, HasComeUp}
+use Rattle.law_role_client.proofs.Vocabulary.{ClientRole, co}
+use Rattle.law_role_server.proofs.Vocabulary.{Server, is_conn_a2}
+use Rattle.law_role_outproxy.proofs.Vocabulary.{OutProxy, co_leg, os_leg, NamesNew, NamesSuccessor, IsToServer, OpensServer, PutsToServer}
 use Rattle.law_role_client_rows.specs.Putting.{OpenedBefore, OpensOutChannels}
-use Rattle.law_role_outproxy.specs.Putting.{IsToServer, OpensServer, PutsToServer}
-use Rattle.law_peers_moments.specs.Moments.{AreJoined, Moves, Numbers, client_behind, out_behind, passages, server_behind}
 use Rattle.law_peers_moments.proofs.Joining.{co_front, os_front}
 use Rattle.law_peers_moments.proofs.Read.{front_one}
+use Rattle.law_peers_moments.specs.Moments.{AreJoined, Moves, Numbers, client_behind, out_behind, passages, server_behind}
 use Rattle.law_peers_in_channels.proofs.ServerExpects.Logs.{some_leg}
-use Rattle.law_peers_in_channels.proofs.ServerExpects.Opened as opened
 use Rattle.law_peers_in_channels.proofs.ServerExpects.Opened.{IsOpening, came_to_server, opening}
+use Rattle.law_peers_in_channels.proofs.ServerExpects.Opened as opened
 
 -- ---- packets that open the first channel
 

@@ -1,16 +1,8 @@
 -- a server refuses no RPC PDU for a cookie
-use Rattle.std.proofs.Common.{◌≡◌, ℕ, Bool, true, false, if◌then◌else◌, List, Some, None, Ok, Err}
-use Rattle.std.specs.declared.option.Option.{Option}
-use Rattle.std.specs.declared.result.Result.{Result}
-use Rattle.rh_rts.specs.declared.command.Cookie.{Cookie}
-use Rattle.rh_line.specs.Lines.{admit_verdict}
-use Rattle.rh_line.specs.declared.line_fault.LineFault.{LineFault}
-use Rattle.rh_line.specs.declared.line_fault.LineFault.TheVariants.{Window, Over}
-use Rattle.rh_line.specs.declared.which.Which.{Which}
+use Rattle.law_order.proofs.Vocabulary.{◌≡◌, ℕ, Bool, true, false, if◌then◌else◌, List, Some, None, Ok, Err, Option, Result}
 use Rattle.rh_shell.specs.declared.answers.Refused.TheVariants as refused
-use Rattle.rh_server.specs.Acknowledging.{admitted_by, admitted_on, channel_at, on_pdu}
-use Rattle.rh_server.specs.Opening.{Done, unexpected}
-use Rattle.rh_server.specs.States.{Server, is_open}
+use Rattle.law_moves.proofs.Vocabulary.{Cookie, admit_verdict, LineFault, Window, Over, Which}
+use Rattle.law_role_server.proofs.Vocabulary.{admitted_by, admitted_on, channel_at, on_pdu, Done, unexpected, Server, is_open}
 
 module _ (s : Server) (bytes : List ℕ) (expected got : Cookie) where
   abbrev IsForCookie : Done → Type 0

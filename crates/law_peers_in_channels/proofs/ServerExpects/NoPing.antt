@@ -1,14 +1,8 @@
 -- what proxies put first to the server is no Ping
-use Rattle.std.proofs.Common.{◌≡◌, List, [], ◌∷◌, sym, subst}
-use Rattle.rh_rts.specs.declared.command.Cookie.{Cookie}
-use Rattle.rh_sig.specs.declared.named.Named.{Named}
-use Rattle.rh_sig.specs.declared.named.Named.TheVariants.{ConnA2, ConnB2, InR1A2, OutR1A4, Ping}
-use Rattle.rh_shell.specs.Rules.{Message, Text, Pdu, Packet}
-use Rattle.rh_inproxy.specs.declared.state.InProxyConfig.{InProxyConfig}
-use Rattle.rh_outproxy.specs.declared.state.OutProxyConfig.{OutProxyConfig}
-use Rattle.law_moves.specs.Moves.{OnLeg}
-use Rattle.law_role_inproxy.specs.Putting.Puts.{IsFirst, IsStream}
-use Rattle.law_role_outproxy.specs.Putting.{IsToServer, OpensServer}
+use Rattle.law_order.proofs.Vocabulary.{◌≡◌, List, [], ◌∷◌, sym, subst}
+use Rattle.law_moves.proofs.Vocabulary.{Cookie, Named, ConnA2, ConnB2, InR1A2, OutR1A4, Ping, Message, Text, Pdu, Packet, OnLeg}
+use Rattle.law_role_inproxy.proofs.Vocabulary.{InProxyConfig, IsFirst, IsStream}
+use Rattle.law_role_outproxy.proofs.Vocabulary.{OutProxyConfig, IsToServer, OpensServer}
 use Rattle.law_peers_moments.specs.Expecting.{HasNoPingFirst}
 
 module _ (config : OutProxyConfig) (asked : List Message) where

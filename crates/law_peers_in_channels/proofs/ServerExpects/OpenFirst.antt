@@ -1,36 +1,23 @@
 -- a client puts RPC PDUs only once both CONN/A2 and CONN/B2 came to the server
-use Rattle.std.proofs.Common.{◌≡◌, ◌⊎◌, ℕ, Bool, true, false, if◌then◌else◌, List, [], ◌∷◌, ◌++◌, inl, inr, refl, sym, ap, ◌∙◌, subst, arith}
-use Rattle.std.specs.List.{AllByRecursion}
-use mathlib.Core.List.{IsPrefix}
-use Rattle.rh_sig.specs.declared.named.Named.{Named}
-use Rattle.rh_sig.specs.declared.named.Named.TheVariants.{ConnC2}
-use Rattle.rh_line.specs.declared.leg.Leg.{Leg}
-use Rattle.rh_line.specs.declared.leg.LegKind.TheVariants.{ClientIn, ClientOut, OutServer}
-use Rattle.rh_shell.specs.Hearing.{is_ping}
-use Rattle.law_moves.specs.Moves.{OnLeg}
-use Rattle.rh_shell.specs.Rules.{Message, Text, Pdu, Packet}
-use Rattle.rh_shell.specs.Shells.{is_of, same_leg}
-use Rattle.law_moves.specs.Wires.{of_leg}
-use Rattle.law_node_history.proofs.Wired.{cases_leg}
-use Rattle.rh_client.specs.State.{ci}
-use Rattle.law_moves.specs.ReadBack.Reading.{all_read_of}
-use Rattle.law_moves.specs.Passages.Passing.{count_of, of_kind}
+use Rattle.law_order.proofs.Vocabulary.{◌≡◌, ◌⊎◌, ℕ, Bool, true, false, if◌then◌else◌, List, [], ◌∷◌, ◌++◌, inl, inr, refl, sym, ap, ◌∙◌, subst, arith, AllByRecursion, IsPrefix}
+use Rattle.law_moves.proofs.Vocabulary.{Named, Leg, ClientIn, ClientOut, OutServer, is_ping, Message, Text, Pdu, Packet, is_of, same_leg, OnLeg, of_leg, all_read_of, count_of, of_kind}
+use Rattle.law_moves.proofs.Lemmas.{by_proxies}
+use Rattle.law_moves.specs.PacketKinds as at_proxy
+use Rattle.law_role_inproxy.proofs.Vocabulary.{HasPdu}
+use Rattle.law_role_client.proofs.Vocabulary.{ci}
 use Rattle.law_role_client.specs.Counted.Counting as at_client
 use Rattle.law_role_client.specs.Counted.Opening as client_opening
-use Rattle.law_moves.specs.PacketKinds as at_proxy
-use Rattle.law_role_outproxy.specs.Counted.{ForwardsWhatCame}
 use Rattle.law_role_server.specs.Counted.Opening as server_opening
-use Rattle.law_role_server_in.specs.Refusing.{IsOpening}
-use Rattle.law_role_inproxy.specs.Putting.Puts.{HasPdu}
-use Rattle.law_moves.proofs.Chains.Along.{by_proxies}
+use Rattle.law_node_history.proofs.Lemmas.{cases_leg}
+use Rattle.law_role_outproxy.proofs.Vocabulary.{ForwardsWhatCame}
 use Rattle.law_peers_moments.proofs.GoingRound.Fronts.{are_fronts}
 use Rattle.law_peers_moments.specs.Moments.{AreJoined, Passages}
-use Rattle.law_peers_in_channels.proofs.ServerExpects.Confirms.{same_counts}
+use Rattle.law_role_server_in.specs.Refusing.{IsOpening}
+use Rattle.law_peers_expects.proofs.InProxyExpects.Counts.{conn_c2}
+use Rattle.law_peers_expects.proofs.OutProxyExpects.NotEarly.{IsGreeting as Greets}
+use Rattle.law_peers_expects.proofs.InProxyExpects.Fronts.{same_counts}
 
 -- ---- RPC PDUs among messages
-
-abbrev Greets : Message → Type 0
-Greets m = at_client.is_greeting m ≡ true
 
 of_its_kind : (leg : Leg) (n : ℕ) → same_leg leg (ci n) ≡ true → is_of ClientIn leg ≡ true
 of_its_kind leg n e = by (cases_leg leg (ci n))
@@ -99,10 +86,6 @@ no_packet test [] h = refl
 no_packet test (Text bytes ∷ ms) h = no_packet test ms h.1
 no_packet test (Pdu pdu ∷ ms) h = absurd h.0
 no_packet test (Packet m ∷ ms) h = absurd h.0
-
-conn_c2 : (m : Named) → at_client.is_conn_c2 m ≡ at_proxy.is_conn_c2 m
-conn_c2 (ConnC2 version window timeout) = refl
-conn_c2 m = refl
 
 -- the ends open once, and out proxies tell the client of it
 pub record OpensByServer (all : Passages) : Type 0 where

@@ -1,20 +1,10 @@
 -- which channel opens with what came from a client, and what an out proxy puts to the server for it
-use Rattle.std.proofs.Common.{◌≡◌, ◌⊎◌, ℕ, zero, suc, List, [], ◌∷◌, ◌++◌, inl, inr, refl, sym, ap, ◌∙◌, subst}
-use Rattle.std.specs.List.{AllByRecursion}
-use mathlib.Core.List.{IsPrefix}
-use Rattle.rh_rts.specs.declared.command.Cookie.{Cookie}
-use Rattle.rh_http.specs.declared.config.ClientConfig.{ClientConfig}
-use Rattle.rh_sig.specs.declared.named.Named.{Named}
-use Rattle.rh_sig.specs.declared.named.Named.TheVariants.{Ack, ConnA2, OutR1A4, OutR2C1}
-use Rattle.rh_line.specs.declared.leg.Leg.{Leg}
-use Rattle.rh_shell.specs.Rules.{Message, Text, Pdu, Packet}
-use Rattle.rh_client.specs.State.{co}
-use Rattle.rh_outproxy.specs.declared.state.OutProxyConfig.{OutProxyConfig}
-use Rattle.law_moves.specs.ReadBack.Reading.{all_read_of, read_of}
-use Rattle.law_moves.specs.Passages.Passing.{HasOne}
-use Rattle.law_role_outproxy.specs.Counted.{NamesNew, NamesSuccessor}
+use Rattle.law_order.proofs.Vocabulary.{◌≡◌, ◌⊎◌, ℕ, zero, suc, List, [], ◌∷◌, ◌++◌, inl, inr, refl, sym, ap, ◌∙◌, subst, AllByRecursion, IsPrefix}
+use Rattle.rh_sig.specs.declared.named.Named.TheVariants.{Ack}
+use Rattle.law_moves.proofs.Vocabulary.{Cookie, Named, ConnA2, OutR1A4, OutR2C1, ClientConfig, Leg, Message, Text, Pdu, Packet, all_read_of, read_of, HasOne}
+use Rattle.law_role_client.proofs.Vocabulary.{co}
+use Rattle.law_role_outproxy.proofs.Vocabulary.{OutProxyConfig, NamesNew, NamesSuccessor, AcksPacket, IsAck, IsToServer, OpensServer}
 use Rattle.law_role_client_rows.specs.Putting.{Begins, IsBegun, IsChannel, IsPacket, OutRest, out_way}
-use Rattle.law_role_outproxy.specs.Putting.{AcksPacket, IsAck, IsToServer, OpensServer}
 use Rattle.law_peers_in_channels.proofs.ServerExpects.Refused.{same_packet}
 
 -- ---- an OUT channel of the client

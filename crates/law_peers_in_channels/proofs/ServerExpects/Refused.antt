@@ -1,9 +1,6 @@
 -- what can't be so where a packet is refused
-use Rattle.std.proofs.Common.{◌≡◌, ◌≤◌, List, [], ◌∷◌, ap, ◌∙◌, arith}
-use Rattle.rh_rts.specs.declared.command.Cookie.{Cookie}
-use Rattle.rh_sig.specs.declared.named.Named.{Named}
-use Rattle.rh_shell.specs.Rules.{Message, Packet}
-use Rattle.law_moves.specs.Passages.Counted.{packets}
+use Rattle.law_order.proofs.Vocabulary.{◌≡◌, ◌≤◌, List, [], ◌∷◌, ap, ◌∙◌, arith}
+use Rattle.law_moves.proofs.Vocabulary.{Cookie, Named, Message, Packet, packets}
 use Rattle.law_role_server_rows.specs.Refusing.Refusing.{IsOther}
 
 -- nothing came before, or a packet did

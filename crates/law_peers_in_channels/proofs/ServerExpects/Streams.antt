@@ -1,23 +1,12 @@
 -- what comes next of what an in proxy put on its is leg
-use Rattle.std.proofs.Common.{◌≡◌, ◌⊎◌, ℕ, suc, ◌+◌, ◌≤◌, Bool, true, false, if◌then◌else◌, List, [], ◌∷◌, ◌++◌, inl, inr, refl, sym, ap, ◌∙◌, subst, arith}
-use Rattle.std.proofs.lemmas.List.{append-nil}
-use Rattle.std.specs.List.{AllByRecursion}
-use mathlib.Core.List.{IsPrefix}
-use Rattle.rh_rts.specs.declared.command.Cookie.{Cookie}
-use Rattle.rh_sig.specs.declared.named.Named.{Named}
-use Rattle.rh_sig.specs.declared.named.Named.TheVariants.{ConnB1, ConnB2, InR1A2, InR1A6, InR2A2, Ping}
-use Rattle.rh_shell.specs.Hearing.{is_ping}
-use Rattle.rh_shell.specs.Rules.{Message, Text, Pdu, Packet}
-use Rattle.law_moves.specs.Moves.{OnLeg}
-use Rattle.law_moves.specs.Wires.{of_leg}
-use Rattle.rh_inproxy.specs.declared.state.InProxyConfig.{InProxyConfig}
-use Rattle.law_moves.specs.ReadBack.Reading.{all_read_of, read_of}
-use Rattle.law_moves.specs.Passages.Passing.{count_of, HasOne}
-use Rattle.law_moves.proofs.Passages.Messages.{one_so}
-use Rattle.law_role_server.specs.Counted.Counting.{is_conn_b2, is_in_r1_a2, is_in_r1_a6}
+use Rattle.law_order.proofs.Vocabulary.{◌≡◌, ◌⊎◌, ℕ, suc, ◌+◌, ◌≤◌, Bool, true, false, if◌then◌else◌, List, [], ◌∷◌, ◌++◌, inl, inr, refl, sym, ap, ◌∙◌, subst, arith, append-nil, AllByRecursion, IsPrefix}
+use Rattle.law_moves.proofs.Vocabulary.{Cookie, Named, ConnB1, ConnB2, InR1A2, InR1A6, InR2A2, Ping, is_ping, Message, Text, Pdu, Packet, OnLeg, of_leg, all_read_of, read_of, count_of, HasOne}
+use Rattle.law_moves.proofs.Lemmas.{one_so}
+use Rattle.law_role_inproxy.proofs.Vocabulary.{InProxyConfig, ci, HasPdu, IsFirst, IsFront, IsPacket, IsPing, IsPlainPacket, IsRest, IsStream}
 use Rattle.law_role_inproxy.specs.Putting.Puts as puts
-use Rattle.law_role_inproxy.specs.Putting.Puts.{ci, HasPdu, IsFirst, IsFront, IsPacket, IsPing, IsPlainPacket, IsRest, IsStream}
+use Rattle.law_role_server.proofs.Vocabulary.{is_conn_b2, is_in_r1_a2, is_in_r1_a6}
 use Rattle.law_peers_moments.proofs.Read.{front_count}
+use Rattle.law_peers_expects.proofs.InProxyExpects.Channels.{no_next as nothing_next}
 use Rattle.law_peers_in_channels.proofs.ServerExpects.FirstIn.{IsConnB1, IsConnB2}
 
 -- ---- packets
@@ -44,10 +33,6 @@ pub record IsNext (came put : List Message) (message : Message) : Type 0 where
   pub stands : put ≡ before ++ message ∷ later
   pub read : all_read_of before ≡ came
   pub no_ping : message ≡ Packet Ping → ⊥
-
-nothing_next : (came : List Message) (m : Message) → IsPrefix (came ++ m ∷ []) [] → ⊥
-nothing_next [] m front = let e = front.1 in absurd cc
-nothing_next (x ∷ came) m front = let e = front.1 in absurd cc
 
 behind_unread : (x : Message) (came put : List Message) (m : Message) → read_of x ≡ []
     → IsNext came put m → IsNext came (x ∷ put) m

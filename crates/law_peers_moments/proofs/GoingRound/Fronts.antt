@@ -1,20 +1,12 @@
 -- nodes that are joined by legs, as a count of packets sees them
-use Rattle.std.proofs.Common.{◌≡◌, ℕ, ◌≤◌, ◌==◌, Bool, true, false, if◌then◌else◌, List, [], ◌∷◌, refl, sym, subst, arith}
-use Rattle.std.proofs.lemmas.Bool.Decides.{nat_tests}
-use Rattle.rh_text.specs.declared.ends.Side.{Side}
 use Rattle.rh_text.specs.declared.ends.Side.TheVariants as side
-use Rattle.rh_sig.specs.declared.named.Named.{Named}
-use Rattle.rh_line.specs.declared.leg.LegKind.TheVariants.{ClientOut, OutServer, ClientIn, InServer}
+use Rattle.law_order.proofs.Vocabulary.{◌≡◌, ℕ, ◌≤◌, ◌==◌, Bool, true, false, if◌then◌else◌, List, refl, sym, subst, arith, nat_tests}
 use Rattle.rh_record.specs.declared.answer.Who.TheVariants as who
-use Rattle.rh_shell.specs.Rules.{Message}
 use Rattle.rh_nodes.specs.Settling.{leg_at}
-use Rattle.law_moves.specs.Wires.{of_leg}
-use Rattle.law_moves.specs.Passages.Passing.{count_of}
-use Rattle.law_moves.specs.Chains.Sums.{count_on}
-use Rattle.law_moves.specs.Chains.Ways.{AreFronts, Logs}
-use Rattle.law_peers_moments.specs.Moments.{AreJoined, Passages, end_of}
+use Rattle.law_moves.proofs.Vocabulary.{Side, Named, ClientOut, OutServer, ClientIn, InServer, Message, of_leg, count_of, count_on, AreFronts, Logs}
 use Rattle.law_peers_moments.proofs.Joining.{co_back, co_front, in_front, is_back, is_front, os_back, os_front}
 use Rattle.law_peers_moments.proofs.Read.{front_count}
+use Rattle.law_peers_moments.specs.Moments.{AreJoined, Passages, end_of}
 
 abbrev pub logs_of : (ℕ → ℕ) → Passages → Logs
 logs_of reader all = record {

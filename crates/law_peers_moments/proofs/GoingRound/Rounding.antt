@@ -1,25 +1,19 @@
 -- what each role counts, along the ways between them
-use Rattle.std.proofs.Common.{◌≡◌, ℕ, suc, ◌+◌, ◌≤◌, Bool, true, false, if◌then◌else◌, List, [], ◌∷◌, refl, arith}
-use Rattle.rh_rts.specs.declared.command.Cookie.{Cookie}
-use Rattle.rh_sig.specs.declared.named.Named.{Named}
+use Rattle.law_order.proofs.Vocabulary.{◌≡◌, ℕ, suc, ◌+◌, ◌≤◌, Bool, true, false, if◌then◌else◌, List, [], ◌∷◌, refl, arith}
 use Rattle.rh_sig.specs.declared.named.Named.TheVariants as named
-use Rattle.rh_line.specs.declared.leg.LegKind.TheVariants.{ClientIn, ClientOut, InServer, OutServer}
-use Rattle.rh_shell.specs.Rules.{Message, Text, Pdu, Packet}
-use Rattle.law_moves.specs.Passages.Passing.{count_of, of_kind}
+use Rattle.law_moves.proofs.Vocabulary.{Cookie, Named, ClientIn, ClientOut, InServer, OutServer, Message, Text, Pdu, Packet, count_of, of_kind, count_on, AreFronts, Logs}
+use Rattle.law_moves.proofs.Lemmas.{by_in_proxies, by_proxies, count_none as none_count, none as never}
+use Rattle.law_moves.specs.Chains.Ways.{total}
 use Rattle.law_moves.specs.PacketKinds as at_proxy
-use Rattle.law_moves.specs.Chains.Sums.{count_on}
-use Rattle.law_moves.specs.Chains.Ways.{AreFronts, Logs, total}
-use Rattle.law_moves.proofs.Chains.Along.{by_in_proxies, by_proxies}
-use Rattle.law_role_inproxy.specs.Counted.{PutsForWhatCame}
+use Rattle.law_role_inproxy.proofs.Vocabulary.{PutsForWhatCame}
+use Rattle.law_role_client.proofs.Vocabulary.{ReplacesIns, ReplacesOuts, AsksWhereWanted}
 use Rattle.law_role_client.specs.Counted.Counting as at_client
-use Rattle.law_role_client.specs.Counted.Replacing.{ReplacesIns, ReplacesOuts, AsksWhereWanted}
-use Rattle.law_role_server.specs.Counted.Answering.{AreAnswered}
+use Rattle.law_role_server.proofs.Vocabulary.{AreAnswered, AreInTurn}
 use Rattle.law_role_server.specs.Counted.Counting as at_server
-use Rattle.law_role_server.specs.Counted.Replacing.{AreInTurn}
-use Rattle.law_role_outproxy.specs.Counted.{ForwardsWhatCame, OpensWhatCame}
+use Rattle.law_role_outproxy.proofs.Vocabulary.{ForwardsWhatCame, OpensWhatCame}
+use Rattle.law_peers_moments.proofs.GoingRound.Fronts.{are_fronts, logs_of}
 use Rattle.law_peers_moments.specs.Moments.{AreJoined, Passages}
 use Rattle.law_peers_moments.specs.GoingRound.{GoRound, InGoesRound, OutGoesRound}
-use Rattle.law_peers_moments.proofs.GoingRound.Fronts.{are_fronts, logs_of}
 
 -- what each role keeps of its counts
 pub record AreCounted (all : Passages) : Type 0 where
@@ -61,15 +55,6 @@ sum_counts all one other is (Packet named ∷ ms) =
     let c = counted other named ms in
     omega (arith, rest, here, a, b, c)
 
-abbrev never : Named → Bool
-never named = false
-
-none_count : (ms : List Message) → count_of never ms ≡ 0
-none_count [] = refl
-none_count (Text bytes ∷ ms) = none_count ms
-none_count (Pdu pdu ∷ ms) = none_count ms
-none_count (Packet named ∷ ms) = none_count ms
-
 pub same_counts : (one other : Named → Bool)
     → ((named : Named) → once (one named) ≡ once (other named))
     → (ms : List Message) → count_of one ms ≡ count_of other ms
@@ -79,7 +64,7 @@ same_counts one other is ms =
     let none = none_count ms in
     omega (arith, sum, none)
 
-abbrev any : Cookie → Bool
+abbrev pub any : Cookie → Bool
 any cookie = true
 
 pub answers : (named : Named) → once (at_client.is_in_a4 named)

@@ -1,15 +1,9 @@
 -- packets that wait stay apart
-use Rattle.std.proofs.Common.{◌≡◌, ◌||◌, Bool, true, false, List, [], ◌∷◌, ◌++◌, refl, ap, ◌∙◌}
-use Rattle.std.specs.List.{AllByRecursion, list_any}
-use Rattle.std.specs.declared.option.Option.{Option}
-use Rattle.law_order.proofs.ByNumber.{by_test}
-use Rattle.rh_sig.specs.declared.named.Named.{Named}
-use Rattle.rh_line.proofs.Queues.{each_push}
-use Rattle.rh_shell.specs.declared.due.Due.{Due}
-use Rattle.rh_shell.specs.Waiting.{Key, key_of, are_one, better, merged, takes, to_forward}
-use Rattle.law_moves.proofs.Passages.Messages.{each_so}
-use Rattle.law_peers_room.specs.InRoom.Waiting.{AreApart}
+use Rattle.law_order.proofs.Vocabulary.{◌≡◌, ◌||◌, Bool, true, false, List, [], ◌∷◌, ◌++◌, refl, ap, ◌∙◌, AllByRecursion, list_any, Option}
+use Rattle.law_moves.proofs.Vocabulary.{by_test, Named, each_push, Due, Key, key_of, are_one, better, merged, takes, to_forward}
+use Rattle.law_moves.proofs.Lemmas.{each_so}
 use Rattle.law_peers_room.proofs.InRoom.Turns.{better_key}
+use Rattle.law_peers_room.specs.InRoom.Waiting.{AreApart}
 
 -- none behind it is one with it
 abbrev IsApart : Due → Due → Type 0

@@ -1,52 +1,20 @@
 -- what comes to an in proxy, and what waits behind it
-use Rattle.std.proofs.Common.{◌≡◌, ℕ, suc, ◌+◌, ◌==◌, ◌&&◌, ◌||◌, Bool, true, false, not, nat_lt, if◌then◌else◌, List, [], ◌∷◌, ◌++◌, Some, None, arith, rules, refl, sym, ap, ◌∙◌, subst}
-use Rattle.std.proofs.lemmas.Bool.{and_parts, eqb-true, false≢true, true≢false}
-use Rattle.std.proofs.lemmas.Bool.Decides.{nat_tests}
-use Rattle.std.specs.List.{list_any}
-use Rattle.std.specs.declared.option.Option.{Option}
-use Rattle.law_order.proofs.ByNumber.{by_test}
-use Rattle.rh_rts.specs.declared.command.Cookie.{Cookie}
-use Rattle.rh_sig.specs.declared.named.Named.{Named}
+use Rattle.law_order.proofs.Vocabulary.{◌≡◌, ℕ, suc, ◌+◌, ◌==◌, ◌&&◌, ◌||◌, Bool, true, false, not, nat_lt, if◌then◌else◌, List, [], ◌∷◌, ◌++◌, Some, None, arith, rules, refl, sym, ap, ◌∙◌, subst, and_parts, eqb-true, false≢true, true≢false, nat_tests, list_any, Option}
 use Rattle.rh_sig.specs.declared.named.Named.TheVariants as named
 use Rattle.rh_line.specs.Lines as line
-use Rattle.rh_line.specs.declared.leg.Leg.{Leg}
-use Rattle.rh_line.specs.declared.leg.LegKind.{LegKind}
-use Rattle.rh_line.specs.declared.leg.LegKind.TheVariants.{ClientOut, OutServer, ClientIn, InServer}
-use Rattle.rh_line.specs.declared.which.Which.{Which}
-use Rattle.rh_line.specs.declared.which.Which.TheVariants.{Current, Next}
-use Rattle.rh_shell.specs.declared.answers.Count.{Count}
 use Rattle.rh_shell.specs.declared.answers.Refused.TheVariants as refused
-use Rattle.rh_shell.specs.declared.due.Due.{Due}
-use Rattle.rh_shell.specs.declared.due.Origin.TheVariants.{Forwarded}
-use Rattle.rh_shell.specs.Rules.{Pdu, Packet}
-use Rattle.rh_shell.specs.Shells.{is_of}
 use Rattle.rh_shell.specs.Waiting as waits
-use Rattle.rh_inproxy.specs.declared.opening.TheConstants.{KEEPALIVE}
-use Rattle.rh_inproxy.specs.declared.state.Entry.TheVariants.{Connects, Replaces}
-use Rattle.rh_inproxy.specs.declared.state.Joining.TheVariants.{TellsServer, Told, Follows}
-use Rattle.rh_inproxy.specs.declared.state.Opener.{Opener}
-use Rattle.rh_inproxy.specs.declared.state.Opening.{Opening}
 use Rattle.rh_inproxy.specs.declared.state.Opening.TheVariants as openings
-use Rattle.rh_inproxy.specs.declared.state.Successor.{Successor}
 use Rattle.rh_inproxy.specs.declared.state.Successor.TheVariants as successors
-use Rattle.rh_inproxy.specs.Answers.{Done, taken, refuse, unexpected}
-use Rattle.rh_inproxy.specs.State.{InProxy, channel_of, has_a5, is_client_leg, is_server_leg, same_cookie}
-use Rattle.rh_inproxy.specs.Opening.{up, may_accept, accepts, accepts_later, is_absent, accepted, wants, connected, is_first, opener, opener_of, opened, kept_for, on_conn_b1, on_first_in_r1_a1}
-use Rattle.rh_inproxy.specs.Acknowledging.{forward_by, forwarded}
-use Rattle.rh_inproxy.specs.Ending.{on_end_a1}
-use Rattle.rh_inproxy.specs.InReplacement.{is_newcomer, joined, join, on_later_in_r1_a1, on_in_r1_a1, on_in_r1_a5, finished, finish_by, handed_over, hand_over}
-use Rattle.rh_inproxy.specs.Passing.{on_pdu}
-use Rattle.rh_inproxy.specs.Time.{on_keep_alive}
-use Rattle.rh_inproxy.specs.Machine.{pdu, pdu_by, packet, on_channel, on_channel_by, on_ci, on_is}
-use Rattle.rh_client.specs.State.{ci}
-use Rattle.law_moves.specs.Moves.{OnLeg}
-use Rattle.law_moves.specs.Passages.Passing.{count_of}
-use Rattle.law_moves.proofs.Passages.Logs.{RowKeeps}
-use Rattle.law_role_client.specs.Counted.Counting.{is_out_r1_a7}
-use Rattle.law_peers_room.specs.InRoom.Waiting.{AreApart, WaitFrom, passed, switches}
+use Rattle.law_moves.proofs.Vocabulary.{by_test, Cookie, Named, Leg, LegKind, ClientOut, OutServer, ClientIn, InServer, Which, Current, Next, Count, Due, Forwarded, Pdu, Packet, is_of, OnLeg, count_of}
+use Rattle.law_moves.proofs.Lemmas.{RowKeeps}
+use Rattle.law_role_inproxy.proofs.Vocabulary.{KEEPALIVE, Connects, Replaces, TellsServer, Told, Follows, Opener, Opening, Successor, Done, taken, refuse, unexpected, InProxy, channel_of, has_a5, is_client_leg, is_server_leg, same_cookie, up, may_accept, accepts, accepts_later, is_absent, accepted, wants, connected, is_first, opener, opener_of, opened, kept_for, on_conn_b1, on_first_in_r1_a1, forward_by, forwarded, on_end_a1, is_newcomer, joined, join, on_later_in_r1_a1}
+use Rattle.law_role_inproxy.proofs.Vocabulary.{on_in_r1_a1, on_in_r1_a5, finished, finish_by, handed_over, hand_over, on_pdu, on_keep_alive, pdu, pdu_by, packet, on_channel, on_channel_by, on_ci, on_is}
+use Rattle.law_role_client.proofs.Vocabulary.{ci, is_out_r1_a7}
 use Rattle.law_peers_room.proofs.InRoom.Turns.{wait_more, wait_pushed, wait_merged}
 use Rattle.law_peers_room.proofs.InRoom.Apart.{push_apart, merged_apart}
 use Rattle.law_peers_room.proofs.InRoom.Seen.{IsAt, IsUpTo, Holds, Same, at_channel, behind_of, came_one, counts, followed_holds, newest, newest_of, none_more, same_holds, same_row, seen, switches_more}
+use Rattle.law_peers_room.specs.InRoom.Waiting.{AreApart, WaitFrom, passed, switches}
 
 -- ---- what leaves these alone
 

@@ -1,38 +1,13 @@
 -- which OUT channels a client acknowledges, whatever happens to it
-use Rattle.std.proofs.Common.{◌≡◌, ℕ, ◌+◌, ◌==◌, ◌&&◌, ◌||◌, nat_le, Bool, true, false, not, List, [], length, Ok, Err, inl, inr, refl, ◌∙◌, subst, ◌∷◌, ◌++◌}
-use Rattle.std.proofs.lemmas.Bool.{and_parts, false≢true, true≢false}
-use Rattle.std.specs.declared.result.Result.{Result}
-use Rattle.law_order.proofs.ByNumber.{by_test, same_number}
-use Rattle.rh_pdu.specs.Checking.{checked, pdu_fault}
-use Rattle.rh_pdu.specs.declared.fault.PduFault.{PduFault}
-use Rattle.rh_rts.specs.declared.command.Cookie.{Cookie}
-use Rattle.rh_http.specs.declared.config.ClientConfig.{ClientConfig}
-use Rattle.rh_line.specs.Lines.{after_take}
-use Rattle.rh_line.specs.Queue.{total, queue_bytes}
-use Rattle.rh_line.specs.declared.leg.Leg.{Leg}
-use Rattle.rh_line.specs.declared.leg.LegKind.{LegKind}
-use Rattle.rh_line.specs.declared.leg.LegKind.TheVariants.{ClientOut, OutServer, ClientIn, InServer}
-use Rattle.rh_shell.specs.declared.end_role.GiveRefused.TheVariants.{Closing, Full}
-use Rattle.rh_shell.specs.Rules.{Pdu, Packet, Message}
-use Rattle.rh_client.specs.declared.state.ClientRole.{ClientRole}
-use Rattle.rh_client.specs.Channels.{in_up, is_up, out_up}
-use Rattle.rh_client.specs.Replacements.{is_out}
-use Rattle.rh_client.specs.State.{Done, co, first, is_writing, is_in_successor, is_current, is_out_successor}
-use Rattle.rh_client.specs.Opening.{with_next, up_by, wants_by}
-use Rattle.rh_client.specs.Ending.{Given, give, give_pdu, drawn_by}
-use Rattle.rh_client.specs.Time.{ping_by}
-use Rattle.rh_client.specs.Client.{acts, pdu_by, packet_by}
-use Rattle.rh_client.specs.Client.{rules as client_rules}
-use Rattle.law_moves.specs.Moves.{OnLeg, EndMove}
-use Rattle.law_moves.specs.Passages.Passing.{of_kind}
-use Rattle.law_moves.specs.Passages.Rising.{HasComeUp}
-use Rattle.law_moves.proofs.Passages.Logs.{RowKeeps}
-use Rattle.law_role_client.specs.Order.{AreAllowedMoves, client_moved, client_started}
+use Rattle.law_order.proofs.Vocabulary.{◌≡◌, ℕ, ◌+◌, ◌==◌, ◌&&◌, ◌||◌, nat_le, Bool, true, false, not, List, [], length, Ok, Err, inl, inr, refl, ◌∙◌, subst, ◌∷◌, ◌++◌, and_parts, false≢true, true≢false, Result}
+use Rattle.law_moves.proofs.Vocabulary.{by_test, same_number, checked, pdu_fault, PduFault, Cookie, ClientConfig, after_take, total, queue_bytes, Leg, LegKind, ClientOut, OutServer, ClientIn, InServer, Closing, Full, Pdu, Packet, Message, OnLeg, EndMove, of_kind, HasComeUp}
+use Rattle.law_moves.proofs.Lemmas.{RowKeeps}
+use Rattle.law_role_client.proofs.Vocabulary.{ClientRole, in_up, is_up, out_up, is_out, Done, co, first, is_writing, is_in_successor, is_current, is_out_successor, with_next, up_by, wants_by, Given, give, give_pdu, drawn_by, ping_by, acts, pdu_by, packet_by, rules as client_rules, AreAllowedMoves, client_moved, client_started}
 use Rattle.law_role_client.proofs.Sending.Steps.{StepsKeep, end_moves_keep}
-use Rattle.law_peers_room.specs.InRoom.Acks.{AcksFrom}
 use Rattle.law_peers_room.proofs.InRoom.Known.{So, passed_so, recycle_so}
 use Rattle.law_peers_room.proofs.InRoom.ClientRows.{pdu_so, packet_so}
 use Rattle.law_peers_room.proofs.InRoom.ClientPuts.{Holds, puts}
+use Rattle.law_peers_room.specs.InRoom.Acks.{AcksFrom}
 
 module _ (Comes : Leg → Cookie → Type 0) where
   row_holds : (one : OnLeg) (came put : List OnLeg) (x : Done)

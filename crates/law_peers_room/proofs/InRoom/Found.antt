@@ -1,30 +1,14 @@
 -- acknowledgements that wait, and where they stand in what a client put
-use Rattle.std.proofs.Common.{◌≡◌, ℕ, suc, ◌+◌, ◌≤◌, ◌==◌, ◌&&◌, Bool, true, false, true≢false, if◌then◌else◌, List, [], ◌∷◌, ◌++◌, append_assoc, length, arith, sym, ap, ◌∙◌, subst}
-use Rattle.std.proofs.lemmas.Bool.{and_from, eq-eqb}
-use Rattle.std.proofs.lemmas.Slice.Eq.{bytes_eq-Decides}
-use Rattle.std.specs.List.{AllByRecursion}
-use Rattle.std.specs.Str.{bytes_eq}
-use mathlib.Core.List.{IsPrefix}
-use Rattle.rh_rts.specs.declared.command.Cookie.{Cookie}
-use Rattle.rh_sig.specs.declared.named.Named.{Named}
-use Rattle.rh_sig.specs.declared.named.Named.TheVariants.{AckTo, OutR1A7, OutR1A8}
-use Rattle.rh_line.specs.declared.leg.Leg.{Leg}
-use Rattle.law_order.proofs.ByNumber.{test_same}
-use Rattle.rh_shell.specs.declared.due.Due.{Due}
-use Rattle.law_moves.specs.Moves.{OnLeg}
-use Rattle.rh_shell.specs.Rules.{Message, Text, Pdu, Packet}
-use Rattle.rh_shell.specs.Shells.{one_if}
-use Rattle.rh_shell.specs.Hearing.{is_ping}
-use Rattle.rh_shell.specs.Waiting.{are_one, key_of}
-use Rattle.law_moves.specs.Wires.{of_leg}
-use Rattle.law_moves.specs.ReadBack.Reading.{all_read_of}
-use Rattle.law_role_server.specs.Counted.Counting.{is_out_r1_a8}
-use Rattle.rh_client.specs.State.{ci}
-use Rattle.law_peers_room.specs.InRoom.Waiting.{AreApart, CameBehind, IsInTurn, WaitFrom, switches}
-use Rattle.law_peers_room.specs.InRoom.Acks.{AcksFrom, IsNear}
-use Rattle.law_peers_room.proofs.InRoom.Keeping.{leg_append, on_here}
+use Rattle.law_order.proofs.Vocabulary.{◌≡◌, ℕ, suc, ◌+◌, ◌≤◌, ◌==◌, ◌&&◌, Bool, true, false, true≢false, if◌then◌else◌, List, [], ◌∷◌, ◌++◌, append_assoc, length, arith, sym, ap, ◌∙◌, subst, and_from, eq-eqb, bytes_eq-Decides, AllByRecursion, bytes_eq, IsPrefix}
+use Rattle.law_moves.proofs.Vocabulary.{test_same, Cookie, Named, AckTo, OutR1A7, OutR1A8, Leg, Due, Message, Text, Pdu, Packet, one_if, is_ping, are_one, key_of, OnLeg, of_leg, all_read_of}
+use Rattle.law_moves.proofs.Lemmas.{of_append as leg_append}
+use Rattle.law_role_client.proofs.Vocabulary.{ci}
+use Rattle.law_role_server.proofs.Vocabulary.{is_out_r1_a8}
+use Rattle.law_peers_room.proofs.InRoom.Keeping.{on_here}
 use Rattle.law_peers_room.proofs.InRoom.Known.{often_in}
 use Rattle.law_peers_room.proofs.InRoom.Names.{AreDistinct}
+use Rattle.law_peers_room.specs.InRoom.Waiting.{AreApart, CameBehind, IsInTurn, WaitFrom, switches}
+use Rattle.law_peers_room.specs.InRoom.Acks.{AcksFrom, IsNear}
 
 -- ---- those that wait
 

@@ -1,29 +1,13 @@
 -- an in proxy refuses a packet for too little room only where as many wait
-use Rattle.std.proofs.Common.{◌≡◌, ℕ, ◌==◌, ◌&&◌, nat_lt, Bool, true, false, not, true≢false, if◌then◌else◌, Some, None, Err, rules, sym, ◌∙◌, subst}
-use Rattle.std.specs.List.{list_any}
-use Rattle.std.specs.declared.option.Option.{Option}
-use Rattle.law_order.proofs.ByNumber.{by_test}
-use Rattle.rh_rts.specs.declared.command.Cookie.{Cookie}
-use Rattle.rh_sig.specs.declared.named.Named.{Named}
+use Rattle.law_order.proofs.Vocabulary.{◌≡◌, ℕ, ◌==◌, ◌&&◌, nat_lt, Bool, true, false, not, true≢false, if◌then◌else◌, Some, None, Err, rules, sym, ◌∙◌, subst, list_any, Option}
 use Rattle.rh_sig.specs.declared.named.Named.TheVariants as named
-use Rattle.rh_line.specs.declared.leg.Leg.{Leg}
-use Rattle.rh_line.specs.declared.which.Which.{Which}
-use Rattle.rh_shell.specs.declared.answers.Count.{Count}
 use Rattle.rh_shell.specs.declared.answers.Refused.TheVariants as refused
-use Rattle.rh_shell.specs.declared.due.Origin.TheVariants.{Forwarded}
-use Rattle.rh_shell.specs.Rules.{Row}
 use Rattle.rh_shell.specs.Waiting as waits
-use Rattle.rh_inproxy.specs.Answers.{Done, unexpected}
-use Rattle.rh_inproxy.specs.State.{InProxy, channel_of, has_a5, is_client_leg, is_server_leg}
-use Rattle.rh_inproxy.specs.Opening.{on_conn_b1}
-use Rattle.rh_inproxy.specs.Acknowledging.{forward_by, forwarded}
-use Rattle.rh_inproxy.specs.Ending.{on_end_a1}
-use Rattle.rh_inproxy.specs.InReplacement.{on_in_r1_a1, on_in_r1_a5}
-use Rattle.rh_inproxy.specs.Time.{on_keep_alive}
-use Rattle.rh_inproxy.specs.Machine.{packet, on_channel, on_channel_by, on_ci, on_is}
+use Rattle.law_moves.proofs.Vocabulary.{by_test, Cookie, Named, Leg, Which, Count, Forwarded, Row}
+use Rattle.law_role_inproxy.proofs.Vocabulary.{Done, unexpected, InProxy, channel_of, has_a5, is_client_leg, is_server_leg, on_conn_b1, forward_by, forwarded, on_end_a1, on_in_r1_a1, on_in_r1_a5, on_keep_alive, packet, on_channel, on_channel_by, on_ci, on_is}
 
 -- a row does not refuse for too little room
-abbrev IsNotFull : Row → Type 0
+abbrev pub IsNotFull : Row → Type 0
 IsNotFull (Err (refused.Full leg)) = ⊥
 IsNotFull row = Unit {0}
 

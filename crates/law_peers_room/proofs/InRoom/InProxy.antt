@@ -1,52 +1,19 @@
 -- what waits in an in proxy came in turn
-use Rattle.std.proofs.Common.{◌≡◌, ℕ, ◌+◌, ◌==◌, true, if◌then◌else◌, List, [], ◌∷◌, ◌++◌, length, Some, None, arith, rules, refl, sym, ap, ◌∙◌, subst}
-use Rattle.std.specs.Prelude.{IfSome}
-use Rattle.std.specs.declared.option.Option.{Option}
-use Rattle.rh_window.specs.Sending.{after_sent, may_send}
 use Rattle.rh_window.specs.declared.recv_window.Ack as told
-use Rattle.law_order.proofs.ByNumber.{by_test}
-use Rattle.rh_rts.specs.declared.command.Cookie.{Cookie}
-use Rattle.rh_sig.specs.declared.named.Named.{Named}
+use Rattle.law_order.proofs.Vocabulary.{◌≡◌, ℕ, ◌+◌, ◌==◌, true, if◌then◌else◌, List, [], ◌∷◌, ◌++◌, length, Some, None, arith, rules, refl, sym, ap, ◌∙◌, subst, IfSome, Option}
 use Rattle.rh_sig.specs.declared.named.Named.TheVariants as named
 use Rattle.rh_line.specs.Lines as line
-use Rattle.rh_line.specs.declared.leg.Leg.{Leg}
-use Rattle.rh_line.specs.declared.which.Which.{Which}
-use Rattle.rh_line.specs.declared.which.Which.TheVariants.{Current, Next}
-use Rattle.rh_shell.specs.declared.due.Due.{Due}
-use Rattle.rh_shell.specs.Rules.{Pdu, Packet}
-use Rattle.rh_shell.specs.Shells.{one_if}
 use Rattle.rh_shell.specs.Waiting as waits
-use Rattle.rh_inproxy.specs.declared.state.InProxyConfig.{InProxyConfig}
-use Rattle.rh_inproxy.specs.declared.state.Joining.TheVariants.{TellsServer, Told, Follows}
-use Rattle.rh_inproxy.specs.declared.state.Opening.{Opening}
 use Rattle.rh_inproxy.specs.declared.state.Opening.TheVariants as openings
-use Rattle.rh_inproxy.specs.declared.state.Entry.{Entry}
-use Rattle.rh_inproxy.specs.declared.state.Entry.TheVariants.{Connects, Replaces}
-use Rattle.rh_inproxy.specs.declared.state.Opener.{Opener}
-use Rattle.rh_inproxy.specs.declared.state.Successor.{Successor}
 use Rattle.rh_inproxy.specs.declared.state.Successor.TheVariants as successors
-use Rattle.rh_inproxy.specs.declared.state.Work.{Work}
-use Rattle.rh_inproxy.specs.Answers.{Pick, or_else}
-use Rattle.rh_inproxy.specs.State.{InProxy, first, is_client_leg, is_server_leg}
-use Rattle.rh_inproxy.specs.Opening.{head, drawn, announcement, first_by, put_first, echo_by, put_echo}
-use Rattle.rh_inproxy.specs.Acknowledging.{ack_due, ack_by, current_ack, next_ack, put_acks}
-use Rattle.rh_inproxy.specs.Ending.{is_newest, mark, put_end, settled, settled_pick}
-use Rattle.rh_inproxy.specs.InReplacement.{told_by, one_less, put_in_r2_a2, put_in_r1_a6}
-use Rattle.rh_inproxy.specs.Passing.{passed as pdu_passed, next_pdu, put_pdu}
-use Rattle.rh_inproxy.specs.Putting.{put as put_of, next, waiting_by, put_waiting, put_control, put_early, put_stream, put_behind, put_mark}
-use Rattle.rh_inproxy.specs.Time.{ping, put_ping}
-use Rattle.rh_inproxy.specs.Machine.{rules as proxy_rules}
-use Rattle.law_moves.specs.Moves.{OnLeg, Move, started, all_moved}
-use Rattle.law_moves.specs.Wires.{of_leg}
-use Rattle.law_moves.specs.Passages.Passing.{count_of}
-use Rattle.law_moves.proofs.Passages.Logs.{PutKeeps, StepsKeep, moves_keep}
-use Rattle.law_moves.proofs.Passages.Messages.{count_append}
-use Rattle.law_moves.proofs.PacketKinds.Counts.{here_more, leg_is, one_counts}
-use Rattle.law_role_inproxy.specs.Counted.{is_leg}
-use Rattle.law_role_server.specs.Counted.Counting.{is_out_r1_a8}
-use Rattle.law_peers_room.specs.InRoom.Waiting.{AreApart, WaitFrom, WaitsInTurn, passed}
+use Rattle.law_moves.proofs.Vocabulary.{after_sent, may_send, by_test, Cookie, Named, Leg, Which, Current, Next, Due, Pdu, Packet, one_if, OnLeg, Move, started, all_moved, of_leg, count_of}
+use Rattle.law_moves.proofs.Lemmas.{PutKeeps, StepsKeep, moves_keep, count_append, here_more, leg_is, one_counts}
+use Rattle.law_role_inproxy.proofs.Vocabulary.{InProxyConfig, TellsServer, Told, Follows, Opening, Entry, Connects, Replaces, Opener, Successor, Work, Pick, or_else, InProxy, first, is_client_leg, is_server_leg, head, drawn, announcement, first_by, put_first, echo_by, put_echo, ack_due, ack_by, current_ack, next_ack, put_acks, is_newest, mark, put_end, settled, settled_pick, told_by, one_less, put_in_r2_a2, put_in_r1_a6, passed as pdu_passed, next_pdu, put_pdu, put as put_of}
+use Rattle.law_role_inproxy.proofs.Vocabulary.{next, waiting_by, put_waiting, put_control, put_early, put_stream, put_behind, put_mark, ping, put_ping, rules as proxy_rules, is_leg}
+use Rattle.law_role_server.proofs.Vocabulary.{is_out_r1_a8}
 use Rattle.law_peers_room.proofs.InRoom.Seen.{Holds, Same, Seen, Sound, behind_of, followed_holds, put_one, same_holds, seen}
 use Rattle.law_peers_room.proofs.InRoom.Came.{packet_holds, pdu_holds, up_holds}
+use Rattle.law_peers_room.specs.InRoom.Waiting.{AreApart, WaitFrom, WaitsInTurn, passed}
 
 -- ---- what leaves these alone
 

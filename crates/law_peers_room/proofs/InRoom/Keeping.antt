@@ -1,16 +1,7 @@
 -- a log in two parts: what stands on some legs, and what stands on the others
-use Rattle.std.proofs.Common.{◌≡◌, ℕ, ◌+◌, Bool, true, false, not, if◌then◌else◌, List, [], ◌∷◌, ◌++◌, arith, refl, sym, ap, ◌∙◌}
-use Rattle.std.proofs.lemmas.Bool.Decides.{nat_tests}
-use Rattle.rh_sig.specs.declared.named.Named.{Named}
-use Rattle.rh_line.specs.declared.leg.Leg.{Leg}
-use Rattle.rh_line.specs.declared.leg.LegKind.{LegKind}
-use Rattle.rh_shell.specs.Rules.{Message}
-use Rattle.rh_shell.specs.Shells.{is_of, same_leg}
-use Rattle.law_moves.specs.Moves.{OnLeg}
-use Rattle.law_moves.specs.Wires.{of_leg}
-use Rattle.law_moves.specs.Passages.Passing.{count_of, of_kind}
-use Rattle.law_moves.proofs.Passages.Messages.{count_append}
-use Rattle.law_moves.proofs.PacketKinds.Counts.{leg_is}
+use Rattle.law_order.proofs.Vocabulary.{◌≡◌, ℕ, ◌+◌, Bool, true, false, not, if◌then◌else◌, List, [], ◌∷◌, arith, refl, sym, ap, ◌∙◌, nat_tests}
+use Rattle.law_moves.proofs.Vocabulary.{Named, Leg, LegKind, Message, is_of, same_leg, OnLeg, of_leg, count_of, of_kind}
+use Rattle.law_moves.proofs.Lemmas.{count_append, leg_is}
 
 abbrev pub keep : (Leg → Bool) → List OnLeg → List OnLeg
 keep test [] = []
@@ -26,21 +17,6 @@ module _ (leg : Leg) (one : OnLeg) where
   pub on_other : (log : List OnLeg) → same_leg one.0 leg ≡ false
       → of_leg leg (one ∷ log) ≡ of_leg leg log
   on_other log e = ap (λ (b : Bool). if b then one.1 ∷ of_leg leg log else of_leg leg log) e
-
-pub leg_append : (leg : Leg) (a b : List OnLeg) → of_leg leg (a ++ b) ≡ of_leg leg a ++ of_leg leg b
-leg_append leg [] b = refl
-leg_append leg (one ∷ a) b = by (leg_append leg a b) (same_leg one.0 leg) refl
-  where
-    by : of_leg leg (a ++ b) ≡ of_leg leg a ++ of_leg leg b → (t : Bool) → same_leg one.0 leg ≡ t
-        → of_leg leg (one ∷ (a ++ b)) ≡ of_leg leg (one ∷ a) ++ of_leg leg b
-    by rest true e =
-        on_here leg one (a ++ b) e
-        ∙ ap (λ (ms : List Message). one.1 ∷ ms) rest
-        ∙ ap (λ (ms : List Message). ms ++ of_leg leg b) (sym (on_here leg one a e))
-    by rest false e =
-        on_other leg one (a ++ b) e
-        ∙ rest
-        ∙ ap (λ (ms : List Message). ms ++ of_leg leg b) (sym (on_other leg one a e))
 
 module _ (test : Leg → Bool) where
   kept : (one : OnLeg) (log : List OnLeg) → test one.0 ≡ true

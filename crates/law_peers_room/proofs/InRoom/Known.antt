@@ -1,33 +1,12 @@
 -- what a client knows of its OUT channels, and which of them it acknowledged
-use Rattle.std.proofs.Common.{◌≡◌, ◌⊎◌, ℕ, suc, ◌+◌, nat_lt, Bool, true, false, List, [], ◌∷◌, ◌++◌, Ok, Err, arith, inl, inr, refl, sym, subst}
-use Rattle.std.proofs.lemmas.Bool.{false≢true}
-use Rattle.std.specs.declared.result.Result.{Result}
-use Rattle.law_order.proofs.ByNumber.{by_test}
-use Rattle.rh_rts.specs.declared.command.Cookie.{Cookie}
-use Rattle.rh_sig.specs.declared.named.Named.TheVariants.{AckTo, OutR1A7}
-use Rattle.rh_line.specs.declared.leg.Leg.{Leg}
+use Rattle.law_order.proofs.Vocabulary.{◌≡◌, ◌⊎◌, ℕ, suc, ◌+◌, nat_lt, Bool, true, false, List, [], ◌∷◌, ◌++◌, Ok, Err, arith, inl, inr, refl, sym, subst, false≢true, Result}
 use Rattle.rh_shell.specs.declared.answers.Phase.TheVariants as phase
-use Rattle.rh_shell.specs.declared.end_role.RecycleRefused.{RecycleRefused}
-use Rattle.rh_shell.specs.declared.end_role.RecycleRefused.TheVariants.{Last}
-use Rattle.rh_shell.specs.Rules.{Message, Text, Pdu, Packet}
-use Rattle.rh_client.specs.declared.channels.TheConstants.{LAST_NUMBER}
-use Rattle.rh_client.specs.declared.replacement.Replacement.{Replacement}
-use Rattle.rh_client.specs.declared.replacement.Replacement.TheVariants.{NoneUnderWay, In, Out}
 use Rattle.rh_client.specs.declared.replacement.InStage.TheVariants as in_stage
-use Rattle.rh_client.specs.declared.replacement.OutStage.{OutStage}
 use Rattle.rh_client.specs.declared.replacement.OutStage.TheVariants as out_stage
-use Rattle.rh_client.specs.declared.replacement.Waits.{Waits}
 use Rattle.rh_client.specs.declared.replacement.Waits.TheVariants as waits
-use Rattle.rh_client.specs.declared.state.ClientRole.{ClientRole}
-use Rattle.rh_client.specs.Acknowledging.{is_switched_by}
-use Rattle.rh_client.specs.Channels.{no_cookie, unopened_in, unopened_out}
-use Rattle.rh_client.specs.Replacements.{is_out}
-use Rattle.rh_client.specs.State.{co, is_over, begin_in, begin_out, after_in, after_out}
-use Rattle.rh_client.specs.InReplacement.{wish_by, wants_successor, wished, recycle_by}
-use Rattle.rh_client.specs.OutReplacement.{succeeded, ended_or, pass_at, pass_by, passed}
-use Rattle.rh_client.specs.Putting.{settled_or_wished}
-use Rattle.law_moves.specs.Passages.Passing.{count_of}
-use Rattle.law_role_client.specs.Counted.Counting.{is_out_r1_a7}
+use Rattle.law_moves.proofs.Vocabulary.{by_test, Cookie, AckTo, OutR1A7, Leg, RecycleRefused, Last, Message, Text, Pdu, Packet, count_of}
+use Rattle.law_role_client.proofs.Vocabulary.{LAST_NUMBER, Replacement, NoneUnderWay, In, Out, OutStage, Waits, ClientRole, is_switched_by, no_cookie, unopened_in, unopened_out, is_out, co, is_over, begin_in, begin_out, after_in, after_out, wish_by, wants_successor, wished, recycle_by, succeeded, ended_or, pass_at, pass_by, passed, settled_or_wished, is_out_r1_a7}
+use Rattle.law_role_client_rows.proofs.Putting.Channels.{last}
 use Rattle.law_peers_room.specs.InRoom.Acks.{AcksFrom}
 
 -- ---- a message more
@@ -68,11 +47,6 @@ view s = record {
   successor = s.out_successor.number;
   successor_cookie = s.out_successor.cookie;
 }
-
--- the last channel that is there
-abbrev pub last : Bool → ℕ → ℕ
-last true n = suc n
-last false n = n
 
 module _ (Comes : Leg → Cookie → Type 0) where
   abbrev pub IsOf : ℕ → Cookie → Type 0

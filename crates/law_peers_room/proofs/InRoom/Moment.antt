@@ -1,47 +1,24 @@
 -- few packets wait in an in proxy at a moment
-use Rattle.std.proofs.Common.{◌≡◌, ℕ, suc, ◌+◌, ◌≤◌, ◌<◌, ◌==◌, nat_lt, Bool, true, false, if◌then◌else◌, List, [], ◌∷◌, ◌++◌, length, inl, inr, arith, refl, sym, ap, ◌∙◌, subst}
-use Rattle.std.proofs.lemmas.Bool.{eq-eqb}
-use Rattle.std.proofs.lemmas.Bool.Decides.{nat_tests}
-use Rattle.std.proofs.lemmas.List.Sums.{count_by-le-length}
-use mathlib.Core.List.{IsPrefix}
-use Rattle.rh_rts.specs.declared.command.Cookie.{Cookie}
-use Rattle.rh_sig.specs.declared.named.Named.{Named}
-use Rattle.rh_sig.specs.declared.named.Named.TheVariants.{AckTo}
-use Rattle.rh_line.specs.declared.leg.Leg.{Leg}
-use Rattle.rh_line.specs.declared.leg.LegKind.TheVariants.{ClientIn, InServer}
-use Rattle.law_order.proofs.ByNumber.{test_other, test_same}
-use Rattle.rh_shell.specs.declared.due.Due.{Due}
-use Rattle.rh_shell.specs.declared.due.Origin.TheVariants.{Forwarded}
-use Rattle.rh_shell.specs.declared.waiting.TheConstants.{FORWARDED_ROOM}
-use Rattle.law_moves.specs.Moves.{Move, OnLeg, all_moved, started}
-use Rattle.rh_shell.specs.Rules.{Message, Text, Pdu, Packet}
+use Rattle.law_order.proofs.Vocabulary.{◌≡◌, ℕ, suc, ◌+◌, ◌≤◌, ◌<◌, ◌==◌, nat_lt, Bool, true, false, if◌then◌else◌, List, [], ◌∷◌, ◌++◌, length, inl, inr, arith, refl, sym, ap, ◌∙◌, subst, eq-eqb, nat_tests, count_by-le-length, IsPrefix}
 use Rattle.rh_shell.specs.Waiting.{is_of}
-use Rattle.law_moves.specs.Wires.{of_leg}
-use Rattle.law_moves.specs.ReadBack.Reading.{all_read_of}
-use Rattle.law_moves.specs.Passages.Passing.{HasOne, count_of}
-use Rattle.law_moves.specs.Passages.Rising.{HasComeUp}
-use Rattle.law_moves.proofs.Passages.Messages.{count_rises, each_so}
-use Rattle.law_moves.specs.Chains.Sums.{count_on, sum_below}
-use Rattle.law_moves.proofs.Chains.Summing.{all_legs, some_legs, sum_rises}
-use Rattle.law_role_client.specs.Counted.Counting.{is_out_r1_a7}
-use Rattle.law_role_server.specs.Counted.Counting.{is_out_r1_a8}
-use Rattle.rh_inproxy.specs.declared.state.InProxyConfig.{InProxyConfig}
-use Rattle.rh_inproxy.specs.Machine.{rules}
-use Rattle.rh_inproxy.specs.State.{first}
-use Rattle.law_peers_moments.specs.Moments.{AreMade, IsJoined, ReadInTurn, Moves, Numbers, client_behind, in_behind, passages, server_behind}
+use Rattle.law_moves.proofs.Vocabulary.{test_other, test_same, Cookie, Named, AckTo, Leg, ClientIn, InServer, Due, Forwarded, FORWARDED_ROOM, Message, Text, Pdu, Packet, Move, OnLeg, all_moved, started, of_leg, all_read_of, HasOne, count_of, HasComeUp, count_on, sum_below}
+use Rattle.law_moves.proofs.Lemmas.{count_rises, each_so, all_legs, some_legs, sum_rises, of_append as leg_append}
+use Rattle.law_role_inproxy.proofs.Vocabulary.{InProxyConfig, rules, first}
+use Rattle.law_role_client.proofs.Vocabulary.{ci, is_out_r1_a7}
+use Rattle.law_role_server.proofs.Vocabulary.{is_out_r1_a8}
 use Rattle.law_peers_moments.proofs.Joining.{in_front, in_reads}
-use Rattle.law_peers_moments.specs.GoingRound.{GoRound}
 use Rattle.law_peers_moments.proofs.GoingRound.Fronts.{are_fronts}
-use Rattle.rh_client.specs.State.{ci}
-use Rattle.law_peers_room.specs.InRoom.Acks.{AcksNear, AcksOnEach, IsNear}
-use Rattle.law_peers_room.specs.InRoom.Room.{FewWait, HasRoom}
-use Rattle.law_peers_room.specs.InRoom.Waiting.{AreApart, CameBehind, WaitFrom, WaitsInTurn, passed, switches}
+use Rattle.law_peers_moments.specs.Moments.{AreMade, IsJoined, ReadInTurn, Moves, Numbers, client_behind, in_behind, passages, server_behind}
+use Rattle.law_peers_moments.specs.GoingRound.{GoRound}
 use Rattle.law_peers_room.proofs.InRoom.Found.{acked, found, near_it}
 use Rattle.law_peers_room.proofs.InRoom.Full.{never_full}
-use Rattle.law_peers_room.proofs.InRoom.Keeping.{leg_append, on_here, total}
+use Rattle.law_peers_room.proofs.InRoom.Keeping.{on_here, total}
 use Rattle.law_peers_room.proofs.InRoom.Names.{no_more}
 use Rattle.law_peers_room.proofs.InRoom.Places.{IsPlaced, few_placed, names, reader_most, reads_between, sums_end, sums_from}
 use Rattle.law_peers_room.proofs.InRoom.Share.{came_most, came_on, read, read_on, share, wait_low}
+use Rattle.law_peers_room.specs.InRoom.Acks.{AcksNear, AcksOnEach, IsNear}
+use Rattle.law_peers_room.specs.InRoom.Room.{FewWait, HasRoom}
+use Rattle.law_peers_room.specs.InRoom.Waiting.{AreApart, CameBehind, WaitFrom, WaitsInTurn, passed, switches}
 
 -- one among others
 one_among : (P : Named → Type 0) (a b : List Message) (m : Named) → P m

@@ -1,12 +1,8 @@
 -- no more cookies that are apart than names that they have
-use Rattle.std.proofs.Common.{◌≡◌, ◌⊎◌, ℕ, zero, suc, ◌+◌, ◌≤◌, ◌<◌, ◌==◌, Bool, true, false, List, [], ◌∷◌, ◌++◌, length, inl, inr, arith, refl, sym, ◌∙◌, subst}
-use Rattle.std.proofs.lemmas.Bool.Decides.{nat_tests}
-use Rattle.std.specs.List.{AllByRecursion}
-use Rattle.rh_rts.specs.declared.command.Cookie.{Cookie}
-use Rattle.rh_line.specs.declared.leg.Leg.{Leg}
-use Rattle.rh_client.specs.Channels.{no_cookie}
-use Rattle.rh_client.specs.State.{co}
-use Rattle.law_moves.proofs.Passages.Messages.{each_so}
+use Rattle.law_order.proofs.Vocabulary.{◌≡◌, ◌⊎◌, ℕ, zero, suc, ◌+◌, ◌≤◌, ◌<◌, ◌==◌, Bool, true, false, List, [], ◌∷◌, ◌++◌, length, inl, inr, arith, refl, sym, ◌∙◌, subst, nat_tests, AllByRecursion}
+use Rattle.law_moves.proofs.Vocabulary.{Cookie, Leg}
+use Rattle.law_moves.proofs.Lemmas.{each_so}
+use Rattle.law_role_client.proofs.Vocabulary.{no_cookie, co}
 
 abbrev pub AreDistinct : List Cookie → Type 0
 AreDistinct [] = Unit {0}

@@ -1,19 +1,8 @@
 -- what a client acknowledges on each of its IN channels, by what it puts on all of them in turn
-use Rattle.std.proofs.Common.{◌≡◌, ◌≢◌, ℕ, zero, suc, ◌+◌, ◌<◌, ◌==◌, nat_lt, Bool, true, false, if◌then◌else◌, List, [], ◌∷◌, arith, refl, sym, ◌∙◌, subst}
-use Rattle.std.proofs.lemmas.Bool.Decides.{nat_tests}
-use Rattle.rh_rts.specs.declared.command.Cookie.{Cookie}
-use Rattle.rh_sig.specs.declared.named.Named.TheVariants.{AckTo, EndA1, InR1A5, OutR1A7}
-use Rattle.rh_line.specs.declared.leg.Leg.{Leg}
-use Rattle.rh_line.specs.declared.leg.LegKind.TheVariants.{ClientIn}
-use Rattle.rh_shell.specs.Rules.{Message, Text, Pdu, Packet}
-use Rattle.rh_shell.specs.Shells.{is_of, same_leg}
-use Rattle.rh_client.specs.State.{ci}
-use Rattle.law_moves.specs.Moves.{OnLeg}
-use Rattle.law_moves.specs.Wires.{of_leg}
-use Rattle.law_moves.specs.Passages.Passing.{count_of, of_kind}
-use Rattle.law_moves.specs.Chains.Sums.{count_on, sum_below}
-use Rattle.law_moves.proofs.Chains.Summing.{sum_rises}
-use Rattle.law_role_client.specs.Counted.Counting.{is_out_r1_a7}
+use Rattle.law_order.proofs.Vocabulary.{◌≡◌, ◌≢◌, ℕ, zero, suc, ◌+◌, ◌<◌, ◌==◌, nat_lt, Bool, true, false, if◌then◌else◌, List, [], ◌∷◌, arith, refl, sym, ◌∙◌, subst, nat_tests}
+use Rattle.law_moves.proofs.Vocabulary.{Cookie, AckTo, EndA1, InR1A5, OutR1A7, Leg, ClientIn, Message, Text, Pdu, Packet, is_of, same_leg, OnLeg, of_leg, count_of, of_kind, count_on, sum_below}
+use Rattle.law_moves.proofs.Lemmas.{sum_rises}
+use Rattle.law_role_client.proofs.Vocabulary.{ci, is_out_r1_a7}
 use Rattle.law_role_client_rows.specs.InTurn.Turns.{Turn, StandFrom, behind}
 use Rattle.law_peers_room.specs.InRoom.Acks.{AcksFrom, AcksOnEach, IsNear}
 

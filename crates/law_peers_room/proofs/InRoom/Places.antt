@@ -1,16 +1,11 @@
 -- of which channels acknowledgements wait, by how many OUT_R1/A8 their in proxy put
-use Rattle.std.proofs.Common.{◌≡◌, ◌⊎◌, ℕ, zero, suc, ◌+◌, ◌≤◌, ◌<◌, ◌==◌, nat_lt, Bool, true, false, List, [], ◌∷◌, ◌++◌, inl, inr, arith, refl, sym, ap, ◌∙◌, subst}
-use Rattle.std.proofs.lemmas.Bool.Decides.{nat_tests}
-use Rattle.std.specs.List.{AllByRecursion}
-use Rattle.law_order.proofs.ByNumber.{same_number}
-use Rattle.rh_rts.specs.declared.command.Cookie.{Cookie}
-use Rattle.rh_line.specs.declared.leg.Leg.{Leg}
-use Rattle.law_moves.proofs.Passages.Messages.{each_so}
-use Rattle.law_moves.specs.Chains.Sums.{sum_below}
+use Rattle.law_order.proofs.Vocabulary.{◌≡◌, ◌⊎◌, ℕ, zero, suc, ◌+◌, ◌≤◌, ◌<◌, ◌==◌, nat_lt, Bool, true, false, List, [], ◌∷◌, ◌++◌, inl, inr, arith, refl, sym, ap, ◌∙◌, subst, nat_tests, AllByRecursion}
+use Rattle.law_moves.proofs.Vocabulary.{same_number, Cookie, Leg, sum_below}
+use Rattle.law_moves.proofs.Lemmas.{each_so}
 use Rattle.law_peers_moments.specs.Moments.{ReadInTurn}
-use Rattle.law_peers_room.specs.InRoom.Acks.{IsNear}
 use Rattle.law_peers_room.proofs.InRoom.Names.{Among, among_first, among_last, among_window, window}
 use Rattle.law_peers_room.proofs.InRoom.OnEach.{sum_none}
+use Rattle.law_peers_room.specs.InRoom.Acks.{IsNear}
 
 -- ---- numbers
 

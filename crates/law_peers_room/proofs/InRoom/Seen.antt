@@ -1,31 +1,13 @@
 -- what is known of an in proxy of what waits and of its ci legs, and what leaves that alone
-use Rattle.std.proofs.Common.{◌≡◌, ℕ, suc, ◌+◌, ◌≤◌, ◌<◌, ◌==◌, Bool, true, false, ◌&&◌, if◌then◌else◌, List, [], ◌∷◌, ◌++◌, Some, None, Ok, Err, arith, refl, sym, ap, ◌∙◌, subst}
-use Rattle.std.proofs.lemmas.Bool.Decides.{nat_tests}
-use Rattle.std.specs.declared.option.Option.{Option}
-use Rattle.law_order.proofs.ByNumber.{by_test}
-use Rattle.rh_line.specs.declared.leg.Leg.{Leg}
-use Rattle.rh_line.specs.declared.leg.LegKind.TheVariants.{ClientIn}
-use Rattle.rh_line.specs.declared.which.Which.{Which}
-use Rattle.rh_line.specs.declared.which.Which.TheVariants.{Current, Next}
-use Rattle.rh_shell.specs.declared.waiting.TheConstants.{FORWARDED_ROOM}
-use Rattle.rh_shell.specs.Rules.{Message}
-use Rattle.rh_shell.specs.Shells.{is_of, same_leg}
-use Rattle.rh_shell.specs.Waiting.{Waiting}
-use Rattle.rh_inproxy.specs.declared.state.Successor.{Successor}
+use Rattle.law_order.proofs.Vocabulary.{◌≡◌, ℕ, suc, ◌+◌, ◌≤◌, ◌<◌, ◌==◌, Bool, true, false, ◌&&◌, if◌then◌else◌, List, [], ◌∷◌, ◌++◌, Some, None, Ok, Err, arith, refl, sym, ap, ◌∙◌, subst, nat_tests, Option}
 use Rattle.rh_inproxy.specs.declared.state.Successor.TheVariants as successors
-use Rattle.rh_inproxy.specs.Answers.{Done}
-use Rattle.rh_inproxy.specs.State.{InProxy, channel_of, has_opened, next_of, follows, followed, is_client_leg}
-use Rattle.rh_client.specs.State.{ci}
-use Rattle.law_moves.specs.Moves.{OnLeg}
-use Rattle.law_moves.specs.Wires.{of_leg}
-use Rattle.law_moves.specs.Passages.Passing.{count_of, of_kind}
-use Rattle.law_moves.proofs.Passages.Messages.{count_append, leg_more, kind_more}
-use Rattle.law_moves.proofs.Passages.Logs.{RowKeeps}
-use Rattle.law_role_inproxy.specs.Counted.{is_leg}
-use Rattle.law_role_client.specs.Counted.Counting.{is_out_r1_a7}
-use Rattle.law_role_server.specs.Counted.Counting.{is_out_r1_a8}
-use Rattle.law_peers_room.specs.InRoom.Waiting.{AreApart, WaitFrom, passed, switches}
+use Rattle.law_moves.proofs.Vocabulary.{by_test, Leg, ClientIn, Which, Current, Next, FORWARDED_ROOM, Message, is_of, same_leg, Waiting, OnLeg, of_leg, count_of, of_kind}
+use Rattle.law_moves.proofs.Lemmas.{count_append, leg_more, kind_more, RowKeeps}
+use Rattle.law_role_inproxy.proofs.Vocabulary.{Successor, Done, InProxy, channel_of, has_opened, next_of, follows, followed, is_client_leg, is_leg}
+use Rattle.law_role_client.proofs.Vocabulary.{ci, is_out_r1_a7}
+use Rattle.law_role_server.proofs.Vocabulary.{is_out_r1_a8}
 use Rattle.law_peers_room.proofs.InRoom.Turns.{wait_more}
+use Rattle.law_peers_room.specs.InRoom.Waiting.{AreApart, WaitFrom, passed, switches}
 
 -- ---- what the facts are about
 

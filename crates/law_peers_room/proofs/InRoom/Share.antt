@@ -1,24 +1,12 @@
 -- an in proxy put OUT_R1/A8 for all OUT_R1/A7 on the channels that it reads, but one
-use Rattle.std.proofs.Common.{◌≡◌, ℕ, suc, ◌+◌, ◌≤◌, ◌==◌, Bool, true, false, not, if◌then◌else◌, List, [], ◌∷◌, arith, refl, ap, ◌∙◌}
-use Rattle.std.proofs.lemmas.Bool.Decides.{nat_tests}
-use Rattle.rh_sig.specs.declared.named.Named.{Named}
-use Rattle.rh_line.specs.declared.leg.Leg.{Leg}
-use Rattle.rh_line.specs.declared.leg.LegKind.TheVariants.{ClientIn, InServer}
-use Rattle.rh_shell.specs.declared.due.Due.{Due}
-use Rattle.rh_shell.specs.Rules.{Message}
-use Rattle.rh_shell.specs.Shells.{one_if, same_leg}
-use Rattle.rh_client.specs.State.{ci}
-use Rattle.law_moves.specs.Moves.{OnLeg}
-use Rattle.law_moves.specs.Wires.{of_leg}
-use Rattle.law_moves.specs.Passages.Passing.{count_of}
-use Rattle.law_moves.specs.Chains.Sums.{count_on}
-use Rattle.law_moves.proofs.Chains.Along.{by_in_proxies}
-use Rattle.law_moves.proofs.Chains.Summing.{all_legs, some_legs, sum_rises}
-use Rattle.law_role_inproxy.specs.Counted.{is_leg}
-use Rattle.law_role_client.specs.Counted.Counting.{is_out_r1_a7}
-use Rattle.law_role_server.specs.Counted.Counting.{is_out_r1_a8}
-use Rattle.law_peers_room.specs.InRoom.Waiting.{WaitFrom, passed, switches}
+use Rattle.law_order.proofs.Vocabulary.{◌≡◌, ℕ, suc, ◌+◌, ◌≤◌, ◌==◌, Bool, true, false, not, if◌then◌else◌, List, [], ◌∷◌, arith, refl, ap, ◌∙◌, nat_tests}
+use Rattle.law_moves.proofs.Vocabulary.{Named, Leg, ClientIn, InServer, Due, Message, one_if, same_leg, OnLeg, of_leg, count_of, count_on}
+use Rattle.law_moves.proofs.Lemmas.{by_in_proxies, all_legs, some_legs, sum_rises}
+use Rattle.law_role_inproxy.proofs.Vocabulary.{is_leg}
+use Rattle.law_role_client.proofs.Vocabulary.{ci, is_out_r1_a7}
+use Rattle.law_role_server.proofs.Vocabulary.{is_out_r1_a8}
 use Rattle.law_peers_room.proofs.InRoom.Keeping.{keep, keep_both, keep_leg, keep_on, total}
+use Rattle.law_peers_room.specs.InRoom.Waiting.{WaitFrom, passed, switches}
 
 -- no more were put than came
 pub wait_low : (often : ℕ) (came : List OnLeg) (dues : List Due) → WaitFrom often came dues

@@ -1,20 +1,8 @@
 -- a packet more waits in its turn
-use Rattle.std.proofs.Common.{◌≡◌, ℕ, ◌+◌, ◌==◌, Bool, true, nat_lt, List, [], ◌∷◌, ◌++◌, append_assoc, Some, None, arith, refl, sym, ap, ◌∙◌, subst}
-use Rattle.std.proofs.lemmas.Bool.{and_parts, eqb-true}
-use Rattle.std.proofs.lemmas.Slice.Eq.{bytes_eq-Decides}
-use Rattle.std.specs.Str.{bytes_eq}
-use Rattle.std.specs.declared.option.Option.{Option}
-use Rattle.law_order.proofs.ByNumber.{by_test}
-use Rattle.rh_rts.specs.declared.command.Cookie.{Cookie}
-use Rattle.rh_sig.specs.declared.named.Named.{Named}
-use Rattle.rh_sig.specs.declared.named.Named.TheVariants.{AckTo, OutR1A8}
-use Rattle.rh_shell.specs.declared.due.Due.{Due}
-use Rattle.rh_shell.specs.Rules.{Packet}
-use Rattle.rh_shell.specs.Shells.{one_if}
-use Rattle.rh_shell.specs.Waiting.{Key, key_of, are_one, better, edge_of, merged, takes, to_forward}
-use Rattle.rh_client.specs.State.{ci}
-use Rattle.law_moves.specs.Moves.{OnLeg}
-use Rattle.law_role_server.specs.Counted.Counting.{is_out_r1_a8}
+use Rattle.law_order.proofs.Vocabulary.{◌≡◌, ℕ, ◌+◌, ◌==◌, Bool, true, nat_lt, List, [], ◌∷◌, ◌++◌, append_assoc, Some, None, arith, refl, sym, ap, ◌∙◌, subst, and_parts, eqb-true, bytes_eq-Decides, bytes_eq, Option}
+use Rattle.law_moves.proofs.Vocabulary.{by_test, Cookie, Named, AckTo, OutR1A8, Due, Packet, one_if, Key, key_of, are_one, better, edge_of, merged, takes, to_forward, OnLeg}
+use Rattle.law_role_client.proofs.Vocabulary.{ci}
+use Rattle.law_role_server.proofs.Vocabulary.{is_out_r1_a8}
 use Rattle.law_peers_room.specs.InRoom.Waiting.{switches, CameBehind, IsInTurn, WaitFrom}
 
 -- ---- keys

@@ -1,9 +1,7 @@
 -- messages behind the first so many packets that pass a test
-use Rattle.std.proofs.Common.{◌≡◌, ℕ, zero, suc, ◌+◌, ◌≤◌, Bool, true, false, if◌then◌else◌, List, [], ◌∷◌, ◌++◌, inr, refl, sym, ap, ◌∙◌, subst, arith}
-use Rattle.rh_sig.specs.declared.named.Named.{Named}
-use Rattle.rh_shell.specs.Rules.{Message, Text, Pdu, Packet}
-use Rattle.law_moves.specs.Passages.Passing.{count_of, HasOne}
-use Rattle.law_moves.proofs.Passages.Messages.{last_one_so, one_more_so}
+use Rattle.law_order.proofs.Vocabulary.{◌≡◌, ℕ, zero, suc, ◌+◌, ◌≤◌, Bool, true, false, if◌then◌else◌, List, [], ◌∷◌, ◌++◌, inr, refl, sym, ap, ◌∙◌, subst, arith}
+use Rattle.law_moves.proofs.Vocabulary.{Named, Message, Text, Pdu, Packet, count_of, HasOne}
+use Rattle.law_moves.proofs.Lemmas.{last_one_so, one_more_so}
 use Rattle.law_peers_room.specs.OutRoom.Waits.{behind}
 
 module _ (test : Named → Bool) where
@@ -47,12 +45,6 @@ module _ (test : Named → Bool) where
             else behind test (suc k) (ms ++ more))
         by true passed over has = passed has
         by false passed over has = over has
-
-    -- behind fewer
-    has_here : (m : Message) (ms : List Message) → HasOne P ms → HasOne P (m ∷ ms)
-    has_here (Text bytes) ms has = has
-    has_here (Pdu pdu) ms has = has
-    has_here (Packet m) ms has = inr has
 
     one_fewer : (k : ℕ) (ms : List Message) → HasOne P (behind test (suc k) ms)
         → HasOne P (behind test k ms)

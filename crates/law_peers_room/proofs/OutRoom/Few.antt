@@ -1,19 +1,12 @@
 -- where few channels are acknowledged in each stretch with one IN_R1/A3 or IN_R2/A3 at most, few
 -- are behind the last but one of these
-use Rattle.std.proofs.Common.{◌≡◌, ℕ, suc, ◌+◌, ◌≤◌, Bool, true, false, if◌then◌else◌, List, [], ◌∷◌, ◌++◌, length, refl, sym, ap, ◌∙◌, subst, arith}
-use Rattle.std.proofs.lemmas.List.{append-nil, append_assoc}
-use mathlib.Core.List.{IsPrefix}
-use Rattle.rh_rts.specs.declared.command.Cookie.{Cookie}
-use Rattle.rh_sig.specs.declared.named.Named.{Named}
+use Rattle.law_order.proofs.Vocabulary.{◌≡◌, ℕ, suc, ◌+◌, ◌≤◌, Bool, true, false, if◌then◌else◌, List, [], ◌∷◌, ◌++◌, length, refl, sym, ap, ◌∙◌, subst, arith, append-nil, append_assoc, IsPrefix}
 use Rattle.rh_sig.specs.declared.named.Named.TheVariants as named
-use Rattle.rh_shell.specs.Hearing.{is_ping}
-use Rattle.rh_shell.specs.Rules.{Message, Text, Pdu, Packet}
-use Rattle.law_moves.specs.ReadBack.Reading.{all_read_of}
-use Rattle.law_moves.specs.Passages.Passing.{count_of, HasOne}
+use Rattle.law_moves.proofs.Vocabulary.{Cookie, Named, is_ping, Message, Text, Pdu, Packet, all_read_of, count_of, HasOne}
 use Rattle.law_peers_moments.proofs.Read.{front_one}
+use Rattle.law_peers_room.proofs.OutRoom.Behind.{split_behind}
 use Rattle.law_peers_room.specs.OutRoom.Room.{AcksFew, AcksFewBetween, AreAcked}
 use Rattle.law_peers_room.specs.OutRoom.Waits.{AcksFor, AreDifferent, behind, is_in_a3}
-use Rattle.law_peers_room.proofs.OutRoom.Behind.{split_behind}
 
 -- ---- what is read of messages in two parts
 

@@ -1,35 +1,13 @@
 -- where few wait at an out proxy, nothing is refused for want of room
-use Rattle.std.proofs.Common.{◌≡◌, ℕ, suc, ◌+◌, ◌≤◌, ◌==◌, ◌&&◌, nat_lt, Bool, true, false, if◌then◌else◌, List, [], ◌∷◌, ◌++◌, length, Err, refl, subst, arith, rules}
-use Rattle.std.proofs.lemmas.Bool.Decides.{nat_tests}
-use Rattle.std.proofs.lemmas.List.Sums.{count_by-le-length}
-use Rattle.std.specs.List.{AllByRecursion, list_any}
-use Rattle.law_order.proofs.ByNumber.{by_test}
-use Rattle.rh_rts.specs.declared.command.Cookie.{Cookie}
-use Rattle.rh_rts.specs.declared.command.TheConstants.{TO_OUT_PROXY}
-use Rattle.rh_sig.specs.declared.named.Named.{Named}
+use Rattle.law_order.proofs.Vocabulary.{◌≡◌, ℕ, suc, ◌+◌, ◌≤◌, ◌==◌, ◌&&◌, nat_lt, Bool, true, false, if◌then◌else◌, List, [], ◌∷◌, ◌++◌, length, refl, subst, arith, rules, nat_tests, count_by-le-length, AllByRecursion, list_any}
 use Rattle.rh_sig.specs.declared.named.Named.TheVariants as named
-use Rattle.rh_line.specs.declared.leg.Leg.{Leg}
-use Rattle.rh_shell.specs.declared.answers.Count.{Count}
-use Rattle.rh_shell.specs.declared.answers.Refused.TheVariants as refused
-use Rattle.rh_shell.specs.declared.due.Due.{Due}
-use Rattle.rh_shell.specs.declared.due.Origin.TheVariants.{Forwarded}
-use Rattle.rh_shell.specs.declared.waiting.TheConstants.{FORWARDED_ROOM}
-use Rattle.rh_shell.specs.Rules.{Row, Message, Packet}
-use Rattle.rh_shell.specs.Waiting.{Waiting, count, is_of, merged, pushed, takes, to_forward, with_due}
+use Rattle.rh_shell.specs.Waiting.{is_of}
 use Rattle.rh_shell.specs.Waiting as waits
-use Rattle.rh_outproxy.specs.declared.state.Channel.{Channel}
 use Rattle.rh_outproxy.specs.declared.state.Channel.TheVariants as channels
-use Rattle.rh_outproxy.specs.OutProxy.{OutProxy, is_client_marked}
-use Rattle.rh_outproxy.specs.Rows.{Done, is_co, is_os, is_carrying, taken, unexpected, forwarded, forwarded_by, passed_on}
-use Rattle.rh_outproxy.specs.Opening.{conn_c1_by}
-use Rattle.rh_outproxy.specs.Acknowledging.{on_ack, on_ack_to}
-use Rattle.rh_outproxy.specs.Ending.{on_end_b1}
-use Rattle.rh_outproxy.specs.OutReplacement.{on_out_r1_a9}
-use Rattle.rh_outproxy.specs.Machine.{packet, on_co, on_os}
-use Rattle.law_moves.specs.Moves.{Passage}
-use Rattle.law_moves.specs.Passages.Passing.{count_of}
-use Rattle.law_moves.specs.PacketKinds.{is_conn_c2, is_out_r1_a2, is_out_r1_a6}
-use Rattle.law_role_client.specs.Counted.Counting.{is_in_a4}
+use Rattle.law_moves.proofs.Vocabulary.{by_test, Cookie, TO_OUT_PROXY, Named, Leg, Count, Due, Forwarded, FORWARDED_ROOM, Message, Packet, Waiting, count, merged, pushed, takes, to_forward, with_due, Passage, count_of, is_conn_c2, is_out_r1_a2, is_out_r1_a6}
+use Rattle.law_role_client.proofs.Vocabulary.{is_in_a4}
+use Rattle.law_role_outproxy.proofs.Vocabulary.{Channel, OutProxy, is_client_marked, Done, is_co, is_os, is_carrying, taken, unexpected, forwarded, forwarded_by, passed_on, conn_c1_by, on_ack, on_ack_to, on_end_b1, on_out_r1_a9, packet, on_co, on_os}
+use Rattle.law_peers_room.proofs.InRoom.Full.{IsNotFull as HasPlace}
 use Rattle.law_peers_room.specs.OutRoom.Room.{HasRoom, PassOneByOne}
 use Rattle.law_peers_room.specs.OutRoom.Waits.{IsForwarded, IsToForward, WaitsInOrder, cookie_in, cookies_in, packets_of, waiting_at}
 
@@ -90,10 +68,6 @@ few_in_all n p order singly acks =
     )
 
 -- ---- rows
-
-abbrev HasPlace : Row → Type 0
-HasPlace (Err (refused.Full leg)) = ⊥
-HasPlace row = Unit {0}
 
 client_place : (s : OutProxy) (number : Count) (m : Named) → HasPlace (on_co s number m).1
 client_place s number m = search rules

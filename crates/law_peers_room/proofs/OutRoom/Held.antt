@@ -1,21 +1,11 @@
 -- what waits at an out proxy, with more that came, with a packet more to forward, and behind a put
-use Rattle.std.proofs.Common.{◌≡◌, ℕ, ◌+◌, ◌≤◌, Bool, List, [], ◌∷◌, ◌++◌, refl, sym, subst, arith}
-use Rattle.std.specs.List.{AllByRecursion}
-use Rattle.rh_sig.specs.declared.named.Named.{Named}
-use Rattle.rh_sig.specs.declared.named.Named.TheVariants.{AckTo}
-use Rattle.rh_shell.specs.declared.due.Due.{Due}
-use Rattle.rh_shell.specs.Rules.{Message, Packet}
-use Rattle.rh_shell.specs.Shells.{one_if}
-use Rattle.rh_shell.specs.Waiting.{Waiting, forwarded, to_forward}
-use Rattle.law_moves.specs.Passages.Passing.{count_of}
-use Rattle.law_moves.proofs.Passages.Messages.{all_append, count_append, count_rises}
-use Rattle.law_moves.specs.PacketKinds.{is_conn_c1, is_conn_c2, is_out_r1_a1, is_out_r1_a2, is_out_r1_a5, is_out_r1_a6}
-use Rattle.law_moves.proofs.PacketKinds.Counts.{one_counts}
-use Rattle.law_moves.proofs.PacketKinds.Waits.{IsNoAck, forwarded_waits, waits}
-use Rattle.law_role_client.specs.Counted.Counting.{is_in_a4}
-use Rattle.law_peers_room.specs.OutRoom.Waits.{AcksFor, AreDifferent, IsForwarded, IsToForward, cookie_in, cookies_in, is_in_a3}
+use Rattle.law_order.proofs.Vocabulary.{◌≡◌, ℕ, ◌+◌, ◌≤◌, Bool, List, [], ◌∷◌, ◌++◌, refl, sym, subst, arith, AllByRecursion}
+use Rattle.law_moves.proofs.Vocabulary.{Named, AckTo, Due, Message, Packet, one_if, Waiting, forwarded, to_forward, count_of, is_conn_c1, is_conn_c2, is_out_r1_a1, is_out_r1_a2, is_out_r1_a5, is_out_r1_a6}
+use Rattle.law_moves.proofs.Lemmas.{all_append, count_append, count_rises, one_counts, IsNoAck, forwarded_waits, waits}
+use Rattle.law_role_client.proofs.Vocabulary.{is_in_a4}
 use Rattle.law_peers_room.proofs.OutRoom.Behind.{last_behind}
 use Rattle.law_peers_room.proofs.OutRoom.Merging.{Follow, StandsBehind, differ_fewer, differ_pushed, follow_merged, follow_more, follow_pushed, forwarded_so, merged_cookies, merged_each}
+use Rattle.law_peers_room.specs.OutRoom.Waits.{AcksFor, AreDifferent, IsForwarded, IsToForward, cookie_in, cookies_in, is_in_a3}
 
 -- of a kind those that were put and those that wait are no more than came for them
 abbrev pub AreWithin : (Named → Bool) → (Named → Bool) → List Due → List Message → List Message

@@ -1,27 +1,11 @@
 -- what waits to be forwarded, with a packet more that is merged, or that waits behind the others
-use Rattle.std.proofs.Common.{◌≡◌, ℕ, suc, ◌+◌, ◌==◌, ◌&&◌, nat_lt, Bool, true, false, true≢false, if◌then◌else◌, List, [], ◌∷◌, ◌++◌, Some, None, refl, sym, ap, ◌∙◌, subst, arith}
-use Rattle.std.proofs.lemmas.Bool.{and_parts, eqb-true, or_parts}
-use Rattle.std.proofs.lemmas.Bool.Decides.{nat_tests}
-use Rattle.std.proofs.lemmas.List.{append-nil, append_assoc}
-use Rattle.std.proofs.lemmas.Slice.Eq.{bytes_eq-Decides}
 use Rattle.std.specs.Prelude.{bytes_eq}
-use Rattle.std.specs.List.{AllByRecursion, list_any}
-use Rattle.std.specs.declared.option.Option.{Option}
-use Rattle.law_order.proofs.ByNumber.{by_test}
-use Rattle.rh_rts.specs.declared.command.Cookie.{Cookie}
-use Rattle.rh_sig.specs.declared.named.Named.{Named}
-use Rattle.rh_sig.specs.declared.named.Named.TheVariants.{AckTo}
-use Rattle.rh_shell.specs.declared.due.Due.{Due}
-use Rattle.rh_shell.specs.declared.due.Origin.TheVariants.{Forwarded}
-use Rattle.rh_shell.specs.Rules.{Message}
-use Rattle.rh_shell.specs.Shells.{one_if}
-use Rattle.rh_shell.specs.Waiting.{Waiting, Key, key_of, are_one, better, edge_of, merged, takes, with_due, pushed, to_forward, count, forwarded}
-use Rattle.law_moves.specs.Passages.Passing.{count_of, HasOne}
-use Rattle.law_moves.proofs.Passages.Messages.{all_append}
-use Rattle.law_moves.proofs.PacketKinds.Waits.{waits}
-use Rattle.law_role_client.specs.Counted.Counting.{is_in_a4}
-use Rattle.law_peers_room.specs.OutRoom.Waits.{AcksFor, AreDifferent, IsForwarded, IsToForward, behind, cookie_in, cookies_in, is_in_a3, packets_of}
+use Rattle.law_order.proofs.Vocabulary.{◌≡◌, ℕ, suc, ◌+◌, ◌==◌, ◌&&◌, nat_lt, Bool, true, false, true≢false, if◌then◌else◌, List, [], ◌∷◌, ◌++◌, Some, None, refl, sym, ap, ◌∙◌, subst, arith, and_parts, eqb-true, or_parts, nat_tests, append-nil, append_assoc, bytes_eq-Decides, AllByRecursion, list_any, Option}
+use Rattle.law_moves.proofs.Vocabulary.{by_test, Cookie, Named, AckTo, Due, Forwarded, Message, one_if, Waiting, Key, key_of, are_one, better, edge_of, merged, takes, with_due, pushed, to_forward, count, forwarded, count_of, HasOne}
+use Rattle.law_moves.proofs.Lemmas.{all_append, waits}
+use Rattle.law_role_client.proofs.Vocabulary.{is_in_a4}
 use Rattle.law_peers_room.proofs.OutRoom.Behind.{fewer_behind, more_behind}
+use Rattle.law_peers_room.specs.OutRoom.Waits.{AcksFor, AreDifferent, IsForwarded, IsToForward, behind, cookie_in, cookies_in, is_in_a3, packets_of}
 
 -- ---- a packet more is to be forwarded
 
@@ -49,7 +33,7 @@ pub record AreAlike (one other : Named) : Type 0 where
   pub none : is_in_a4 one ≡ is_in_a4 other
   pub forwards : IsForwarded one → IsForwarded other
 
-no_key : (o : Option Key) → are_one o None ≡ true → ⊥
+pub no_key : (o : Option Key) → are_one o None ≡ true → ⊥
 no_key None e = true≢false (sym e)
 no_key (Some key) e = true≢false (sym e)
 

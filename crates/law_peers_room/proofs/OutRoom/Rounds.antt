@@ -1,22 +1,17 @@
 -- what goes round between the ends passes each out proxy one by one
-use Rattle.std.proofs.Common.{◌≡◌, ℕ, zero, suc, ◌+◌, ◌≤◌, ◌==◌, Bool, true, false, List, refl, ap, arith}
-use Rattle.std.proofs.lemmas.Bool.Decides.{nat_tests}
-use Rattle.rh_sig.specs.declared.named.Named.{Named}
+use Rattle.law_order.proofs.Vocabulary.{◌≡◌, ℕ, zero, suc, ◌+◌, ◌≤◌, ◌==◌, Bool, true, false, List, refl, ap, arith, nat_tests}
 use Rattle.rh_sig.specs.declared.named.Named.TheVariants as named
-use Rattle.rh_line.specs.declared.leg.LegKind.TheVariants.{ClientOut, OutServer}
-use Rattle.law_moves.specs.Moves.{OnLeg}
-use Rattle.law_moves.specs.Passages.Passing.{of_kind}
+use Rattle.law_moves.proofs.Vocabulary.{Named, ClientOut, OutServer, OnLeg, of_kind, count_on, sum_below, AreFronts, Logs}
+use Rattle.law_moves.proofs.Lemmas.{all_legs, some_legs, sum_rises}
+use Rattle.law_moves.specs.Chains.Ways.{total}
 use Rattle.law_moves.specs.PacketKinds as at_proxy
-use Rattle.law_moves.specs.Chains.Sums.{count_on, sum_below}
-use Rattle.law_moves.specs.Chains.Ways.{AreFronts, Logs, total}
-use Rattle.law_moves.proofs.Chains.Summing.{all_legs, some_legs, sum_rises}
 use Rattle.law_role_client.specs.Counted.Counting as at_client
+use Rattle.law_role_server.proofs.Vocabulary.{out_put}
 use Rattle.law_role_server.specs.Counted.Counting as at_server
-use Rattle.law_role_server.specs.Counted.Counting.{out_put}
-use Rattle.law_peers_moments.specs.Moments.{AreJoined, Passages}
-use Rattle.law_peers_moments.specs.GoingRound.{GoRound}
 use Rattle.law_peers_moments.proofs.GoingRound.Fronts.{are_fronts, logs_of}
 use Rattle.law_peers_moments.proofs.GoingRound.Rounding.{agrees, grants, once, same_counts, sum_counts, wants, wishes}
+use Rattle.law_peers_moments.specs.Moments.{AreJoined, Passages}
+use Rattle.law_peers_moments.specs.GoingRound.{GoRound}
 use Rattle.law_peers_room.specs.OutRoom.Room.{IsOneAhead, PassOneByOne}
 use Rattle.law_peers_room.specs.OutRoom.Waits.{AreOfCame, WaitsInOrder, is_in_a3}
 
@@ -51,7 +46,7 @@ one_leg test log n =
 
 -- ---- tests that are the same
 
-answers : (m : Named) → once (is_in_a3 m)
+pub answers : (m : Named) → once (is_in_a3 m)
     ≡ once (at_server.is_in_r1_a3 m) + once (at_server.is_in_r2_a3 m)
 answers (named.InR1A3 to version window timeout) = refl
 answers (named.InR2A3 to) = refl

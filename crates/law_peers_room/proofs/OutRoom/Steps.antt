@@ -1,49 +1,16 @@
 -- each step of an out proxy keeps what waits there in order
-use Rattle.std.proofs.Common.{◌≡◌, ℕ, ◌≤◌, ◌==◌, ◌&&◌, Bool, true, false, if◌then◌else◌, List, [], ◌∷◌, ◌++◌, Some, None, Ok, Err, refl, sym, ap, ◌∙◌, subst, arith, rules}
-use Rattle.std.proofs.lemmas.Bool.{and_parts, eqb-true}
-use Rattle.std.proofs.lemmas.List.{append-nil}
-use Rattle.std.specs.Prelude.{IfSome}
-use Rattle.std.specs.declared.option.Option.{Option}
-use Rattle.rh_window.specs.declared.recv_window.Ack.{Ack}
-use Rattle.law_order.proofs.ByNumber.{by_test}
-use Rattle.rh_rts.specs.declared.command.Cookie.{Cookie}
-use Rattle.rh_rts.specs.declared.command.TheConstants.{TO_OUT_PROXY}
-use Rattle.rh_sig.specs.declared.named.Named.{Named}
+use Rattle.law_order.proofs.Vocabulary.{◌≡◌, ℕ, ◌≤◌, ◌==◌, ◌&&◌, Bool, true, false, if◌then◌else◌, List, [], ◌∷◌, ◌++◌, Some, None, Ok, Err, refl, sym, ap, ◌∙◌, subst, arith, rules, and_parts, eqb-true, append-nil, IfSome, Option}
 use Rattle.rh_sig.specs.declared.named.Named.TheVariants as named
-use Rattle.rh_line.specs.declared.leg.Leg.{Leg}
-use Rattle.rh_shell.specs.declared.answers.Count.{Count}
-use Rattle.rh_shell.specs.declared.due.Due.{Due}
-use Rattle.rh_shell.specs.declared.waiting.TheConstants.{FORWARDED_ROOM}
-use Rattle.rh_shell.specs.Rules.{Message, Pdu, Packet}
-use Rattle.rh_shell.specs.Shells.{same_leg, one_if}
-use Rattle.rh_shell.specs.Waiting.{Waiting}
 use Rattle.rh_shell.specs.Waiting as waits
-use Rattle.rh_outproxy.specs.declared.state.Answer.{Answer}
-use Rattle.rh_outproxy.specs.declared.state.Channel.{Channel}
 use Rattle.rh_outproxy.specs.declared.state.Channel.TheVariants as channels
-use Rattle.rh_outproxy.specs.declared.state.OutProxyConfig.{OutProxyConfig}
-use Rattle.rh_outproxy.specs.OutProxy.{OutProxy, is_client_marked, joined, new_proxy}
-use Rattle.rh_outproxy.specs.Rows.{Done, is_co, is_os, is_carrying, taken, unexpected, forwarded, forwarded_by, passed_on}
-use Rattle.rh_outproxy.specs.Opening.{up, head, conn_c1_by}
-use Rattle.rh_outproxy.specs.Acknowledging.{ack_due, on_ack, on_ack_to}
-use Rattle.rh_outproxy.specs.Ending.{drawn, mark, on_end_b1}
-use Rattle.rh_outproxy.specs.OutReplacement.{on_out_r1_a9}
-use Rattle.rh_outproxy.specs.Putting.{Pick, or_else, answer_by, put_answer, waiting_by, put_waiting, pdu_by, put_pdu, put_mark, put_ping, next_co, put_first, ack_by, put_ack, next_os}
-use Rattle.rh_outproxy.specs.Putting.{put as put_of}
-use Rattle.rh_outproxy.specs.Machine.{pdu, packet, on_co, on_os}
-use Rattle.rh_outproxy.specs.Machine.{rules as proxy_rules}
-use Rattle.law_moves.specs.Moves.{OnLeg, Move, all_moved, started}
-use Rattle.law_moves.specs.Wires.{of_leg}
-use Rattle.law_moves.specs.PacketKinds.{is_conn_c1, is_conn_c2, is_out_r1_a1, is_out_r1_a2, is_out_r1_a5, is_out_r1_a6}
-use Rattle.law_moves.proofs.Passages.Logs.{PutKeeps, RowKeeps, StepsKeep, moves_keep}
-use Rattle.law_moves.proofs.Passages.Messages.{leg_more}
-use Rattle.law_moves.proofs.PacketKinds.Counts.{here_more, leg_is}
-use Rattle.law_moves.proofs.PacketKinds.Waits.{IsNoAck, IsSame, refused_waits}
-use Rattle.law_role_client.specs.Counted.Counting.{is_in_a4}
-use Rattle.law_role_outproxy.specs.Counted.{co_leg, os_leg}
-use Rattle.law_peers_room.specs.OutRoom.Waits.{IsForwarded, is_in_a3}
+use Rattle.law_moves.proofs.Vocabulary.{Ack, by_test, Cookie, TO_OUT_PROXY, Named, Leg, Count, Due, FORWARDED_ROOM, Message, Pdu, Packet, same_leg, one_if, Waiting, OnLeg, Move, all_moved, started, of_leg, is_conn_c1, is_conn_c2, is_out_r1_a1, is_out_r1_a2, is_out_r1_a5, is_out_r1_a6}
+use Rattle.law_moves.proofs.Lemmas.{PutKeeps, RowKeeps, StepsKeep, moves_keep, leg_more, here_more, leg_is, IsNoAck, IsSame, refused_waits}
+use Rattle.law_role_client.proofs.Vocabulary.{is_in_a4}
+use Rattle.law_role_outproxy.proofs.Vocabulary.{Answer, Channel, OutProxyConfig, OutProxy, is_client_marked, joined, new_proxy, Done, is_co, is_os, is_carrying, taken, unexpected, forwarded, forwarded_by, passed_on, up, head, conn_c1_by, ack_due, on_ack, on_ack_to, drawn, mark, on_end_b1, on_out_r1_a9, Pick, or_else, answer_by, put_answer, waiting_by, put_waiting, pdu_by, put_pdu, put_mark, put_ping, next_co, put_first, ack_by, put_ack, next_os, put as put_of, pdu, packet}
+use Rattle.law_role_outproxy.proofs.Vocabulary.{on_co, on_os, rules as proxy_rules, co_leg, os_leg}
 use Rattle.law_peers_room.proofs.OutRoom.Held.{SameAck, CountsNone, InOrder, IsForwardedAs, first_put, more_came, nothing_waits, one_more_waits, other_put}
 use Rattle.law_peers_room.proofs.OutRoom.Merging.{forwarded_so}
+use Rattle.law_peers_room.specs.OutRoom.Waits.{IsForwarded, is_in_a3}
 
 pub record Seen : Type 0 where
   pub number : ℕ

@@ -1,32 +1,16 @@
 -- which channels are acknowledged, of what is read of an is leg, and that they were answered
-use Rattle.std.proofs.Common.{◌≡◌, inl, inr, ℕ, suc, ◌+◌, ◌≤◌, Bool, true, false, if◌then◌else◌, List, [], ◌∷◌, ◌++◌, refl, sym, ◌∙◌, subst, arith}
-use mathlib.Core.List.{IsPrefix}
-use Rattle.std.proofs.lemmas.List.{append_assoc}
-use Rattle.rh_rts.specs.declared.command.Cookie.{Cookie}
-use Rattle.rh_sig.specs.declared.named.Named.{Named}
+use Rattle.law_order.proofs.Vocabulary.{◌≡◌, inl, inr, ℕ, suc, ◌+◌, ◌≤◌, Bool, true, false, if◌then◌else◌, List, [], ◌∷◌, ◌++◌, refl, sym, ◌∙◌, subst, arith, append_assoc, IsPrefix}
 use Rattle.rh_sig.specs.declared.named.Named.TheVariants as named
-use Rattle.rh_line.specs.declared.leg.Leg.{Leg}
-use Rattle.rh_line.specs.declared.leg.LegKind.TheVariants.{ClientIn}
-use Rattle.rh_shell.specs.Hearing.{is_ping}
-use Rattle.law_moves.specs.Moves.{OnLeg}
-use Rattle.rh_shell.specs.Rules.{Message, Text, Pdu, Packet}
-use Rattle.rh_shell.specs.Shells.{is_of, same_leg}
-use Rattle.law_moves.specs.Wires.{of_leg}
-use Rattle.law_order.proofs.ByNumber.{same_number}
-use Rattle.law_moves.specs.Passages.Passing.{BeginsIn, count_of, of_kind}
-use Rattle.law_moves.proofs.Passages.Messages.{count_append}
-use Rattle.law_moves.specs.ReadBack.Reading.{all_read_of}
-use Rattle.rh_client.specs.State.{ci}
-use Rattle.law_role_client.specs.Counted.Counting.{is_in_r1_a5}
-use Rattle.law_role_client.specs.Counted.Replacing.{ReplacesIns}
+use Rattle.law_moves.proofs.Vocabulary.{same_number, Cookie, Named, Leg, ClientIn, is_ping, Message, Text, Pdu, Packet, is_of, same_leg, OnLeg, of_leg, BeginsIn, count_of, of_kind, all_read_of}
+use Rattle.law_moves.proofs.Lemmas.{count_append}
+use Rattle.law_role_inproxy.proofs.Vocabulary.{HasPdu, is_leg}
+use Rattle.law_role_client.proofs.Vocabulary.{ci, is_in_r1_a5, ReplacesIns}
+use Rattle.law_role_server.proofs.Vocabulary.{is_in_r2_a2}
 use Rattle.law_role_client_rows.specs.InTurn.Turns.{Turn, Stands, StandFrom, WritesInTurn, behind, first_turn}
-use Rattle.law_role_inproxy.specs.Putting.Puts.{HasPdu}
-use Rattle.law_role_inproxy.specs.Counted.{is_leg}
-use Rattle.law_role_server.specs.Counted.Counting.{is_in_r2_a2}
-use Rattle.law_peers_moments.specs.GoingRound.{GoRound}
-use Rattle.law_peers_moments.specs.Moments.{IsJoined, Moves, Numbers, Passages, passages}
 use Rattle.law_peers_moments.proofs.Joining.{in_front, in_reads}
 use Rattle.law_peers_moments.proofs.Read.{front_one}
+use Rattle.law_peers_moments.specs.GoingRound.{GoRound}
+use Rattle.law_peers_moments.specs.Moments.{IsJoined, Moves, Numbers, Passages, passages}
 use Rattle.law_peers_room.specs.ServerRoom.Acks.{Acknowledge, AcknowledgesInOrder, IsOfTwo, IsUsed}
 use Rattle.law_peers_room.specs.ServerRoom.Answered.{AreAnsweredFirst, IsAckOf, IsAnswered}
 

@@ -1,17 +1,9 @@
 -- what waits before an acknowledgement to the client
-use Rattle.std.proofs.Common.{◌≡◌, ◌⊎◌, inl, inr, ℕ, suc, ◌+◌, ◌*◌, ◌≤◌, ◌==◌, Bool, true, false, true≢false, nat_lt, if◌then◌else◌, List, [], ◌∷◌, ◌++◌, length, Some, None, refl, sym, ap, ◌∙◌, subst, arith}
-use Rattle.std.proofs.lemmas.Bool.{and_parts}
-use Rattle.std.proofs.lemmas.Slice.Eq.{bytes_eq-Decides}
-use Rattle.std.specs.Prelude.{find}
-use Rattle.std.specs.Str.{bytes_eq}
-use Rattle.std.specs.declared.option.Option.{Option}
-use Rattle.law_order.proofs.ByNumber.{by_test, same_number}
-use Rattle.rh_rts.specs.declared.command.Cookie.{Cookie}
-use Rattle.rh_sig.specs.declared.named.Named.{Named}
+use Rattle.law_order.proofs.Vocabulary.{◌≡◌, ◌⊎◌, inl, inr, ℕ, suc, ◌+◌, ◌*◌, ◌≤◌, Bool, true, false, true≢false, nat_lt, if◌then◌else◌, List, [], ◌∷◌, ◌++◌, length, Some, None, refl, sym, ap, ◌∙◌, subst, arith, bytes_eq-Decides, find, bytes_eq, Option}
 use Rattle.rh_sig.specs.declared.named.Named.TheVariants as named
-use Rattle.rh_shell.specs.declared.due.Due.{Due}
-use Rattle.rh_shell.specs.Waiting.{Key, are_one, better, edge_of, key_of, merged, takes, without_first}
-use Rattle.law_role_server.specs.Counted.Counting.{is_in_r1_a3, is_in_r2_a3, waiting_of}
+use Rattle.law_moves.proofs.Vocabulary.{by_test, Cookie, Named, Due, Key, are_one, better, edge_of, key_of, merged, takes, without_first}
+use Rattle.law_role_server.proofs.Vocabulary.{is_in_r1_a3, is_in_r2_a3, waiting_of}
+use Rattle.law_peers_room.proofs.InRoom.Turns.{one_is as same_keys}
 use Rattle.law_peers_room.specs.ServerRoom.Overtaking.{is_ack_for}
 
 -- the bytes of an answer
@@ -25,16 +17,6 @@ bytes_of packet = 0
 pub same_cookies : (a b : Cookie) → bytes_eq a.0 b.0 ≡ true → a ≡ b
 same_cookies a b e =
     ap (λ (bytes : List ℕ). record { 0 = bytes }) ((bytes_eq-Decides a.0 b.0).0 e)
-
-pub same_keys : (a b : Option Key) → are_one a b ≡ true → a ≡ b
-same_keys None b e = absurd cc
-same_keys (Some a) None e = absurd cc
-same_keys (Some a) (Some b) e =
-    let parts = and_parts (a.destination == b.destination) (bytes_eq a.channel.0 b.channel.0) e in
-    let to = same_number a.destination b.destination parts.0 in
-    let of = same_cookies a.channel b.channel parts.1 in
-    ap (λ (n : ℕ). Some (record { destination = n; channel = a.channel })) to
-    ∙ ap (λ (c : Cookie). Some (record { destination = b.destination; channel = c })) of
 
 -- what has a key is no answer
 pub keyed_bytes : (packet : Named) (key : Key) → key_of packet ≡ Some key → bytes_of packet ≡ 0

@@ -1,18 +1,11 @@
 -- the packets that wait at a server: of each channel and destination one acknowledgement
-use Rattle.std.proofs.Common.{◌≡◌, ◌⊎◌, inl, inr, ℕ, suc, ◌+◌, ◌≤◌, ◌||◌, Bool, true, false, nat_lt, if◌then◌else◌, List, [], ◌∷◌, ◌++◌, Some, None, refl, sym, ap, ◌∙◌, subst, arith}
-use Rattle.std.proofs.lemmas.Bool.{false≢true}
-use Rattle.std.proofs.lemmas.List.Sums.{sum_by-cons}
-use Rattle.std.specs.List.{AllByRecursion, list_any}
-use Rattle.std.specs.declared.option.Option.{Option}
-use Rattle.law_order.proofs.ByNumber.{by_test}
-use Rattle.rh_sig.specs.declared.named.Named.{Named}
-use Rattle.rh_shell.specs.declared.due.Due.{Due}
-use Rattle.rh_shell.specs.declared.due.Origin.TheVariants.{Forwarded}
-use Rattle.rh_shell.specs.Waiting.{Key, Waiting, are_one, better, edge_of, is_of, key_of, merged, own, takes, to_forward, without_first}
+use Rattle.law_order.proofs.Vocabulary.{◌≡◌, ◌⊎◌, inl, inr, ℕ, suc, ◌+◌, ◌≤◌, ◌||◌, Bool, true, false, nat_lt, if◌then◌else◌, List, [], ◌∷◌, ◌++◌, Some, None, refl, sym, ap, ◌∙◌, subst, arith, false≢true, sum_by-cons, AllByRecursion, list_any, Option}
+use Rattle.rh_shell.specs.Waiting.{is_of}
 use Rattle.rh_shell.specs.Waiting as waits
-use Rattle.law_moves.proofs.Passages.Messages.{all_append}
-use Rattle.law_role_server.specs.Counted.Counting.{is_ack_to, waiting_of}
-use Rattle.law_peers_room.proofs.ServerRoom.Ahead.{same_keys}
+use Rattle.law_moves.proofs.Vocabulary.{by_test, neither as either_false, Named, Due, Forwarded, Key, are_one, better, edge_of, key_of, merged, own, takes, to_forward, without_first}
+use Rattle.law_moves.proofs.Lemmas.{all_append}
+use Rattle.law_role_server.proofs.Vocabulary.{is_ack_to, waiting_of}
+use Rattle.law_peers_room.proofs.InRoom.Turns.{one_is as same_keys}
 
 -- to the client, or to an out proxy
 abbrev pub IsAck : Named → Type 0
@@ -33,10 +26,6 @@ Apart (due ∷ dues) = (any_of (key_of due.packet) dues ≡ false) × Apart dues
 pub record AreRight (dues : List Due) : Type 0 where
   pub each : AllByRecursion IsRight dues
   pub apart : Apart dues
-
-either_false : (a b : Bool) → a || b ≡ false → (a ≡ false) × (b ≡ false)
-either_false true b e = absurd cc
-either_false false b e = (refl, e)
 
 both_false : (a b : Bool) → a ≡ false → b ≡ false → a || b ≡ false
 both_false true b e f = absurd cc
@@ -59,10 +48,6 @@ other_way a b e = by (are_one b a) refl
         let same = same_keys b a f in
         absurd (false≢true (sym e ∙ subst (λ (k : Option Key). are_one k b ≡ true) same
         (subst (λ (k : Option Key). are_one b k ≡ true) (sym same) f)))
-
-none_key : (key : Option Key) → are_one None key ≡ false
-none_key None = refl
-none_key (Some key) = refl
 
 any_pushed : (key : Option Key) (dues : List Due) (due : Due)
     → are_one (key_of due.packet) key ≡ false → any_of key dues ≡ false

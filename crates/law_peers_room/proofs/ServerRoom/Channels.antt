@@ -1,28 +1,11 @@
 -- what is known of the channels of an in proxy, and of what came on them
-use Rattle.std.proofs.Common.{◌≡◌, ◌⊎◌, inl, inr, ℕ, suc, ◌≤◌, ◌&&◌, Bool, true, false, true≢false, List, [], ◌∷◌, ◌++◌, length, refl, sym, ap, ◌∙◌, subst}
-use Rattle.std.proofs.lemmas.Bool.{and_parts}
-use Rattle.std.specs.List.{AllByRecursion}
-use Rattle.rh_window.specs.Sides.{Receiver}
-use Rattle.law_order.proofs.ByNumber.{by_test}
-use Rattle.rh_rts.specs.declared.command.Cookie.{Cookie}
-use Rattle.rh_sig.specs.declared.named.Named.{Named}
-use Rattle.rh_sig.specs.declared.named.Named.TheVariants.{AckTo, OutR1A8}
+use Rattle.law_order.proofs.Vocabulary.{◌≡◌, ◌⊎◌, inl, inr, ℕ, suc, ◌≤◌, ◌&&◌, Bool, true, false, true≢false, List, [], ◌∷◌, ◌++◌, length, refl, sym, ap, ◌∙◌, subst, and_parts, AllByRecursion}
 use Rattle.rh_line.specs.Lines as line
-use Rattle.rh_line.specs.Lines.{Line}
-use Rattle.rh_shell.specs.declared.due.Due.{Due}
-use Rattle.rh_shell.specs.Rules.{Message}
-use Rattle.rh_inproxy.specs.declared.state.ClientLeg.{ClientLeg}
-use Rattle.rh_inproxy.specs.declared.state.InProxyConfig.{InProxyConfig}
-use Rattle.rh_inproxy.specs.declared.state.Joining.TheVariants.{TellsServer, Told, Follows}
-use Rattle.rh_inproxy.specs.declared.state.Successor.{Successor}
-use Rattle.rh_inproxy.specs.declared.state.Successor.TheVariants.{Absent, Up, Joined}
-use Rattle.rh_inproxy.specs.Ending.{is_succeeded}
-use Rattle.rh_inproxy.specs.State.{InProxy, has_opened, is_joined, follows, followed}
-use Rattle.law_moves.specs.Moves.{OnLeg}
-use Rattle.law_moves.specs.Wires.{of_leg}
-use Rattle.law_moves.specs.Passages.Passing.{BeginsIn, HasOne}
-use Rattle.law_moves.proofs.Passages.Messages.{leg_more, one_more_so}
-use Rattle.law_role_inproxy.specs.Putting.Puts.{CameOn, HasPdu, ci}
+use Rattle.law_moves.proofs.Vocabulary.{Receiver, by_test, Cookie, Named, AckTo, OutR1A8, Line, Due, OnLeg, of_leg, BeginsIn}
+use Rattle.law_moves.proofs.Lemmas.{leg_more}
+use Rattle.law_role_inproxy.proofs.Vocabulary.{ClientLeg, InProxyConfig, TellsServer, Told, Follows, Successor, Absent, Up, Joined, is_succeeded, InProxy, has_opened, is_joined, follows, followed, HasPdu, ci}
+use Rattle.law_role_inproxy.proofs.Putting.Sounds.{told, HasBegun}
+use Rattle.law_role_inproxy.proofs.Putting.Fronts.{came_stays, pdu_more}
 use Rattle.law_peers_room.specs.ServerRoom.Acks.{IsUsed}
 
 -- what the facts are about
@@ -58,16 +41,7 @@ seen s = record {
 abbrev pub Same : InProxy → InProxy → Type 0
 Same s t = seen t ≡ seen s
 
--- the last ci leg that the server was told
-abbrev pub told : ℕ → Successor → ℕ
-told n (Joined leg Told) = suc n
-told n (Joined leg Follows) = suc n
-told n successor = n
-
 -- ---- what is known
-
-abbrev pub HasBegun : List OnLeg → ClientLeg → Type 0
-HasBegun came leg = CameOn leg.number (BeginsIn leg.cookie) came
 
 abbrev pub IsUsedLeg : List OnLeg → ClientLeg → Type 0
 IsUsedLeg came leg = IsUsed came leg.number leg.cookie
@@ -111,17 +85,6 @@ pub record Known (config : InProxyConfig) (x : Seen) (came : List OnLeg) : Type 
   pub behind : IsBehind x.successor x.dues
 
 -- ---- one more came
-
-pub came_stays : (Is : Named → Type 0) (n : ℕ) (came : List OnLeg) (one : OnLeg)
-    → CameOn n Is came → CameOn n Is (came ++ one ∷ [])
-came_stays Is n came one h =
-    subst (HasOne Is) (sym (leg_more (ci n) came one))
-    (one_more_so Is (of_leg (ci n) came) (of_leg (ci n) (one ∷ [])) h)
-
-pdu_more : (pdu : List ℕ) (a b : List Message) → HasPdu pdu a → HasPdu pdu (a ++ b)
-pdu_more pdu [] b h = absurd h
-pdu_more pdu (m ∷ a) b (inl is) = inl is
-pdu_more pdu (m ∷ a) b (inr rest) = inr (pdu_more pdu a b rest)
 
 pub used_stays : (n : ℕ) (channel : Cookie) (came : List OnLeg) (one : OnLeg)
     → IsUsed came n channel → IsUsed (came ++ one ∷ []) n channel

@@ -1,12 +1,10 @@
 -- an os leg's meter counts what is put there, and the successor takes the channel's place
-use Rattle.std.proofs.Common.{◌≡◌, ℕ, suc, ◌+◌, ◌*◌, ◌≤◌, Bool, true, false, true≢false, List, Some, sym, ◌∙◌, subst, arith}
-use Rattle.std.specs.Prelude.{IfSome, slice_get, slice_set}
-use Rattle.std.specs.List.{AllByRecursion}
-use Rattle.rh_keep.specs.Meters.{after_put}
-use Rattle.rh_rts.specs.declared.command.Cookie.{Cookie}
-use Rattle.rh_server.specs.declared.state.OutLeg.{OutLeg}
-use Rattle.law_moves.proofs.Passages.Messages.{each_so}
-use Rattle.law_peers_room.proofs.ServerRoom.Legs.{each_got, others_so, sorted_set}
+use Rattle.law_order.proofs.Vocabulary.{◌≡◌, ℕ, suc, ◌+◌, ◌*◌, ◌≤◌, Bool, true, false, true≢false, List, Some, sym, ◌∙◌, subst, arith, IfSome, slice_get, slice_set, AllByRecursion}
+use Rattle.law_moves.proofs.Vocabulary.{after_put, Cookie}
+use Rattle.law_moves.proofs.Lemmas.{each_so}
+use Rattle.law_role_server.proofs.Vocabulary.{OutLeg}
+use Rattle.law_role_server.proofs.Each.{each_got}
+use Rattle.law_peers_room.proofs.ServerRoom.Legs.{others_so, sorted_set}
 use Rattle.law_peers_room.proofs.ServerRoom.Meters.{Seen, Phase, InTurn, IsRefused, HasRoom, IsBase, Base, IsTotal, IsNow, IsKept, Kept, Fine}
 
 module _ (channel : Cookie) (least budget : ℕ) where

@@ -1,12 +1,7 @@
 -- the packets that wait for the is leg of an in proxy: what they are, and how many
-use Rattle.std.proofs.Common.{◌≤◌, Bool, true, false, nat_lt, if◌then◌else◌, List, [], ◌∷◌, ◌++◌, length, arith}
-use Rattle.std.specs.List.{list_any}
-use Rattle.law_order.proofs.ByNumber.{by_test}
-use Rattle.rh_sig.specs.declared.named.Named.{Named}
-use Rattle.rh_shell.specs.declared.due.Due.{Due}
-use Rattle.rh_shell.specs.declared.due.Origin.TheVariants.{Forwarded}
-use Rattle.rh_shell.specs.Waiting.{Waiting, better, edge_of, merged, takes, with_due, pushed, to_forward, count, forwarded}
-use Rattle.law_moves.proofs.Passages.Messages.{all_append}
+use Rattle.law_order.proofs.Vocabulary.{◌≤◌, Bool, true, false, nat_lt, if◌then◌else◌, List, [], ◌∷◌, ◌++◌, length, arith, list_any}
+use Rattle.law_moves.proofs.Vocabulary.{by_test, Named, Due, Forwarded, Waiting, better, edge_of, merged, takes, with_due, pushed, to_forward, count, forwarded}
+use Rattle.law_moves.proofs.Lemmas.{all_append}
 use Rattle.law_peers_room.proofs.ServerRoom.Channels.{MayWait, Wait}
 
 -- they wait, and are no fewer

@@ -1,57 +1,25 @@
 -- what a server forwards are acknowledgements, of each channel one, whatever happens
-use Rattle.std.proofs.Common.{◌≡◌, inl, inr, ℕ, ◌+◌, ◌≤◌, ◌==◌, ◌&&◌, ◌||◌, Bool, true, false, nat_lt, not, if◌then◌else◌, List, [], ◌∷◌, Some, None, Ok, Err, refl, sym, ap, ◌∙◌, subst, rules, arith}
-use Rattle.std.proofs.lemmas.Bool.{false≢true}
-use Rattle.std.proofs.lemmas.Bool.Decides.{nat_tests}
-use Rattle.std.specs.Prelude.{IfSome, find, nat_le, slice_get}
-use Rattle.std.specs.List.{list_any}
-use Rattle.std.specs.declared.option.Option.{Option}
-use Rattle.std.specs.declared.result.Result.{Result}
-use Rattle.law_order.proofs.ByNumber.{by_test, same_number}
-use Rattle.rh_rts.specs.declared.command.Cookie.{Cookie}
-use Rattle.rh_sig.specs.declared.named.Named.{Named}
+use Rattle.law_order.proofs.Vocabulary.{◌≡◌, inl, inr, ℕ, ◌+◌, ◌≤◌, ◌==◌, ◌&&◌, ◌||◌, Bool, true, false, nat_lt, not, if◌then◌else◌, List, [], ◌∷◌, Some, None, Ok, Err, refl, sym, ap, ◌∙◌, subst, rules, arith, false≢true, IfSome, find, slice_get, list_any, Option, Result}
 use Rattle.rh_sig.specs.declared.named.Named.TheVariants as named
-use Rattle.rh_line.specs.Queue.{front_length}
-use Rattle.rh_line.specs.declared.leg.Leg.{Leg}
-use Rattle.rh_line.specs.declared.leg.LegKind.{LegKind}
-use Rattle.rh_line.specs.declared.leg.LegKind.TheVariants.{ClientOut, OutServer, ClientIn, InServer}
-use Rattle.rh_line.specs.declared.which.Which.{Which}
-use Rattle.rh_line.specs.declared.which.Which.TheVariants.{Current, Next}
-use Rattle.rh_line.specs.Lines.{after_finish, after_take}
-use Rattle.rh_shell.specs.declared.answers.Count.{Count}
 use Rattle.rh_shell.specs.declared.answers.Refused.TheVariants as refused
-use Rattle.rh_shell.specs.declared.due.Due.{Due}
-use Rattle.rh_shell.specs.declared.due.Origin.TheVariants.{Forwarded}
-use Rattle.rh_shell.specs.declared.end_role.RecycleRefused.{RecycleRefused}
-use Rattle.rh_shell.specs.Rules.{Message, Packet, Pdu, Row}
-use Rattle.rh_shell.specs.Waiting.{Waiting, added, merged, pushed, taken, takes, to_forward, with_due, without_first}
 use Rattle.rh_shell.specs.Waiting as waits
-use Rattle.rh_server.specs.declared.state.Edge.TheVariants.{Shut}
-use Rattle.rh_server.specs.declared.state.InLeg.{InLeg}
-use Rattle.rh_server.specs.declared.state.InStage.{InStage}
 use Rattle.rh_server.specs.declared.state.InStage.TheVariants as in_stage
-use Rattle.rh_server.specs.declared.state.OutLeg.{OutLeg}
-use Rattle.rh_server.specs.declared.state.Replacement.{Replacement}
 use Rattle.rh_server.specs.declared.state.Replacement.TheVariants as replacement
-use Rattle.rh_server.specs.declared.state.Stage.{Stage}
 use Rattle.rh_server.specs.declared.state.Stage.TheVariants as stage
 use Rattle.rh_server.specs.declared.out_line.Kind.TheVariants as kinds
 use Rattle.rh_server.specs.OutLines as lines
-use Rattle.rh_server.specs.OutLines.{has, is_ack_of, lets}
-use Rattle.rh_server.specs.States.{Server, in_leg, is_due, is_fresh, is_open, is_some, out_at, out_place, out_cookie, same_cookie, with_in, without_in, without_out}
-use Rattle.rh_server.specs.Opening.{Done, took, refuse, unexpected, is_first, opens, first_in, with_first_in, first_out_at, with_first_out, up, conn_a2_at, on_conn_a2, conn_b2_at, on_conn_b2}
-use Rattle.rh_server.specs.Acknowledging.{channel_at, channel_leg, elsewhere, forward_by, forwards, forwards_to, forwards_writing, is_full, on_ack_to, out_server}
-use Rattle.rh_server.specs.InReplacement.{announced, becomes_current, first_waiting, hands_over, has_fresh_below, in_r1_a2_at, in_r1_a2_by, in_r2_a2_on, leaves_by, moved_if, next_opened, on_in_r1_a2, on_in_r1_a6, on_in_r2_a2, opens_leg, opens_next, take}
-use Rattle.rh_server.specs.OutReplacement.{answered_by, answered_on, asks, confirms, is_under_way, last_number, may_answer, on_out_r1_a4, on_out_r1_a8, out_r1_a4_at, out_r1_a4_by, out_r1_a8_at, recycle, wishes}
-use Rattle.rh_server.specs.Ending.{completed, drawn_by, give, in_is_drawn, is_complete, lost_in, mark_by, settled, with_ack_dropped, without_ack_of}
-use Rattle.rh_server.specs.Putting.{Pick, or_else, counts, counts_at, gate, gate_at, is_end_due, may_end_at, may_go_at, next_out, out_greeting_at, pdu_by, put_by as put_by_kind, put_end, put_in, put_open, put_out_at, put_out_greeting, put_pdu, put_pdu_or_end, put_waiting, settled_pick, waiting_at, waiting_by, was_put}
-use Rattle.rh_server.specs.Servers.{acts, first, on_is, on_os, packet_by, pdu}
-use Rattle.rh_server.specs.Servers.{rules as server_rules}
-use Rattle.law_moves.proofs.Passages.Logs.{ActsKeep, PutKeeps, RowKeeps, StepsKeep, end_moves_keep}
-use Rattle.law_moves.specs.Moves.{OnLeg, EndMove, end_started}
-use Rattle.law_role_server.specs.Counted.Counting.{is_ack_to, waits_for}
+use Rattle.law_moves.proofs.Vocabulary.{by_test, same_number, Cookie, Named, front_length, Leg, LegKind, ClientOut, OutServer, ClientIn, InServer, Which, Current, Next, after_finish, after_take, Count, Due, Forwarded, RecycleRefused, Message, Packet, Pdu, Row, Waiting, added, merged, pushed, taken, takes, to_forward, with_due, without_first, OnLeg, EndMove, end_started}
+use Rattle.law_moves.proofs.Lemmas.{ActsKeep, PutKeeps, RowKeeps, StepsKeep, end_moves_keep}
+use Rattle.law_role_inproxy.proofs.LegibleKeeps.{at_most as at_least}
+use Rattle.law_role_server.proofs.Vocabulary.{Shut, InLeg, InStage, OutLeg, Replacement, Stage, has, is_ack_of, lets, Server, in_leg, is_due, is_fresh, is_open, is_some, out_at, out_place, out_cookie, same_cookie, with_in, without_in, without_out, Done, took, refuse, unexpected, is_first, opens, first_in, with_first_in, with_first_out, up, conn_a2_at, on_conn_a2, conn_b2_at, on_conn_b2, channel_at, channel_leg, elsewhere, forward_by, forwards, forwards_to, forwards_writing}
+use Rattle.law_role_server.proofs.Vocabulary.{is_full, on_ack_to, out_server, announced, becomes_current, first_waiting, hands_over, has_fresh_below, in_r1_a2_at, in_r1_a2_by, in_r2_a2_on, leaves_by, moved_if, next_opened, on_in_r1_a2, on_in_r1_a6, on_in_r2_a2, opens_leg, opens_next, take, answered_by, answered_on, asks, confirms, is_under_way, last_number, may_answer, on_out_r1_a4, on_out_r1_a8, out_r1_a4_at, out_r1_a4_by, out_r1_a8_at, recycle, wishes, completed, drawn_by}
+use Rattle.law_role_server.proofs.Vocabulary.{give, in_is_drawn, lost_in, mark_by, settled, with_ack_dropped, without_ack_of, Pick, or_else, counts, counts_at, gate, gate_at, is_end_due, may_end_at, may_go_at, next_out, out_greeting_at, pdu_by, put_by as put_by_kind, put_end, put_in, put_open, put_out_at, put_out_greeting, put_pdu, put_pdu_or_end, put_waiting, settled_pick, waiting_at, waiting_by, was_put, acts, first, on_is, on_os, packet_by, pdu, rules as server_rules}
+use Rattle.law_role_server.proofs.Vocabulary.{is_ack_to, waits_for}
+use Rattle.law_role_server.proofs.Counted.Adding.{first_out_same, completed_same}
+use Rattle.law_role_server_in.proofs.Tests.{at_least as no_less}
 use Rattle.law_role_server_in.specs.Handovers.{passed}
-use Rattle.law_peers_room.specs.ServerRoom.Forwarding.{ForwardsAcks, IsFull, IsFullFor, is_ack_at}
 use Rattle.law_peers_room.proofs.ServerRoom.Apart.{AreRight, IsAck, added_right, forwarded_acks, forwarded_right, less_right, merged_right, none_waiting, once_waiting, taken_any}
+use Rattle.law_peers_room.specs.ServerRoom.Forwarding.{ForwardsAcks, IsFull, IsFullFor, is_ack_at}
 
 pub record Right (w : Waiting) : Type 0 where
   pub room : w.room ≡ 20
@@ -71,11 +39,6 @@ added_serves w packet none h =
 less_serves : (w : Waiting) (may_go : Due → Bool) → Right w
     → Right (with_due w (without_first may_go w.due))
 less_serves w may_go h = record { room = h.room; dues = less_right may_go w.due h.dues }
-
-completed_same : (s : Server) → (completed s).waiting ≡ s.waiting
-completed_same s =
-    by_test (λ (t : Server). t.waiting ≡ s.waiting) (is_complete s)
-    (record s { stage = stage.Ended }) s (λ e. refl) (λ e. refl)
 
 settled_serves : (s : Server) → Serves s → Serves (settled s)
 settled_serves s h =
@@ -251,16 +214,6 @@ a8_row s count to successor h =
         by_test RowServes (same_cookie cookie successor) (took (confirms s)) _
         (λ f. added_serves s.waiting named.OutR1A9 refl h) (λ f. h)
 
-first_out_same : (s : Server) (b : Cookie) (c d : ℕ)
-    → (with_first_out s b c d).waiting ≡ s.waiting
-first_out_same s b c d = by (out_place 1 s.outs) (out_at s.outs (out_place 1 s.outs))
-  where
-    by : (place : Option ℕ) (o : Option OutLeg)
-        → (first_out_at s b c d place o).waiting ≡ s.waiting
-    by (Some place) (Some leg) = refl
-    by (Some place) None = refl
-    by None o = refl
-
 conn_a2_row : (s : Server) (n : ℕ) (count : Count) (a b : Cookie) (c d : ℕ) → Serves s
     → RowServes (on_conn_a2 s n count a b c d)
 conn_a2_row s n count a b c d h =
@@ -349,7 +302,7 @@ or_goes : (a b : Pick) → Goes a → Goes b → Goes (or_else a b)
 or_goes None b one other = other
 or_goes (Some pick) b one other = one
 
-counts_same : (s : Server) (place len : ℕ) → (counts s place len).waiting ≡ s.waiting
+pub counts_same : (s : Server) (place len : ℕ) → (counts s place len).waiting ≡ s.waiting
 counts_same s place len = by (slice_get s.outs place)
   where
     by : (o : Option OutLeg) → (counts_at s place len o).waiting ≡ s.waiting
@@ -364,7 +317,7 @@ put_serves s place named.OutR1A9 h = subst Right (sym (counts_same s place 24)) 
 put_serves s place packet h =
     subst Right (sym (counts_same s place (lines.length_of packet))) h
 
-in_same : (s : Server) (n : ℕ)
+pub in_same : (s : Server) (n : ℕ)
     → IfSome (put_in s n) (λ (one : Server × Message). one.0.waiting ≡ s.waiting)
 in_same s n = search rules
 
@@ -464,14 +417,14 @@ mark_serves s n ClientOut h = h
 same_serves : (s t : Server) → t.waiting ≡ s.waiting → Serves s → Serves t
 same_serves s t same h = subst Right (sym same) h
 
-up_same : (s : Server) (leg : Leg) (cookie : Cookie) → (up s leg cookie).waiting ≡ s.waiting
+pub up_same : (s : Server) (leg : Leg) (cookie : Cookie) → (up s leg cookie).waiting ≡ s.waiting
 up_same s leg cookie = search rules
 
-pdu_same : (s : Server) (leg : Leg) (count : Count) (bytes : List ℕ)
+pub pdu_same : (s : Server) (leg : Leg) (count : Count) (bytes : List ℕ)
     → (pdu s leg count bytes).0.waiting ≡ s.waiting
 pdu_same s leg count bytes = search rules
 
-give_same : (s : Server) (bytes : List ℕ) → (give s bytes).0.waiting ≡ s.waiting
+pub give_same : (s : Server) (bytes : List ℕ) → (give s bytes).0.waiting ≡ s.waiting
 give_same s bytes = search rules
 
 pub steps : StepsKeep server_rules Holds
@@ -539,12 +492,6 @@ both_so : (a b : Bool) → a && not b ≡ true → (a ≡ true) × (b ≡ false)
 both_so false b e = absurd cc
 both_so true true e = absurd cc
 both_so true false e = (refl, refl)
-
-at_least : (a b : ℕ) → nat_le a b ≡ true → a ≤ b
-at_least a b e = grind (arith, nat_tests)
-
-no_less : (a b : ℕ) → nat_lt a b ≡ false → b ≤ a
-no_less a b e = grind (arith, nat_tests)
 
 module _ (s : Server) (h : Serves s) (to received window : ℕ) (channel : Cookie) where
   abbrev packet_is : Named

@@ -1,37 +1,17 @@
 -- an in proxy acknowledges in order, whatever happens
-use Rattle.std.proofs.Common.{◌≡◌, inl, inr, ℕ, suc, ◌==◌, Bool, true, false, if◌then◌else◌, List, [], ◌∷◌, ◌++◌, Some, None, Ok, Err, refl, sym, ap, ◌∙◌, subst, arith}
-use Rattle.std.proofs.lemmas.List.{append-nil}
-use Rattle.law_order.proofs.ByNumber.{by_test, same_number, test_same}
-use Rattle.rh_rts.specs.declared.command.Cookie.{Cookie}
-use Rattle.rh_sig.specs.declared.named.Named.{Named}
+use Rattle.law_order.proofs.Vocabulary.{◌≡◌, inl, inr, ℕ, suc, ◌==◌, true, false, List, [], ◌∷◌, ◌++◌, Some, None, Ok, Err, refl, sym, ap, ◌∙◌, subst, arith, append-nil}
 use Rattle.rh_sig.specs.declared.named.Named.TheVariants as named
-use Rattle.rh_line.specs.declared.leg.Leg.{Leg}
-use Rattle.rh_line.specs.declared.leg.LegKind.{LegKind}
-use Rattle.rh_line.specs.declared.leg.LegKind.TheVariants.{ClientOut, OutServer, ClientIn, InServer}
-use Rattle.rh_shell.specs.Rules.{Message, Text, Pdu, Packet}
-use Rattle.rh_shell.specs.Shells.{same_leg}
-use Rattle.rh_inproxy.specs.declared.state.InProxyConfig.{InProxyConfig}
-use Rattle.rh_inproxy.specs.declared.state.Work.{Work}
 use Rattle.rh_inproxy.specs.declared.state.Work.TheVariants as works
-use Rattle.rh_inproxy.specs.Answers.{Done, Pick}
-use Rattle.rh_inproxy.specs.Ending.{mark, settled_pick}
-use Rattle.rh_inproxy.specs.Machine.{pdu, packet}
-use Rattle.rh_inproxy.specs.Machine.{rules as proxy_rules}
-use Rattle.rh_inproxy.specs.Opening.{drawn, echo_answer, echo_by, head, up}
 use Rattle.rh_inproxy.specs.Putting as putting
-use Rattle.rh_inproxy.specs.Putting.{next}
-use Rattle.rh_inproxy.specs.State.{InProxy, first, is_client_leg, is_server_leg}
-use Rattle.rh_inproxy.specs.Time.{ping}
-use Rattle.law_moves.specs.Moves.{OnLeg, Move, all_moved, started}
-use Rattle.law_moves.specs.Wires.{of_leg}
-use Rattle.law_moves.specs.Passages.Passing.{HasOne}
-use Rattle.law_moves.proofs.Passages.Logs.{PutKeeps, RowKeeps, StepsKeep, moves_keep}
-use Rattle.law_moves.proofs.Passages.Messages.{last_one_so, leg_more}
-use Rattle.law_role_inproxy.specs.Putting.Puts.{CameOn, HasPdu, ci, is_leg}
-use Rattle.law_peers_room.specs.ServerRoom.Acks.{AcknowledgesInOrder, Acknowledge, IsOfTwo}
+use Rattle.law_moves.proofs.Vocabulary.{by_test, same_number, test_same, Cookie, Leg, LegKind, ClientOut, OutServer, ClientIn, InServer, Message, Text, Pdu, Packet, OnLeg, Move, all_moved, started, of_leg}
+use Rattle.law_moves.proofs.Lemmas.{PutKeeps, RowKeeps, StepsKeep, moves_keep}
+use Rattle.law_role_inproxy.proofs.Vocabulary.{InProxyConfig, Work, Done, Pick, mark, settled_pick, pdu, packet, rules as proxy_rules, drawn, echo_answer, echo_by, head, up, next, InProxy, first, is_server_leg, ping, ci}
+use Rattle.law_role_inproxy.proofs.Putting.Laws.{more_by, here_came, pdu_came}
+use Rattle.law_role_inproxy.specs.Putting.Puts.{is_leg}
 use Rattle.law_peers_room.proofs.ServerRoom.Channels.{seen, known_stays, same_moves, used_stays}
 use Rattle.law_peers_room.proofs.ServerRoom.Rows.{Row, pdu_row, packet_row, same_drawn, same_head, same_mark, same_ping, up_moves}
 use Rattle.law_peers_room.proofs.ServerRoom.Puts.{Stands, Goes, server_goes, still}
+use Rattle.law_peers_room.specs.ServerRoom.Acks.{AcknowledgesInOrder, Acknowledge, IsOfTwo}
 
 -- ---- one more came
 
@@ -51,36 +31,6 @@ module _ (came : List OnLeg) (one : OnLeg) where
   acks_stay n (other ∷ ms) h = acks_stay n ms h
 
 -- ---- a message more
-
-more_by : (leg : Leg) (log : List OnLeg) (one : OnLeg) (b : Bool) → same_leg one.0 leg ≡ b
-    → of_leg leg (log ++ one ∷ []) ≡ of_leg leg log ++ (if b then one.1 ∷ [] else [])
-more_by leg log one b e =
-    leg_more leg log one
-    ∙ ap (λ (t : Bool). of_leg leg log ++ (if t then one.1 ∷ [] else [])) e
-
-here_came : (n : ℕ) (kind : LegKind) (log : List OnLeg) (m : Named)
-    → is_client_leg (record { kind = kind; number = n }) ≡ true → (Is : Named → Type 0) → Is m
-    → CameOn n Is (log ++ (record { kind = kind; number = n }, Packet m) ∷ [])
-here_came n ClientIn log m e Is is =
-    subst (HasOne Is) (sym (more_by (ci n) log (ci n, Packet m) true (test_same n)))
-    (last_one_so Is (of_leg (ci n) log) m is)
-here_came n ClientOut log m e Is is = absurd cc
-here_came n OutServer log m e Is is = absurd cc
-here_came n InServer log m e Is is = absurd cc
-
-last_pdu : (pdu : List ℕ) (a : List Message) → HasPdu pdu (a ++ Pdu pdu ∷ [])
-last_pdu pdu [] = inl refl
-last_pdu pdu (m ∷ a) = inr (last_pdu pdu a)
-
-pdu_came : (n : ℕ) (kind : LegKind) (log : List OnLeg) (pdu : List ℕ)
-    → is_client_leg (record { kind = kind; number = n }) ≡ true
-    → HasPdu pdu (of_leg (ci n) (log ++ (record { kind = kind; number = n }, Pdu pdu) ∷ []))
-pdu_came n ClientIn log pdu e =
-    subst (HasPdu pdu) (sym (more_by (ci n) log (ci n, Pdu pdu) true (test_same n)))
-    (last_pdu pdu (of_leg (ci n) log))
-pdu_came n ClientOut log pdu e = absurd cc
-pdu_came n OutServer log pdu e = absurd cc
-pdu_came n InServer log pdu e = absurd cc
 
 module _ (config : InProxyConfig) where
   abbrev on : List OnLeg → List Message

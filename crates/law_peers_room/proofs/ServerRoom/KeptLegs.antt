@@ -1,65 +1,28 @@
 -- a server keeps a leg for each acknowledgement to an out proxy that waits, whatever happens
-use Rattle.std.proofs.Common.{◌≡◌, ℕ, ◌+◌, ◌<◌, ◌≤◌, ◌==◌, ◌&&◌, ◌||◌, Bool, true, false, nat_lt, not, if◌then◌else◌, List, [], ◌∷◌, ◌++◌, Some, None, Ok, Err, refl, sym, ap, ◌∙◌, subst, rules, arith}
-use Rattle.std.proofs.lemmas.Bool.{and_parts, false≢true}
-use Rattle.std.specs.Prelude.{IfSome, find, remove, slice_get, slice_set}
-use Rattle.std.specs.List.{AllByRecursion, list_any}
-use Rattle.std.specs.declared.option.Option.{Option}
-use Rattle.std.specs.declared.result.Result.{Result}
-use Rattle.rh_window.specs.Sending.{unsent}
 use Rattle.rh_keep.specs.Meters.{started}
-use Rattle.law_order.proofs.ByNumber.{by_test, same_number}
-use Rattle.rh_rts.specs.declared.command.Cookie.{Cookie}
-use Rattle.rh_sig.specs.declared.named.Named.{Named}
+use Rattle.law_order.proofs.Vocabulary.{◌≡◌, ℕ, ◌+◌, ◌<◌, ◌≤◌, ◌==◌, ◌&&◌, ◌||◌, Bool, true, false, nat_lt, not, if◌then◌else◌, List, [], ◌∷◌, ◌++◌, Some, None, Ok, Err, refl, sym, ap, ◌∙◌, subst, rules, arith, and_parts, false≢true, IfSome, find, remove, slice_get, slice_set, AllByRecursion, list_any, Option, Result}
 use Rattle.rh_sig.specs.declared.named.Named.TheVariants as named
-use Rattle.rh_line.specs.Queue.{front_length}
-use Rattle.rh_line.specs.declared.leg.Leg.{Leg}
-use Rattle.rh_line.specs.declared.leg.LegKind.{LegKind}
-use Rattle.rh_line.specs.declared.leg.LegKind.TheVariants.{ClientOut, OutServer, ClientIn, InServer}
-use Rattle.rh_line.specs.declared.which.Which.{Which}
-use Rattle.rh_line.specs.declared.which.Which.TheVariants.{Current, Next}
-use Rattle.rh_line.specs.Lines.{after_finish, after_take}
-use Rattle.rh_shell.specs.declared.answers.Count.{Count}
 use Rattle.rh_shell.specs.declared.answers.Refused.TheVariants as refused
-use Rattle.rh_shell.specs.declared.due.Due.{Due}
-use Rattle.rh_shell.specs.declared.due.Origin.TheVariants.{Forwarded}
-use Rattle.rh_shell.specs.declared.end_role.RecycleRefused.{RecycleRefused}
-use Rattle.rh_shell.specs.Rules.{Message, Packet, Pdu}
-use Rattle.rh_shell.specs.Waiting.{Waiting, added, are_one, key_of, merged, pushed, taken, takes, to_forward, with_due, without_first}
 use Rattle.rh_shell.specs.Waiting as waits
-use Rattle.rh_server.specs.declared.state.Edge.TheVariants.{Shut}
-use Rattle.rh_server.specs.declared.state.Greeting.TheVariants.{Put}
-use Rattle.rh_server.specs.declared.state.InLeg.{InLeg}
-use Rattle.rh_server.specs.declared.state.InStage.{InStage}
 use Rattle.rh_server.specs.declared.state.InStage.TheVariants as in_stage
-use Rattle.rh_server.specs.declared.state.OutLeg.{OutLeg}
-use Rattle.rh_server.specs.declared.state.Replacement.{Replacement}
 use Rattle.rh_server.specs.declared.state.Replacement.TheVariants as replacement
-use Rattle.rh_server.specs.declared.state.Stage.{Stage}
 use Rattle.rh_server.specs.declared.state.Stage.TheVariants as stage
 use Rattle.rh_server.specs.declared.out_line.Kind.TheVariants as kinds
 use Rattle.rh_server.specs.OutLines as lines
-use Rattle.rh_server.specs.OutLines.{is_ack_of, lets}
-use Rattle.rh_server.specs.OutLegs.{acked, counted, went}
-use Rattle.rh_server.specs.States.{Server, cookie_by, in_leg, is_due, is_fresh, is_open, is_steady, out_at, out_place, out_cookie, removed_at, same_cookie, with_in, without_in, without_out}
-use Rattle.rh_server.specs.Opening.{Done, took, refuse, unexpected, is_first, opens, first_in, with_first_in, first_out_at, with_first_out, may_up_by, out_leg_up, up, up_by, conn_a2_at, on_conn_a2, conn_b2_at, on_conn_b2}
-use Rattle.rh_server.specs.Acknowledging.{acked_at, acked_cookie, acked_in, channel_at, channel_leg, forward_by, forwards, forwards_to, forwards_writing, is_of_channel, on_ack, on_ack_to, out_server}
-use Rattle.rh_server.specs.InReplacement.{announced, becomes_current, first_waiting, hands_over, has_fresh_below, in_r1_a2_at, in_r1_a2_by, in_r2_a2_on, leaves_by, moved_if, next_opened, on_in_r1_a2, on_in_r1_a6, on_in_r2_a2, opens_leg, opens_next}
-use Rattle.rh_server.specs.OutReplacement.{answered_by, answered_on, asks, confirms, handed, is_asked, is_under_way, last_number, may_answer, on_out_r1_a4, on_out_r1_a8, out_r1_a4_at, out_r1_a4_by, out_r1_a8_at, recycle, wishes}
-use Rattle.rh_server.specs.Ending.{completed, drawn_by, give, in_is_drawn, is_complete, lost_in, mark_by, on_end_a2, settled, with_ack_dropped, without_ack_of}
-use Rattle.rh_server.specs.Putting.{Pick, or_else, counts, counts_at, gate, gate_at, is_end_due, may_end_at, may_go_at, next_out, out_greeting_at, pdu_by, put_by as put_by_kind, put_end, put_in, put_open, put_out_at, put_out_greeting, put_pdu, put_pdu_or_end, put_waiting, settled_pick, waiting_at, waiting_by, was_put, went_at}
-use Rattle.rh_server.specs.Servers.{acts, first, on_is, on_os, packet_by, pdu}
-use Rattle.rh_server.specs.Servers.{rules as server_rules}
-use Rattle.law_moves.proofs.Passages.Logs.{ActsKeep, PutKeeps, RowKeeps, StepsKeep, end_moves_keep}
-use Rattle.law_moves.proofs.Passages.Messages.{all_append, each_so}
-use Rattle.law_moves.specs.Moves.{OnLeg, EndMove, end_started}
+use Rattle.law_moves.proofs.Vocabulary.{unsent, by_test, same_number, Cookie, Named, front_length, Leg, LegKind, ClientOut, OutServer, ClientIn, InServer, Which, Current, Next, after_finish, after_take, Count, Due, Forwarded, RecycleRefused, Message, Packet, Pdu, Waiting, added, are_one, key_of, merged, pushed, taken, takes, to_forward, with_due, without_first, OnLeg, EndMove, end_started}
+use Rattle.law_moves.proofs.Lemmas.{ActsKeep, PutKeeps, RowKeeps, StepsKeep, end_moves_keep, all_append, each_so}
+use Rattle.law_role_server.proofs.Vocabulary.{Shut, Put, InLeg, InStage, OutLeg, Replacement, Stage, is_ack_of, lets, acked, counted, went, Server, cookie_by, in_leg, is_due, is_fresh, is_open, is_steady, out_at, out_place, out_cookie, removed_at, same_cookie, with_in, without_in, without_out, Done, took, refuse, unexpected, is_first, opens, first_in, with_first_in, first_out_at, with_first_out, may_up_by, out_leg_up, up, up_by, conn_a2_at, on_conn_a2, conn_b2_at, on_conn_b2}
+use Rattle.law_role_server.proofs.Vocabulary.{acked_at, acked_cookie, acked_in, channel_at, channel_leg, forward_by, forwards, forwards_to, forwards_writing, is_of_channel, on_ack, on_ack_to, out_server, announced, becomes_current, first_waiting, hands_over, has_fresh_below, in_r1_a2_at, in_r1_a2_by, in_r2_a2_on, leaves_by, moved_if, next_opened, on_in_r1_a2, on_in_r1_a6, on_in_r2_a2, opens_leg, opens_next, answered_by, answered_on, asks, confirms, handed, is_asked}
+use Rattle.law_role_server.proofs.Vocabulary.{is_under_way, last_number, may_answer, on_out_r1_a4, on_out_r1_a8, out_r1_a4_at, out_r1_a4_by, out_r1_a8_at, recycle, wishes, completed, drawn_by, give, in_is_drawn, is_complete, lost_in, mark_by, on_end_a2, settled, with_ack_dropped, without_ack_of, Pick, or_else, counts, counts_at, gate, gate_at, is_end_due, may_end_at, may_go_at, next_out, out_greeting_at, pdu_by, put_by as put_by_kind, put_end, put_in, put_open, put_out_at}
+use Rattle.law_role_server.proofs.Vocabulary.{put_out_greeting, put_pdu, put_pdu_or_end, put_waiting, settled_pick, waiting_at, waiting_by, was_put, went_at, acts, first, on_is, on_os, packet_by, pdu, rules as server_rules}
+use Rattle.law_role_server.proofs.Each.{each_got, each_removed, each_set}
+use Rattle.law_role_server.proofs.Gives.{found as number_found}
 use Rattle.law_role_server_in.specs.Handovers.{passed}
 use Rattle.law_peers_room.proofs.ServerRoom.Ahead.{same_cookies}
-use Rattle.law_peers_room.proofs.ServerRoom.Forwarded as forwarded
-use Rattle.law_peers_room.proofs.ServerRoom.Legs.{each_got, each_removed, each_set}
 use Rattle.law_peers_room.proofs.ServerRoom.Meters.{is_answered}
 use Rattle.law_peers_room.proofs.ServerRoom.Owners.{AreOwned, Owned, has_leg, leg_found, leg_pushed, leg_set, none_left, owned_added, owned_bare, owned_less, owned_merged, owned_pushed, owned_so, owned_without, leg_removed}
 use Rattle.law_peers_room.proofs.ServerRoom.Overtaken.{Core, core, core_same}
-use Rattle.law_peers_room.proofs.ServerRoom.Serving.{number_found}
+use Rattle.law_peers_room.proofs.ServerRoom.Forwarded as forwarded
 
 -- CONN/A2 has not come
 abbrev is_early : Stage → Bool

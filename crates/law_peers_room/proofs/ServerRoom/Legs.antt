@@ -1,38 +1,15 @@
 -- what holds of each os leg of a server, where one of them changes
-use Rattle.std.proofs.Common.{◌≡◌, ◌<◌, ◌≤◌, ℕ, zero, suc, List, [], ◌∷◌, ◌++◌, Some, None, sym, ap, ◌∙◌, subst, arith}
-use Rattle.std.specs.Prelude.{slice_get, slice_set, remove, IfSome}
-use Rattle.std.specs.List.{AllByRecursion}
-use Rattle.std.specs.declared.option.Option.{Option}
-use Rattle.rh_server.specs.declared.state.OutLeg.{OutLeg}
-use Rattle.law_moves.proofs.Passages.Messages.{all_append}
+use Rattle.law_order.proofs.Vocabulary.{◌≡◌, ◌<◌, ◌≤◌, ℕ, zero, suc, List, [], ◌∷◌, ◌++◌, Some, None, sym, ap, ◌∙◌, subst, arith, slice_get, slice_set, remove, IfSome, AllByRecursion, Option}
+use Rattle.law_moves.proofs.Lemmas.{all_append}
+use Rattle.law_role_server.proofs.Vocabulary.{OutLeg}
+use Rattle.law_role_server.proofs.Each.{each_removed, each_got, each_set}
+use Rattle.law_role_server.proofs.Numbered.{one as some_same}
 
 -- ---- any elements
-
-pub each_got : {X : Type 0} (P : X → Type 0) (xs : List X) (place : ℕ) → AllByRecursion P xs
-    → IfSome (slice_get xs place) P
-each_got P [] place h = tt
-each_got P (x ∷ xs) zero h = h.0
-each_got P (x ∷ xs) (suc place) h = each_got P xs place h.1
-
-pub each_set : {X : Type 0} (P : X → Type 0) (xs : List X) (place : ℕ) (x : X) → P x
-    → AllByRecursion P xs → AllByRecursion P (slice_set xs place x)
-each_set P [] place x is h = tt
-each_set P (y ∷ xs) zero x is h = (is, h.1)
-each_set P (y ∷ xs) (suc place) x is h = (h.0, each_set P xs place x is h.1)
-
-pub each_removed : {X : Type 0} (P : X → Type 0) (xs : List X) (place : ℕ)
-    → AllByRecursion P xs → AllByRecursion P (remove xs place)
-each_removed P [] zero h = tt
-each_removed P [] (suc place) h = tt
-each_removed P (x ∷ xs) zero h = h.1
-each_removed P (x ∷ xs) (suc place) h = (h.0, each_removed P xs place h.1)
 
 abbrev value : {X : Type 0} → X → Option X → X
 value other None = other
 value other (Some x) = x
-
-pub some_same : {X : Type 0} (x y : X) → Some x ≡ Some y → x ≡ y
-some_same x y e = ap (value x) e
 
 -- ---- legs in the order of their numbers
 

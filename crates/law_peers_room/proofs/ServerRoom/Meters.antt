@@ -1,18 +1,13 @@
 -- an acknowledgement to the client that waits at a server: what goes before it, by the meters
-use Rattle.std.proofs.Common.{◌≡◌, ℕ, ◌+◌, ◌*◌, ◌≤◌, Bool, true, false, List, [], ◌∷◌, ◌++◌, Some, refl, sym, ap, ◌∙◌, subst, arith}
-use Rattle.std.specs.Prelude.{slice_get, slice_set, remove}
-use Rattle.std.specs.List.{AllByRecursion}
-use Rattle.rh_keep.specs.Meters.{Meter}
-use Rattle.rh_rts.specs.declared.command.Cookie.{Cookie}
-use Rattle.rh_server.specs.declared.state.OutLeg.{OutLeg}
-use Rattle.rh_server.specs.declared.state.Replacement.{Replacement}
+use Rattle.law_order.proofs.Vocabulary.{◌≡◌, ℕ, ◌+◌, ◌*◌, ◌≤◌, Bool, true, false, List, [], ◌∷◌, ◌++◌, Some, refl, sym, ap, ◌∙◌, subst, arith, slice_get, slice_set, remove, AllByRecursion}
 use Rattle.rh_server.specs.declared.state.Replacement.TheVariants as replacement
-use Rattle.rh_server.specs.declared.state.Stage.{Stage}
 use Rattle.rh_server.specs.declared.state.Stage.TheVariants as stage
-use Rattle.rh_server.specs.States.{Server}
-use Rattle.law_moves.proofs.Passages.Messages.{all_append, each_so}
+use Rattle.law_moves.proofs.Vocabulary.{Meter, Cookie}
+use Rattle.law_moves.proofs.Lemmas.{all_append, each_so}
+use Rattle.law_role_server.proofs.Vocabulary.{OutLeg, Replacement, Stage, Server}
+use Rattle.law_role_server.proofs.Each.{each_removed}
+use Rattle.law_peers_room.proofs.ServerRoom.Legs.{Sorted, others_so, sorted_pushed, sorted_removed, sorted_set}
 use Rattle.law_peers_room.proofs.ServerRoom.Ahead as ahead
-use Rattle.law_peers_room.proofs.ServerRoom.Legs.{Sorted, each_removed, others_so, sorted_pushed, sorted_removed, sorted_set}
 
 -- ---- what the facts are about
 

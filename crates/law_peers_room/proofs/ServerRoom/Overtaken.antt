@@ -1,40 +1,17 @@
 -- few answers overtake an acknowledgement to the client that waits at a server, whatever happens
-use Rattle.std.proofs.Common.{◌≡◌, ℕ, suc, ◌+◌, ◌*◌, ◌≤◌, Bool, true, false, if◌then◌else◌, List, [], ◌∷◌, ◌++◌, length, Some, None, Ok, Err, refl, sym, ap, ◌∙◌, subst, rules, arith}
-use Rattle.std.proofs.lemmas.List.{append-nil}
-use Rattle.std.specs.Prelude.{IfSome}
-use Rattle.std.specs.List.{AllByRecursion}
-use Rattle.rh_rts.specs.declared.command.Cookie.{Cookie}
-use Rattle.rh_sig.specs.declared.named.Named.{Named}
+use Rattle.law_order.proofs.Vocabulary.{◌≡◌, ℕ, suc, ◌+◌, ◌*◌, ◌≤◌, Bool, true, false, if◌then◌else◌, List, [], ◌∷◌, ◌++◌, length, Some, None, Ok, Err, refl, sym, ap, ◌∙◌, subst, rules, arith, append-nil, IfSome, AllByRecursion}
 use Rattle.rh_sig.specs.declared.named.Named.TheVariants as named
-use Rattle.rh_line.specs.declared.leg.Leg.{Leg}
-use Rattle.rh_line.specs.declared.leg.LegKind.{LegKind}
-use Rattle.rh_line.specs.declared.leg.LegKind.TheVariants.{ClientOut, OutServer, ClientIn, InServer}
-use Rattle.rh_shell.specs.Rules.{Message, Text, Pdu, Packet}
-use Rattle.rh_shell.specs.Waiting.{Waiting}
-use Rattle.rh_server.specs.declared.state.OutLeg.{OutLeg}
-use Rattle.rh_server.specs.declared.state.Replacement.{Replacement}
-use Rattle.rh_server.specs.declared.state.Stage.{Stage}
-use Rattle.rh_server.specs.States.{Server, no_cookie, out_place}
-use Rattle.rh_server.specs.Opening.{Done, up}
-use Rattle.rh_server.specs.InReplacement.{take}
-use Rattle.rh_server.specs.OutReplacement.{recycle}
-use Rattle.rh_server.specs.Ending.{close, give, drawn_by, mark_by}
-use Rattle.rh_server.specs.Putting.{Pick, put_in, put_out_at, put_by as put_by_kind}
-use Rattle.rh_server.specs.Servers.{acts, first, packet_by, pdu}
-use Rattle.rh_server.specs.Servers.{rules as server_rules}
-use Rattle.law_moves.specs.Moves.{OnLeg, EndMove, EndPassage, Passage, all_end_moved, end_started}
-use Rattle.law_moves.specs.Passages.Passing.{count_of, of_kind}
-use Rattle.law_moves.proofs.Passages.Logs.{ActsKeep, PutKeeps, RowKeeps, StepsKeep, end_moves_keep}
-use Rattle.law_moves.proofs.Passages.Messages.{count_append, kind_more}
-use Rattle.law_role_server.specs.Counted.Counting.{is_in_r1_a3, is_in_r2_a3, leg_at, often}
+use Rattle.law_moves.proofs.Vocabulary.{Cookie, Named, Leg, LegKind, ClientOut, OutServer, ClientIn, InServer, Message, Text, Pdu, Packet, Waiting, OnLeg, EndMove, EndPassage, Passage, all_end_moved, end_started, count_of, of_kind}
+use Rattle.law_moves.proofs.Lemmas.{ActsKeep, PutKeeps, RowKeeps, StepsKeep, end_moves_keep, count_append, kind_more}
+use Rattle.law_role_server.proofs.Vocabulary.{OutLeg, Replacement, Stage, Server, no_cookie, out_place, Done, up, take, recycle, close, give, drawn_by, mark_by, Pick, put_in, put_out_at, put_by as put_by_kind, acts, first, packet_by, pdu, rules as server_rules, is_in_r1_a3, is_in_r2_a3, leg_at, often}
 use Rattle.law_node_streams.proofs.Streams.EndMoves.{all_end_moved_append}
 use Rattle.law_role_server_in.specs.Handovers.{passed}
-use Rattle.law_peers_room.specs.ServerRoom.Overtaking.{AreLong, FewOvertake, IsLong, IsLongOn, answer_bytes, is_ack_for}
-use Rattle.law_peers_room.proofs.ServerRoom.Ahead as ahead
 use Rattle.law_peers_room.proofs.ServerRoom.Legs.{Sorted}
 use Rattle.law_peers_room.proofs.ServerRoom.Meters.{Seen, Phase, InTurn, IsRefused, HasRoom, IsTotal, IsKept, seen, is_begun, is_answered, Base, Kept, Fine}
 use Rattle.law_peers_room.proofs.ServerRoom.Serving.{LongServes, drawn_serves, give_serves, mark_serves, packet_row, pdu_row, recycles, take_serves, up_serves}
 use Rattle.law_peers_room.proofs.ServerRoom.ServerPuts.{Goes, bytes_in, is_acked, os_goes}
+use Rattle.law_peers_room.proofs.ServerRoom.Ahead as ahead
+use Rattle.law_peers_room.specs.ServerRoom.Overtaking.{AreLong, FewOvertake, IsLong, IsLongOn, answer_bytes, is_ack_for}
 
 -- ---- what is put on is legs leaves alone
 
@@ -63,14 +40,14 @@ core_same s n = search rules
 -- ---- logs
 
 -- a message more on an os leg, and on another
-more_there : (test : Named → Bool) (n : ℕ) (m : Message) (log : List OnLeg)
+pub more_there : (test : Named → Bool) (n : ℕ) (m : Message) (log : List OnLeg)
     → often test OutServer (log ++ (leg_at OutServer n, m) ∷ [])
     ≡ often test OutServer log + count_of test (m ∷ [])
 more_there test n m log =
     ap (count_of test) (kind_more OutServer log (leg_at OutServer n, m))
     ∙ count_append test (of_kind OutServer log) (m ∷ [])
 
-same_there : (test : Named → Bool) (n : ℕ) (m : Message) (log : List OnLeg)
+pub same_there : (test : Named → Bool) (n : ℕ) (m : Message) (log : List OnLeg)
     → often test OutServer (log ++ (leg_at InServer n, m) ∷ []) ≡ often test OutServer log
 same_there test n m log =
     ap (count_of test) (kind_more OutServer log (leg_at InServer n, m)
@@ -95,7 +72,7 @@ more_answers channel n m put =
     let two = more_there is_in_r2_a3 n m put in
     let all = one_answer channel m in omega (arith, one, two, all)
 
-acked_one : (channel : Cookie) (m : Message) → is_acked channel m ≡ true
+pub acked_one : (channel : Cookie) (m : Message) → is_acked channel m ≡ true
     → count_of (is_ack_for channel) (m ∷ []) ≡ 1
 acked_one channel (Text bytes) e = absurd cc
 acked_one channel (Pdu pdu) e = absurd cc

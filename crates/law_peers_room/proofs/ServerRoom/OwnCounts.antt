@@ -1,25 +1,10 @@
 -- no more acknowledgements to out proxies wait at a server than it has legs for them
-use Rattle.std.proofs.Common.{◌≡◌, ℕ, suc, ◌+◌, ◌<◌, ◌≤◌, ◌==◌, ◌&&◌, ◌||◌, Bool, true, false, not, if◌then◌else◌, List, [], ◌∷◌, Some, None, refl, sym, ap, ◌∙◌, subst, arith}
-use Rattle.std.proofs.lemmas.List.Sums.{sum_by-cons}
-use Rattle.std.proofs.lemmas.Slice.Eq.{bytes_eq-Decides}
-use Rattle.std.specs.Str.{bytes_eq}
-use Rattle.std.specs.Prelude.{count_by, find}
-use Rattle.std.specs.List.{AllByRecursion}
-use Rattle.std.specs.declared.option.Option.{Option}
-use Rattle.law_order.proofs.ByNumber.{same_number, test_other}
-use Rattle.rh_rts.specs.declared.command.Cookie.{Cookie}
-use Rattle.rh_sig.specs.declared.named.Named.{Named}
+use Rattle.law_order.proofs.Vocabulary.{◌≡◌, ℕ, suc, ◌+◌, ◌<◌, ◌≤◌, ◌==◌, ◌&&◌, ◌||◌, Bool, true, false, not, if◌then◌else◌, List, [], ◌∷◌, Some, None, refl, sym, ap, ◌∙◌, subst, arith, sum_by-cons, bytes_eq-Decides, bytes_eq, count_by, find, AllByRecursion, Option}
 use Rattle.rh_sig.specs.declared.named.Named.TheVariants as named
-use Rattle.rh_shell.specs.declared.due.Due.{Due}
-use Rattle.rh_shell.specs.Waiting.{Key, Waiting, are_one, key_of}
-use Rattle.rh_server.specs.declared.state.OutLeg.{OutLeg}
-use Rattle.rh_server.specs.Acknowledging.{has_ack_by, has_ack_elsewhere, is_of_channel}
-use Rattle.rh_server.specs.OutLines.{is_ack_of}
-use Rattle.rh_server.specs.States.{Server, is_some}
-use Rattle.law_moves.specs.Moves.{EndMove}
-use Rattle.law_role_server.specs.Counted.Counting.{is_ack_to, waiting_of}
+use Rattle.law_moves.proofs.Vocabulary.{same_number, test_other, Cookie, Named, Due, Key, Waiting, are_one, key_of, EndMove}
+use Rattle.law_role_server.proofs.Vocabulary.{OutLeg, has_ack_by, has_ack_elsewhere, is_of_channel, is_ack_of, Server, is_some, is_ack_to, waiting_of}
+use Rattle.law_peers_moments.proofs.GoingRound.Rounding.{once}
 use Rattle.law_role_server_in.specs.Handovers.{passed}
-use Rattle.law_peers_room.specs.ServerRoom.Owning.{AcksHaveLegs}
 use Rattle.law_peers_room.proofs.ServerRoom.Ahead.{same_cookies}
 use Rattle.law_peers_room.proofs.ServerRoom.Apart.{Apart, any_of, one_more}
 use Rattle.law_peers_room.proofs.ServerRoom.Forwarded.{right}
@@ -27,9 +12,7 @@ use Rattle.law_peers_room.proofs.ServerRoom.Legs.{Sorted}
 use Rattle.law_peers_room.proofs.ServerRoom.Overtaken.{legs_sorted}
 use Rattle.law_peers_room.proofs.ServerRoom.Owners.{AreOwned, has_leg}
 use Rattle.law_peers_room.proofs.ServerRoom.KeptLegs.{are_owned}
-
-abbrev once : Bool → ℕ
-once b = if b then 1 else 0
+use Rattle.law_peers_room.specs.ServerRoom.Owning.{AcksHaveLegs}
 
 abbrev acked_by : List Due → Option Cookie → Bool
 acked_by dues None = false

@@ -1,34 +1,18 @@
 -- each acknowledgement to an out proxy that waits at a server is for the channel of an os leg
-use Rattle.std.proofs.Common.{◌≡◌, ℕ, zero, suc, ◌||◌, Bool, true, false, if◌then◌else◌, List, [], ◌∷◌, ◌++◌, Some, None, refl, sym, ap, ◌∙◌, subst}
-use Rattle.std.proofs.lemmas.Bool.{false≢true}
-use Rattle.std.proofs.lemmas.List.Quantifiers.{position-Some}
-use Rattle.std.proofs.lemmas.Option.{get_or_from_slice_get}
-use Rattle.std.specs.Prelude.{IfSome, slice_get, slice_set, remove}
-use Rattle.std.specs.List.{AllByRecursion}
-use Rattle.std.specs.declared.option.Option.{Option}
-use Rattle.law_order.proofs.ByNumber.{by_test}
-use Rattle.rh_rts.specs.declared.command.Cookie.{Cookie}
-use Rattle.rh_sig.specs.declared.named.Named.{Named}
-use Rattle.rh_shell.specs.declared.due.Due.{Due}
-use Rattle.rh_shell.specs.Waiting.{Key, are_one, better, key_of, merged, own, takes, to_forward, without_first}
-use Rattle.rh_server.specs.declared.state.OutLeg.{OutLeg}
-use Rattle.rh_server.specs.Acknowledging.{channel_leg, channel_place, is_of_channel, number_by}
-use Rattle.rh_server.specs.OutLines.{is_ack_of}
-use Rattle.rh_server.specs.States.{out_at, same_cookie}
-use Rattle.law_moves.proofs.Passages.Messages.{all_append, each_so}
-use Rattle.law_peers_room.proofs.ServerRoom.Ahead.{same_keys}
+use Rattle.law_order.proofs.Vocabulary.{◌≡◌, ℕ, zero, suc, ◌||◌, Bool, true, false, if◌then◌else◌, List, [], ◌∷◌, ◌++◌, Some, None, refl, sym, ap, ◌∙◌, subst, false≢true, position-Some, get_or_from_slice_get, IfSome, slice_get, slice_set, remove, AllByRecursion, Option}
+use Rattle.law_moves.proofs.Vocabulary.{by_test, Cookie, Named, Due, Key, are_one, better, key_of, merged, own, takes, to_forward, without_first}
+use Rattle.law_moves.proofs.Lemmas.{all_append, each_so}
+use Rattle.law_role_inproxy.proofs.OrderPuts.{ended_now as or_later}
+use Rattle.law_role_server.proofs.Vocabulary.{OutLeg, channel_leg, channel_place, is_of_channel, number_by, is_ack_of, out_at, same_cookie}
+use Rattle.law_role_server.proofs.Numbered.{one as some_same}
 use Rattle.law_peers_room.proofs.ServerRoom.Apart.{Apart, any_of, better_key}
-use Rattle.law_peers_room.proofs.ServerRoom.Legs.{some_same}
+use Rattle.law_peers_room.proofs.InRoom.Turns.{one_is as same_keys}
 
 -- ---- the leg of a channel
 
 abbrev pub has_leg : Cookie → List OutLeg → Bool
 has_leg cookie [] = false
 has_leg cookie (leg ∷ legs) = is_of_channel cookie leg.cookie || has_leg cookie legs
-
-or_later : (a b : Bool) → b ≡ true → a || b ≡ true
-or_later true b e = refl
-or_later false b e = e
 
 or_either : (a b c : Bool) → (b ≡ true → c ≡ true) → a || b ≡ true → a || c ≡ true
 or_either true b c so e = refl

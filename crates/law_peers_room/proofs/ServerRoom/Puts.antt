@@ -1,50 +1,20 @@
 -- what an in proxy puts on its is leg acknowledges in order
-use Rattle.std.proofs.Common.{◌≡◌, ◌⊎◌, inl, inr, ℕ, suc, ◌+◌, ◌-◌, ◌≤◌, ◌==◌, ◌&&◌, ◌||◌, Bool, true, false, nat_lt, not, if◌then◌else◌, List, [], ◌∷◌, ◌++◌, length, Some, None, refl, sym, ap, ◌∙◌, subst, arith}
-use Rattle.std.proofs.lemmas.Bool.Decides.{nat_tests}
-use Rattle.std.specs.Prelude.{IfSome}
-use Rattle.std.specs.declared.option.Option.{Option}
 use Rattle.rh_window.specs.Receiving as windows
-use Rattle.rh_window.specs.Sending.{may_send, after_sent}
-use Rattle.rh_window.specs.Sides.{Receiver, Sender}
-use Rattle.rh_window.specs.declared.recv_window.Ack.{Ack}
-use Rattle.law_order.proofs.ByNumber.{by_test}
-use Rattle.rh_rts.specs.declared.command.Cookie.{Cookie}
-use Rattle.rh_sig.specs.declared.named.Named.{Named}
+use Rattle.law_order.proofs.Vocabulary.{◌≡◌, ◌⊎◌, inl, inr, ℕ, suc, ◌+◌, ◌-◌, ◌≤◌, ◌==◌, ◌&&◌, ◌||◌, Bool, true, false, nat_lt, not, List, [], ◌∷◌, ◌++◌, length, Some, None, refl, sym, ap, ◌∙◌, subst, arith, nat_tests, IfSome, Option}
 use Rattle.rh_sig.specs.declared.named.Named.TheVariants as named
 use Rattle.rh_line.specs.Lines as line
-use Rattle.rh_line.specs.declared.which.Which.{Which}
-use Rattle.rh_line.specs.declared.which.Which.TheVariants.{Current, Next}
-use Rattle.rh_shell.specs.declared.due.Due.{Due}
-use Rattle.rh_shell.specs.Rules.{Message, Pdu, Packet}
 use Rattle.rh_shell.specs.Waiting as waiting
-use Rattle.rh_inproxy.specs.declared.state.Entry.{Entry}
-use Rattle.rh_inproxy.specs.declared.state.Entry.TheVariants.{Connects, Replaces}
-use Rattle.rh_inproxy.specs.declared.state.Handover.{Handover}
 use Rattle.rh_inproxy.specs.declared.state.Handover.TheVariants as handovers
-use Rattle.rh_inproxy.specs.declared.state.InProxyConfig.{InProxyConfig}
-use Rattle.rh_inproxy.specs.declared.state.Joining.{Joining}
-use Rattle.rh_inproxy.specs.declared.state.Joining.TheVariants.{TellsServer, Told, Follows}
-use Rattle.rh_inproxy.specs.declared.state.Opener.{Opener}
-use Rattle.rh_inproxy.specs.declared.state.Opening.{Opening}
-use Rattle.rh_inproxy.specs.declared.state.Opening.TheVariants.{AwaitsClient, AwaitsPacket, WantsServer, Announces, Announced}
-use Rattle.rh_inproxy.specs.declared.state.Successor.{Successor}
-use Rattle.rh_inproxy.specs.declared.state.Successor.TheVariants.{Absent, Up, Joined}
-use Rattle.rh_inproxy.specs.Acknowledging.{ack_due, ack_by, current_ack, next_ack, put_acks}
-use Rattle.rh_inproxy.specs.Answers.{Pick, or_else}
-use Rattle.rh_inproxy.specs.Ending.{put_end, settled, settled_pick}
-use Rattle.rh_inproxy.specs.InReplacement.{told_by as tells_by, one_less, put_in_r2_a2, mark_by, put_in_r1_a6}
-use Rattle.rh_inproxy.specs.Opening.{announcement, first_by, put_first, is_absent}
-use Rattle.rh_inproxy.specs.Passing.{next_pdu, passed, put_pdu}
-use Rattle.rh_inproxy.specs.Putting.{next, waiting_by, put_waiting, put_control, put_early, put_stream, put_behind, put_mark}
-use Rattle.rh_inproxy.specs.State.{InProxy, followed, has_a5, has_opened}
-use Rattle.rh_inproxy.specs.Time.{put_ping}
-use Rattle.law_moves.specs.Moves.{OnLeg}
-use Rattle.law_moves.specs.Passages.Passing.{count_of}
-use Rattle.law_moves.proofs.Passages.Messages.{count_append}
-use Rattle.law_role_server.specs.Counted.Counting.{is_in_r2_a2}
-use Rattle.law_peers_room.specs.ServerRoom.Acks.{IsUsed, IsOfTwo, Acknowledge}
-use Rattle.law_peers_room.proofs.ServerRoom.Channels.{seen, Same, told, IsUsedLeg, IsIdle, IsBehind, MayWait, Wait, Known, Moves, same_moves, moves_on, settles}
+use Rattle.law_moves.proofs.Vocabulary.{may_send, after_sent, Receiver, Sender, Ack, by_test, Cookie, Named, Which, Current, Next, Due, Message, Pdu, Packet, OnLeg, count_of}
+use Rattle.law_moves.proofs.Lemmas.{count_append}
+use Rattle.law_role_inproxy.proofs.Vocabulary.{Entry, Connects, Replaces, Handover, InProxyConfig, Joining, TellsServer, Told, Follows, Opener, Opening, AwaitsClient, AwaitsPacket, WantsServer, Announces, Announced, Successor, Absent, Up, Joined, ack_due, ack_by, current_ack, next_ack, put_acks, Pick, or_else, put_end, settled, settled_pick, told_by as tells_by, one_less, put_in_r2_a2, mark_by, put_in_r1_a6, announcement, first_by, put_first, is_absent, next_pdu, passed}
+use Rattle.law_role_inproxy.proofs.Vocabulary.{put_pdu, next, waiting_by, put_waiting, put_control, put_early, put_stream, put_behind, put_mark, InProxy, followed, has_a5, has_opened, put_ping}
+use Rattle.law_role_inproxy.proofs.Putting.Goes.{no_other, none_waits, none_so}
+use Rattle.law_role_inproxy.proofs.Putting.Sounds.{told}
+use Rattle.law_role_server.proofs.Vocabulary.{is_in_r2_a2}
+use Rattle.law_peers_room.proofs.ServerRoom.Channels.{seen, Same, IsUsedLeg, IsIdle, IsBehind, MayWait, Wait, Known, Moves, same_moves, moves_on, settles}
 use Rattle.law_peers_room.proofs.ServerRoom.Rows.{same_settled}
+use Rattle.law_peers_room.specs.ServerRoom.Acks.{IsUsed, IsOfTwo, Acknowledge}
 
 -- ---- one message more
 
@@ -76,18 +46,6 @@ first_is came n s o (Connects group) = (refl, tt)
 first_is came n s o (Replaces predecessor) = (refl, tt)
 
 -- ---- tests
-
-no_other : (a b : Pick) → or_else a b ≡ None → (a ≡ None) × (b ≡ None)
-no_other None b e = (refl, e)
-no_other (Some pick) b e = absurd cc
-
-none_waits : (s : InProxy) (dues : List Due) → waiting_by s dues ≡ None → dues ≡ []
-none_waits s [] e = refl
-none_waits s (due ∷ dues) e = absurd cc
-
-none_so : {X : Type 0} (b : Bool) (x : X) → (if b then Some x else None) ≡ None → b ≡ false
-none_so true x e = absurd cc
-none_so false x e = refl
 
 -- nothing is due for a channel on which no RPC PDU came
 behind_edge : (told size released : ℕ) → released ≡ 0 → size ≤ told

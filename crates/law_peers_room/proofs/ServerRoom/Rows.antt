@@ -1,53 +1,18 @@
 -- what comes to an in proxy keeps what is known of its channels
-use Rattle.std.proofs.Common.{◌≡◌, ◌⊎◌, inl, inr, ℕ, suc, ◌+◌, ◌≤◌, ◌==◌, ◌&&◌, ◌||◌, Bool, true, false, true≢false, not, if◌then◌else◌, List, [], ◌∷◌, ◌++◌, length, Some, None, Ok, Err, refl, sym, ap, ◌∙◌, subst, rules, arith}
-use Rattle.std.proofs.lemmas.Bool.{and_parts, eqb-true}
-use Rattle.std.proofs.lemmas.List.Sums.{count_by-le-length}
-use Rattle.std.specs.Prelude.{is_ok, nat_le}
-use Rattle.std.specs.declared.option.Option.{Option}
-use Rattle.std.specs.declared.result.Result.{Result}
 use Rattle.rh_window.specs.Receiving as windows
-use Rattle.law_order.proofs.ByNumber.{by_test, same_number}
-use Rattle.rh_rts.specs.declared.command.Cookie.{Cookie}
-use Rattle.rh_sig.specs.declared.named.Named.{Named}
+use Rattle.law_order.proofs.Vocabulary.{◌≡◌, ◌⊎◌, inl, inr, ℕ, suc, ◌+◌, ◌≤◌, ◌==◌, ◌&&◌, ◌||◌, Bool, true, false, true≢false, not, if◌then◌else◌, List, [], ◌∷◌, ◌++◌, length, Some, None, Ok, Err, refl, sym, ap, ◌∙◌, subst, rules, arith, and_parts, eqb-true, count_by-le-length, is_ok, nat_le, Option, Result}
 use Rattle.rh_sig.specs.declared.named.Named.TheVariants as named
 use Rattle.rh_line.specs.Lines as line
-use Rattle.rh_line.specs.Lines.{Incoming}
-use Rattle.rh_line.specs.declared.leg.Leg.{Leg}
-use Rattle.rh_line.specs.declared.line_fault.LineFault.{LineFault}
-use Rattle.rh_line.specs.declared.line_fault.LineFault.TheVariants.{Window, Over}
-use Rattle.rh_line.specs.declared.which.Which.{Which}
-use Rattle.rh_line.specs.declared.which.Which.TheVariants.{Current, Next}
-use Rattle.rh_shell.specs.declared.answers.Count.{Count}
-use Rattle.rh_shell.specs.declared.answers.Refused.{Refused}
 use Rattle.rh_shell.specs.declared.answers.Refused.TheVariants as refused
-use Rattle.rh_shell.specs.declared.due.Due.{Due}
-use Rattle.rh_shell.specs.declared.due.Origin.TheVariants.{Forwarded}
 use Rattle.rh_shell.specs.Waiting as waiting
-use Rattle.rh_inproxy.specs.declared.opening.TheConstants.{GREATEST_LENGTHS, KEEPALIVE}
-use Rattle.rh_inproxy.specs.declared.state.ClientLeg.{ClientLeg}
-use Rattle.rh_inproxy.specs.declared.state.Entry.TheVariants.{Connects, Replaces}
-use Rattle.rh_inproxy.specs.declared.state.InProxyConfig.{InProxyConfig}
-use Rattle.rh_inproxy.specs.declared.state.Joining.TheVariants.{TellsServer, Told, Follows}
-use Rattle.rh_inproxy.specs.declared.state.Opener.{Opener}
-use Rattle.rh_inproxy.specs.declared.state.Opening.{Opening}
-use Rattle.rh_inproxy.specs.declared.state.Opening.TheVariants.{AwaitsClient, AwaitsPacket, WantsServer, Announces, Announced}
-use Rattle.rh_inproxy.specs.declared.state.Successor.{Successor}
-use Rattle.rh_inproxy.specs.declared.state.Successor.TheVariants.{Absent, Up, Joined}
-use Rattle.rh_inproxy.specs.Acknowledging.{forward_by, forwarded, on_ack}
-use Rattle.rh_inproxy.specs.Answers.{Done, taken, refuse, unexpected}
-use Rattle.rh_inproxy.specs.Ending.{is_newest, is_succeeded, mark, on_end_a1, settled}
-use Rattle.rh_inproxy.specs.InReplacement.{is_newcomer, joined, join, on_later_in_r1_a1, on_in_r1_a5, on_in_r1_b1, on_in_r1_b2, finished, finish_by, handed_over, hand_over}
 use Rattle.rh_inproxy.specs.Machine as machine
-use Rattle.rh_inproxy.specs.Machine.{pdu, packet, on_channel, on_channel_by, on_ci, on_is}
-use Rattle.rh_inproxy.specs.Opening.{accepted, accepts, accepts_later, awaits_packet, connected, drawn, head, is_absent, is_first, kept_for, may_accept, on_conn_b3, on_first_in_r1_a1, opened, opener, opener_of, up, wants}
 use Rattle.rh_inproxy.specs.Passing as passing
-use Rattle.rh_inproxy.specs.State.{InProxy, channel_of, has_a5, has_come, has_opened, is_client_leg, is_joined, is_server_leg, next_of, same_cookie}
-use Rattle.rh_inproxy.specs.Time.{on_keep_alive, ping}
-use Rattle.law_moves.specs.Moves.{OnLeg}
-use Rattle.law_moves.specs.Wires.{of_leg}
-use Rattle.law_moves.specs.Passages.Passing.{BeginsIn}
-use Rattle.law_role_inproxy.specs.Putting.Puts.{CameOn, HasPdu, ci}
-use Rattle.law_peers_room.proofs.ServerRoom.Channels.{seen, Same, told, IsUsedLeg, IsIdle, IsLater, IsBehind, MayWait, Known, Moves, same_moves, moves_on, settles}
+use Rattle.law_moves.proofs.Vocabulary.{by_test, same_number, Cookie, Named, Incoming, Leg, LineFault, Window, Over, Which, Current, Next, Count, Refused, Due, Forwarded, OnLeg, of_leg, BeginsIn}
+use Rattle.law_role_inproxy.proofs.Vocabulary.{GREATEST_LENGTHS, KEEPALIVE, ClientLeg, Connects, Replaces, InProxyConfig, TellsServer, Told, Follows, Opener, Opening, AwaitsClient, AwaitsPacket, WantsServer, Announces, Announced, Successor, Absent, Up, Joined, forward_by, forwarded, on_ack, Done, taken, refuse, unexpected, is_newest, mark, on_end_a1, settled, is_newcomer, joined, join, on_later_in_r1_a1, on_in_r1_a5, on_in_r1_b1, on_in_r1_b2, finished, finish_by, handed_over}
+use Rattle.law_role_inproxy.proofs.Vocabulary.{hand_over, pdu, packet, on_channel, on_channel_by, on_ci, on_is, accepted, accepts, accepts_later, awaits_packet, connected, drawn, head, is_absent, is_first, kept_for, may_accept, on_conn_b3, on_first_in_r1_a1, opened, opener, opener_of, up, wants, InProxy, channel_of, has_a5, has_come, has_opened, is_client_leg, is_joined, is_server_leg, next_of, same_cookie, on_keep_alive, ping, CameOn, HasPdu, ci}
+use Rattle.law_role_inproxy.proofs.Putting.Tests.{absent_alone}
+use Rattle.law_role_inproxy.proofs.Putting.Sounds.{told}
+use Rattle.law_peers_room.proofs.ServerRoom.Channels.{seen, Same, IsUsedLeg, IsIdle, IsLater, IsBehind, MayWait, Known, Moves, same_moves, moves_on, settles}
 use Rattle.law_peers_room.proofs.ServerRoom.Dues.{Joins, forwarded_joins}
 
 -- ---- what leaves the channels alone
@@ -101,12 +66,6 @@ same_handed : (s : InProxy) (cookie : Cookie) → Same s (handed_over s cookie).
 same_handed s cookie = refl
 
 -- ---- a leg comes up
-
-absent_alone : (z : Successor) → is_absent z ≡ true
-    → (is_joined z ≡ false) × (is_succeeded z ≡ false)
-absent_alone Absent e = (refl, refl)
-absent_alone (Up number) e = absurd cc
-absent_alone (Joined leg stage) e = absurd cc
 
 first_two : (a b c d : Bool) → a && b && c && d ≡ true → (a ≡ true) × (b ≡ true)
 first_two false b c d e = absurd cc

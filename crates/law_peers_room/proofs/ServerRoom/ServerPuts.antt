@@ -1,38 +1,18 @@
 -- what a server puts on os legs keeps what is known of an acknowledgement to the client that waits
-use Rattle.std.proofs.Common.{◌≡◌, inl, inr, ℕ, ◌+◌, ◌≤◌, ◌==◌, ◌&&◌, Bool, true, false, true≢false, if◌then◌else◌, nat_lt, List, [], ◌∷◌, Some, None, refl, sym, ap, ◌∙◌, subst, arith}
-use Rattle.std.proofs.lemmas.Bool.{and_parts, false≢true}
-use Rattle.std.proofs.lemmas.Bool.Decides.{nat_tests}
-use Rattle.std.specs.Prelude.{IfSome, find, slice_get, slice_set}
-use Rattle.std.specs.Str.{bytes_eq}
-use Rattle.std.specs.declared.option.Option.{Option}
-use Rattle.rh_keep.specs.Meters.{Meter, after_put, fits, may_put}
-use Rattle.law_order.proofs.ByNumber.{by_test, same_number, test_same}
-use Rattle.rh_rts.specs.declared.command.Cookie.{Cookie}
-use Rattle.rh_sig.specs.declared.named.Named.{Named}
+use Rattle.law_order.proofs.Vocabulary.{◌≡◌, inl, inr, ℕ, ◌+◌, ◌≤◌, ◌==◌, ◌&&◌, Bool, true, false, true≢false, if◌then◌else◌, nat_lt, List, [], Some, None, refl, sym, ap, ◌∙◌, subst, arith, and_parts, false≢true, nat_tests, IfSome, find, slice_get, slice_set, bytes_eq, Option}
 use Rattle.rh_sig.specs.declared.named.Named.TheVariants as named
-use Rattle.rh_line.specs.Queue.{front_length}
-use Rattle.rh_shell.specs.declared.due.Due.{Due}
-use Rattle.rh_shell.specs.NearEnds.{first_of}
-use Rattle.rh_shell.specs.Rules.{Message, Text, Pdu, Packet}
-use Rattle.rh_shell.specs.Waiting.{Waiting, taken, with_due, without_first}
 use Rattle.rh_server.specs.declared.state.EndMark.TheVariants as end_mark
-use Rattle.rh_server.specs.declared.state.Greeting.TheVariants.{Put}
-use Rattle.rh_server.specs.declared.state.OutLeg.{OutLeg}
-use Rattle.rh_server.specs.declared.state.Replacement.{Replacement}
 use Rattle.rh_server.specs.declared.state.Replacement.TheVariants as replacement
-use Rattle.rh_server.specs.declared.state.Stage.{Stage}
 use Rattle.rh_server.specs.declared.state.Stage.TheVariants as stage
-use Rattle.rh_server.specs.OutLegs.{counted, may_go, went}
-use Rattle.rh_server.specs.OutLines.{Gate, length_of, lets, lets_packet}
-use Rattle.rh_server.specs.OutReplacement.{handed, last_number}
-use Rattle.rh_server.specs.States.{Server, is_confirmed, is_due, is_open, same_cookie}
-use Rattle.rh_server.specs.Putting.{Pick, or_else, counts, counts_at, gate, gate_at, is_end_due, may_end_at, may_go_at, next_out, out_greeting_at, pdu_by, put_end, put_open, put_out_at, put_out_greeting, put_pdu, put_pdu_or_end, put_waiting, settled_pick, waiting_at, waiting_by, was_put, went_at}
-use Rattle.law_peers_room.specs.ServerRoom.Overtaking.{is_ack_for}
-use Rattle.law_peers_room.proofs.ServerRoom.Ahead as ahead
-use Rattle.law_peers_room.proofs.ServerRoom.Legs.{each_got}
+use Rattle.law_moves.proofs.Vocabulary.{Meter, after_put, fits, may_put, by_test, same_number, test_same, Cookie, Named, front_length, Due, first_of, Message, Text, Pdu, Packet, with_due, without_first}
+use Rattle.law_role_server.proofs.Vocabulary.{Put, OutLeg, Replacement, Stage, counted, went, Gate, length_of, lets, lets_packet, handed, last_number, Server, is_confirmed, is_due, is_open, same_cookie, Pick, or_else, counts, counts_at, gate, gate_at, is_end_due, may_end_at, may_go_at, next_out, out_greeting_at, pdu_by, put_end, put_open, put_out_at, put_out_greeting, put_pdu, put_pdu_or_end, put_waiting, settled_pick, waiting_at, waiting_by, was_put, went_at}
+use Rattle.law_role_server.proofs.Counted.Dues.{found_may}
+use Rattle.law_role_server.proofs.Each.{each_got}
 use Rattle.law_peers_room.proofs.ServerRoom.Meters.{Seen, is_begun, is_answered, seen, IsBase, Base, Kept, Fine, dues_base, dues_kept, leg_fine}
 use Rattle.law_peers_room.proofs.ServerRoom.Counted.{before_kept, counted_base, handed_fine, refused_kept}
 use Rattle.law_peers_room.proofs.ServerRoom.Serving.{settled_serves}
+use Rattle.law_peers_room.proofs.ServerRoom.Ahead as ahead
+use Rattle.law_peers_room.specs.ServerRoom.Overtaking.{is_ack_for}
 
 -- ---- tests
 
@@ -58,17 +38,6 @@ leaves_so meter len e = grind (arith, nat_tests)
 
 pub short_so : (meter : Meter) → may_put meter 56 ≡ false → meter.length ≤ meter.count + 311
 short_so meter e = grind (arith, nat_tests)
-
-pub none_so : {X : Type 0} (b : Bool) (x : X) → (if b then Some x else None) ≡ None → b ≡ false
-none_so true x e = absurd cc
-none_so false x e = refl
-
-pub found_may : (may_go : Due → Bool) (dues : List Due)
-    → IfSome (find may_go dues) (λ (due : Due). may_go due ≡ true)
-found_may may_go [] = tt
-found_may may_go (due ∷ dues) =
-    by_test (λ o. IfSome o (λ (d : Due). may_go d ≡ true)) (may_go due) (Some due)
-    (find may_go dues) (λ e. e) (λ e. found_may may_go dues)
 
 -- what a gate lets go that asks the meter
 pub record IsLet (g : Gate) (packet : Named) : Type 0 where
@@ -256,9 +225,6 @@ module _ (channel : Cookie) where
       }
 
       -- ---- what waits
-
-      left : Waiting
-      left = (taken (lets (gate s leg)) s.waiting).0
 
       abbrev others : List Due
       others = without_first (lets (gate s leg)) s.waiting.due

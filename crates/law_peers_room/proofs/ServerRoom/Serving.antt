@@ -1,65 +1,26 @@
 -- what comes to a server, and what else happens there but puts, keeps what is known of an
 -- acknowledgement to the client that waits
-use Rattle.std.proofs.Common.{◌≡◌, ℕ, ◌+◌, ◌≤◌, ◌==◌, ◌&&◌, ◌||◌, Bool, true, false, true≢false, nat_lt, not, if◌then◌else◌, List, Some, None, Ok, Err, refl, sym, ap, ◌∙◌, subst, rules, arith}
-use Rattle.std.proofs.lemmas.Bool.{and_parts}
-use Rattle.std.proofs.lemmas.List.Quantifiers.{position-Some}
-use Rattle.std.proofs.lemmas.Option.{get_or_from_slice_get}
-use Rattle.std.specs.Prelude.{IfSome, slice_get, slice_set}
-use Rattle.std.specs.Str.{bytes_eq}
-use Rattle.std.specs.List.{list_any}
-use Rattle.std.specs.declared.option.Option.{Option}
-use Rattle.std.specs.declared.result.Result.{Result}
 use Rattle.rh_keep.specs.Meters.{started}
-use Rattle.law_order.proofs.ByNumber.{by_test, same_number}
-use Rattle.rh_rts.specs.declared.command.Cookie.{Cookie}
-use Rattle.rh_sig.specs.declared.named.Named.{Named}
+use Rattle.law_order.proofs.Vocabulary.{◌≡◌, ℕ, ◌+◌, ◌≤◌, ◌==◌, ◌&&◌, ◌||◌, Bool, true, false, true≢false, nat_lt, not, if◌then◌else◌, List, Some, None, Ok, Err, refl, sym, ap, ◌∙◌, subst, rules, arith, and_parts, IfSome, slice_get, slice_set, bytes_eq, list_any, Option, Result}
 use Rattle.rh_sig.specs.declared.named.Named.TheVariants as named
-use Rattle.rh_line.specs.declared.leg.Leg.{Leg}
-use Rattle.rh_line.specs.declared.leg.LegKind.{LegKind}
-use Rattle.rh_line.specs.declared.leg.LegKind.TheVariants.{ClientOut, OutServer, ClientIn, InServer}
-use Rattle.rh_line.specs.declared.which.Which.{Which}
-use Rattle.rh_line.specs.declared.which.Which.TheVariants.{Current, Next}
-use Rattle.rh_line.specs.Lines.{after_finish, after_take}
-use Rattle.rh_shell.specs.declared.answers.Count.{Count}
 use Rattle.rh_shell.specs.declared.answers.Refused.TheVariants as refused
-use Rattle.rh_shell.specs.declared.due.Due.{Due}
-use Rattle.rh_shell.specs.declared.due.Origin.TheVariants.{Forwarded}
-use Rattle.rh_shell.specs.declared.end_role.RecycleRefused.{RecycleRefused}
-use Rattle.rh_shell.specs.Waiting.{Waiting, added, own, pushed, takes, to_forward, with_due, merged, forwarded, without_first, Key, key_of, are_one}
 use Rattle.rh_shell.specs.Waiting as waits
-use Rattle.rh_server.specs.declared.state.InLeg.{InLeg}
-use Rattle.rh_server.specs.declared.state.InStage.{InStage}
 use Rattle.rh_server.specs.declared.state.InStage.TheVariants as in_stage
-use Rattle.rh_server.specs.declared.state.OutLeg.{OutLeg}
-use Rattle.rh_server.specs.declared.state.Replacement.{Replacement}
 use Rattle.rh_server.specs.declared.state.Replacement.TheVariants as replacement
-use Rattle.rh_server.specs.declared.state.Stage.{Stage}
 use Rattle.rh_server.specs.declared.state.Stage.TheVariants as stage
 use Rattle.rh_server.specs.declared.out_line.Kind.TheVariants as kinds
-use Rattle.rh_server.specs.OutLines.{is_ack_of}
 use Rattle.rh_server.specs.OutLines as lines
-use Rattle.rh_server.specs.OutLegs.{acked}
-use Rattle.rh_server.specs.declared.state.Edge.TheVariants.{Shut}
-use Rattle.rh_server.specs.States.{Server, is_fresh, in_leg, out_at, out_place, out_cookie, same_cookie, with_in, without_in, without_out, removed_at}
-use Rattle.rh_server.specs.Opening.{Done, took, refuse, unexpected, is_first, opens, first_in, with_first_in, first_out_at, with_first_out, out_leg_up, may_up_by, has_room, up, up_by, conn_a2_at, on_conn_a2, conn_b2_at, on_conn_b2}
-use Rattle.rh_server.specs.Acknowledging.{channel_at, channel_leg, forward_by, forwards, forwards_to, forwards_writing, on_ack_to, out_server, acked_at, acked_cookie, acked_in, on_ack, on_ping_traffic}
-use Rattle.rh_server.specs.InReplacement.{announced, becomes_current, first_waiting, hands_over, has_fresh_below, in_r1_a2_at, in_r1_a2_by, in_r2_a2_on, leaves_by, moved_if, next_opened, on_in_r1_a2, on_in_r1_a6, on_in_r2_a2, opens_leg, opens_next, take}
-use Rattle.rh_server.specs.OutReplacement.{answered_by, answered_on, asks, confirms, is_under_way, last_number, may_answer, on_out_r1_a4, on_out_r1_a8, out_r1_a4_at, out_r1_a4_by, out_r1_a8_at, recycle, wishes}
-use Rattle.rh_server.specs.Ending.{completed, drawn_by, give, in_is_drawn, is_complete, lost_in, mark_by, on_end_a2, settled, with_ack_dropped, without_ack_of}
-use Rattle.rh_server.specs.Servers.{on_is, on_os, packet_by, pdu}
-use Rattle.law_moves.proofs.Passages.Messages.{each_so}
-use Rattle.law_peers_room.specs.ServerRoom.Overtaking.{IsLong}
-use Rattle.law_peers_room.proofs.ServerRoom.Ahead as ahead
-use Rattle.law_peers_room.proofs.ServerRoom.Legs.{each_got, others_so, sorted_set}
+use Rattle.law_moves.proofs.Vocabulary.{by_test, same_number, Cookie, Named, Leg, LegKind, ClientOut, OutServer, ClientIn, InServer, Which, Current, Next, after_finish, after_take, Count, Due, Forwarded, RecycleRefused, Waiting, added, own, pushed, takes, to_forward, with_due, merged, without_first, Key, key_of, are_one}
+use Rattle.law_moves.proofs.Lemmas.{each_so}
+use Rattle.law_role_server.proofs.Vocabulary.{InLeg, InStage, OutLeg, Replacement, Stage, is_ack_of, acked, Shut, Server, is_fresh, in_leg, out_at, out_place, out_cookie, same_cookie, with_in, without_in, without_out, removed_at, Done, took, refuse, unexpected, is_first, opens, first_in, with_first_in, first_out_at, with_first_out, out_leg_up, may_up_by, has_room, up, up_by, conn_a2_at, on_conn_a2, conn_b2_at, on_conn_b2, channel_at, channel_leg, forward_by, forwards}
+use Rattle.law_role_server.proofs.Vocabulary.{forwards_to, forwards_writing, on_ack_to, out_server, acked_at, acked_cookie, acked_in, on_ack, on_ping_traffic, announced, becomes_current, first_waiting, hands_over, has_fresh_below, in_r1_a2_at, in_r1_a2_by, in_r2_a2_on, leaves_by, moved_if, next_opened, on_in_r1_a2, on_in_r1_a6, on_in_r2_a2, opens_leg, opens_next, take, answered_by, answered_on, asks, confirms, is_under_way, last_number, may_answer, on_out_r1_a4, on_out_r1_a8}
+use Rattle.law_role_server.proofs.Vocabulary.{out_r1_a4_at, out_r1_a4_by, out_r1_a8_at, recycle, wishes, completed, drawn_by, give, in_is_drawn, is_complete, lost_in, mark_by, on_end_a2, settled, with_ack_dropped, without_ack_of, on_is, on_os, packet_by, pdu}
+use Rattle.law_role_server.proofs.Gives.{found as number_found}
+use Rattle.law_role_server.proofs.Each.{each_got}
+use Rattle.law_peers_room.proofs.ServerRoom.Legs.{others_so, sorted_set}
 use Rattle.law_peers_room.proofs.ServerRoom.Meters.{Seen, Phase, InTurn, IsRefused, HasRoom, is_begun, is_answered, seen, IsBase, IsTotal, IsKept, Kept, Fine, dues_fine, leg_fine, new_fine, removed_fine, stage_fine}
-
--- the os leg that is found has the number
-pub number_found : (n : ℕ) (legs : List OutLeg) (place : ℕ) (leg : OutLeg)
-    → out_place n legs ≡ Some place → slice_get legs place ≡ Some leg → leg.number ≡ n
-number_found n legs place leg e at =
-    let found = position-Some (λ (one : OutLeg). one.number == n) legs place leg e in
-    same_number leg.number n (ap (λ (one : OutLeg). one.number == n)
-    (sym (get_or_from_slice_get legs place leg leg at)) ∙ found.1)
+use Rattle.law_peers_room.proofs.ServerRoom.Ahead as ahead
+use Rattle.law_peers_room.specs.ServerRoom.Overtaking.{IsLong}
 
 module _ (channel : Cookie) (least budget : ℕ) where
   -- ---- steps of a view

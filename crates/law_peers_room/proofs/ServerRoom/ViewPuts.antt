@@ -1,32 +1,13 @@
 -- what a server puts on os legs, by the steps of which a put is made
-use Rattle.std.proofs.Common.{◌≡◌, ℕ, ◌+◌, ◌≤◌, ◌==◌, ◌&&◌, Bool, true, false, true≢false, nat_lt, List, Some, None, refl, sym, ap, ◌∙◌, subst}
-use Rattle.std.proofs.lemmas.Bool.{and_parts, false≢true}
-use Rattle.std.specs.Prelude.{IfSome, find, slice_get, slice_set}
-use Rattle.std.specs.declared.option.Option.{Option}
-use Rattle.rh_keep.specs.Meters.{after_put, fits, may_put}
-use Rattle.law_order.proofs.ByNumber.{by_test, same_number, test_same}
-use Rattle.rh_rts.specs.declared.command.Cookie.{Cookie}
-use Rattle.rh_sig.specs.declared.named.Named.{Named}
+use Rattle.law_order.proofs.Vocabulary.{◌≡◌, ℕ, ◌+◌, ◌≤◌, ◌==◌, ◌&&◌, Bool, true, false, true≢false, nat_lt, List, Some, None, refl, sym, ap, ◌∙◌, subst, and_parts, false≢true, IfSome, find, slice_get, slice_set, Option}
 use Rattle.rh_sig.specs.declared.named.Named.TheVariants as named
-use Rattle.rh_line.specs.Queue.{front_length}
-use Rattle.rh_shell.specs.declared.due.Due.{Due}
-use Rattle.rh_shell.specs.Hearing.{greeting as greeting_text}
-use Rattle.rh_shell.specs.NearEnds.{first_of}
-use Rattle.rh_shell.specs.Rules.{Message, Text, Pdu, Packet}
-use Rattle.rh_shell.specs.Waiting.{with_due, without_first}
 use Rattle.rh_server.specs.declared.state.EndMark.TheVariants as end_mark
-use Rattle.rh_server.specs.declared.state.Greeting.TheVariants.{Put}
-use Rattle.rh_server.specs.declared.state.OutLeg.{OutLeg}
 use Rattle.rh_server.specs.declared.state.Replacement.TheVariants as replacement
-use Rattle.rh_server.specs.OutLegs.{counted, went}
-use Rattle.rh_server.specs.OutLines.{length_of, lets, lets_packet}
-use Rattle.rh_server.specs.OutReplacement.{handed, last_number}
-use Rattle.rh_server.specs.States.{Server, is_confirmed, is_due, is_open, out_place}
-use Rattle.rh_server.specs.Ending.{settled}
-use Rattle.rh_server.specs.Putting.{Pick, or_else, counts, counts_at, gate, gate_at, is_end_due, may_end_at, may_go_at, next_out, out_greeting_at, pdu_by, put_end, put_open, put_out_at, put_out_greeting, put_pdu, put_pdu_or_end, put_waiting, settled_pick, waiting_at, waiting_by, was_put, went_at}
-use Rattle.law_role_server.specs.Counted.Counting.{is_out_r1_a9}
-use Rattle.law_peers_room.proofs.ServerRoom.ServerPuts.{IsLet, fits_so, found_may, leaves_so, let_of}
-use Rattle.law_peers_room.proofs.ServerRoom.Serving.{number_found}
+use Rattle.law_moves.proofs.Vocabulary.{after_put, fits, may_put, by_test, same_number, test_same, Cookie, Named, front_length, Due, greeting as greeting_text, first_of, Message, Text, Pdu, Packet, with_due, without_first}
+use Rattle.law_role_server.proofs.Vocabulary.{Put, OutLeg, counted, went, length_of, lets, lets_packet, handed, last_number, Server, is_confirmed, is_due, is_open, out_place, settled, Pick, or_else, counts, counts_at, gate, gate_at, is_end_due, may_end_at, may_go_at, next_out, out_greeting_at, pdu_by, put_end, put_open, put_out_at, put_out_greeting, put_pdu, put_pdu_or_end, put_waiting, settled_pick, waiting_at, waiting_by, was_put, went_at, is_out_r1_a9}
+use Rattle.law_role_server.proofs.Counted.Dues.{found_may}
+use Rattle.law_role_server.proofs.Gives.{found as number_found}
+use Rattle.law_peers_room.proofs.ServerRoom.ServerPuts.{IsLet, fits_so, leaves_so, let_of}
 use Rattle.law_peers_room.proofs.ServerRoom.Views.{View, view}
 
 -- ---- the steps

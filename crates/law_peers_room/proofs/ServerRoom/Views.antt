@@ -1,22 +1,13 @@
 -- what of a server its OUT channels and the packets that wait for them are, and the steps of which
 -- all that happens there is made, but for puts
-use Rattle.std.proofs.Common.{◌≡◌, ℕ, ◌+◌, ◌≤◌, Bool, true, false, List, [], ◌∷◌, ◌++◌, Some}
-use Rattle.std.specs.Prelude.{slice_get, slice_set, remove}
 use Rattle.rh_keep.specs.Meters.{started}
-use Rattle.rh_rts.specs.declared.command.Cookie.{Cookie}
-use Rattle.rh_sig.specs.declared.named.Named.{Named}
+use Rattle.law_order.proofs.Vocabulary.{◌≡◌, ℕ, ◌+◌, ◌≤◌, Bool, true, false, List, [], ◌∷◌, ◌++◌, Some, slice_get, slice_set, remove}
 use Rattle.rh_sig.specs.declared.named.Named.TheVariants as named
-use Rattle.rh_shell.specs.declared.due.Due.{Due}
-use Rattle.rh_shell.specs.Waiting.{Key, key_of, merged, own, without_first}
-use Rattle.rh_server.specs.declared.state.OutLeg.{OutLeg}
-use Rattle.rh_server.specs.declared.state.Replacement.{Replacement}
 use Rattle.rh_server.specs.declared.state.Replacement.TheVariants as replacement
-use Rattle.rh_server.specs.declared.state.Stage.{Stage}
 use Rattle.rh_server.specs.declared.state.Stage.TheVariants as stage
 use Rattle.rh_server.specs.declared.out_line.Kind.TheVariants as kind
-use Rattle.rh_server.specs.OutLines.{is_ack_of, is_own}
-use Rattle.rh_server.specs.States.{Server, is_open, is_steady}
-use Rattle.law_role_server.specs.Counted.Counting.{is_out_r1_a1}
+use Rattle.law_moves.proofs.Vocabulary.{Cookie, Named, Due, Key, key_of, merged, own, without_first}
+use Rattle.law_role_server.proofs.Vocabulary.{OutLeg, Replacement, Stage, is_ack_of, is_own, Server, is_open, is_steady, is_out_r1_a1}
 use Rattle.law_peers_room.proofs.ServerRoom.Meters.{is_answered, is_begun}
 
 pub record View : Type 0 where

@@ -1,37 +1,11 @@
 -- whatever happens to a client, its OUT channels have numbers above 0, and nothing comes on a leg
 -- of number 0
-use Rattle.std.proofs.Common.{◌≡◌, ℕ, ◌<◌, ◌==◌, ◌&&◌, ◌||◌, not, Bool, true, false, if◌then◌else◌, is_ok, List, [], ◌∷◌, ◌++◌, Some, None, Ok, Err, arith, rules, refl, sym, ◌∙◌, subst}
-use Rattle.std.proofs.lemmas.Bool.{true≢false}
-use Rattle.std.proofs.lemmas.Bool.Decides.{nat_tests}
-use Rattle.std.specs.declared.option.Option.{Option}
-use Rattle.law_order.proofs.ByNumber.{by_test}
-use Rattle.rh_rts.specs.declared.command.Cookie.{Cookie}
-use Rattle.rh_sig.specs.declared.named.Named.{Named}
-use Rattle.rh_http.specs.declared.config.ClientConfig.{ClientConfig}
-use Rattle.rh_line.specs.Lines.{after_take}
-use Rattle.rh_line.specs.declared.leg.Leg.{Leg}
-use Rattle.rh_line.specs.declared.leg.LegKind.{LegKind}
-use Rattle.rh_line.specs.declared.leg.LegKind.TheVariants.{ClientOut, OutServer, ClientIn, InServer}
-use Rattle.rh_line.specs.declared.which.Which.{Which}
-use Rattle.rh_line.specs.declared.which.Which.TheVariants.{Current, Next}
-use Rattle.rh_shell.specs.Rules.{Message, Pdu, Packet}
-use Rattle.rh_shell.specs.Shells.{same_leg}
-use Rattle.rh_shell.specs.declared.answers.Count.{Count}
-use Rattle.rh_client.specs.declared.state.ClientRole.{ClientRole}
-use Rattle.rh_client.specs.State.{Done, co, unexpected, is_open, is_current, is_out_successor, is_writing, is_in_successor}
-use Rattle.rh_client.specs.Replacements.{is_out}
-use Rattle.rh_client.specs.Acknowledging.{is_switched, pdu_on, pdu_channel}
-use Rattle.rh_client.specs.Opening.{up_by}
-use Rattle.rh_client.specs.Ending.{Given, give, take, drawn_by}
-use Rattle.rh_client.specs.Time.{ping_by}
-use Rattle.rh_client.specs.Putting.{Pick, put, put_by}
-use Rattle.rh_client.specs.Client.{rules as client_rules, acts, packet, on_packet, pdu, pdu_by}
-use Rattle.law_moves.specs.Wires.{of_leg}
-use Rattle.law_moves.specs.Moves.{Passage, EndPassage, Move, EndMove, Up, HeadCame, PduCame, PacketCame, Puts, IsDrawn, Marks, Pings, Moves, Gives, Takes, Closes, Recycles, taken_by, given_by, with_first, end_now_at, moved, end_moved, all_end_moved}
+use Rattle.law_order.proofs.Vocabulary.{◌≡◌, ℕ, ◌<◌, ◌==◌, ◌&&◌, ◌||◌, not, Bool, true, false, if◌then◌else◌, is_ok, List, [], ◌∷◌, ◌++◌, Some, None, Ok, Err, arith, rules, refl, sym, ◌∙◌, subst, true≢false, nat_tests, Option}
+use Rattle.law_moves.proofs.Vocabulary.{by_test, Cookie, Named, ClientConfig, after_take, Leg, LegKind, ClientOut, OutServer, ClientIn, InServer, Which, Current, Next, Message, Pdu, Packet, same_leg, Count, of_leg, Passage, EndPassage, Move, EndMove, Up, HeadCame, PduCame, PacketCame, Puts, IsDrawn, Marks, Pings, Moves, Gives, Takes, Closes, Recycles, taken_by, given_by, with_first, end_now_at, moved, end_moved, all_end_moved}
+use Rattle.law_moves.proofs.Lemmas.{leg_is, other_more as of_other}
 use Rattle.law_moves.specs.Moves as shell
-use Rattle.law_role_client.specs.Order.{client_started, client_moved}
-use Rattle.law_node_streams.proofs.Streams.Ends.{leg_is}
-use Rattle.law_node_streams.proofs.Streams.LegLogs.{of_other}
+use Rattle.law_role_client.proofs.Vocabulary.{ClientRole, Done, co, unexpected, is_open, is_current, is_out_successor, is_writing, is_in_successor, is_out, is_switched, pdu_on, pdu_channel, up_by, Given, give, take, drawn_by, ping_by, Pick, put, put_by, rules as client_rules, acts, packet, on_packet, pdu, pdu_by, client_started, client_moved}
+use Rattle.law_role_server.proofs.TakesKept.{coming_of as neither}
 use Rattle.law_peers_routes.proofs.Downwards.ClientNumbers.{Above, PickAbove, same_above, recycle_above, passed_above, packet_above, put_by_above, settled_pick_above}
 
 -- ---- what is refused on a leg of number 0
@@ -64,11 +38,6 @@ pdu_refused s count bytes a =
     subst (λ (w : Option Which). is_ok (pdu_on s bytes w).1 ≡ false)
     (sym (no_channel (is_open s.phase) (is_current s 0) (is_switched s) (is_out_successor s 0)
     (is_none s a).0 (is_none s a).1)) refl
-
-neither : (c x : Bool) → c ≡ false → x ≡ false → c || x ≡ true → ⊥
-neither true x a b e = absurd cc
-neither false true a b e = absurd cc
-neither false false a b e = absurd cc
 
 packet_refused : (s : ClientRole) (count : Count) (m : Named) → Above s
     → is_ok (packet s (co 0) count m).1 ≡ false

@@ -1,46 +1,14 @@
 -- the numbers of a client's OUT channels are above 0, and so nothing comes on a leg of number 0
-use Rattle.std.proofs.Common.{◌≡◌, ℕ, ◌+◌, ◌<◌, ◌==◌, ◌&&◌, ◌||◌, not, Bool, true, false, nat_lt, if◌then◌else◌, Some, None, Ok, Err, IfSome, arith, rules, refl, sym, subst}
-use Rattle.std.specs.declared.option.Option.{Option}
-use Rattle.std.specs.declared.result.Result.{Result}
-use Rattle.rh_window.specs.declared.recv_window.Ack.{Ack}
-use Rattle.rh_keep.specs.Meters.{may_put, fits}
-use Rattle.law_order.proofs.ByNumber.{by_test}
-use Rattle.rh_rts.specs.declared.command.Cookie.{Cookie}
-use Rattle.rh_sig.specs.declared.named.Named.{Named}
+use Rattle.law_order.proofs.Vocabulary.{◌≡◌, ℕ, ◌+◌, ◌<◌, ◌==◌, ◌&&◌, ◌||◌, not, Bool, true, false, nat_lt, if◌then◌else◌, Some, None, Ok, Err, IfSome, arith, rules, refl, sym, subst, Option, Result}
 use Rattle.rh_sig.specs.declared.named.Named.TheVariants as named
-use Rattle.rh_sig.specs.declared.lengths.TheConstants.{CONN_B1_LEN, IN_R1_A1_LEN, IN_R1_A5_LEN, OUT_R1_A7_LEN, END_A1_LEN, ACK_TO_LEN, PING_LEN}
-use Rattle.rh_line.specs.Lines.{after_finish}
-use Rattle.rh_line.specs.Queue.{front_length}
-use Rattle.rh_line.specs.declared.leg.LegKind.{LegKind}
-use Rattle.rh_line.specs.declared.leg.LegKind.TheVariants.{ClientOut, OutServer, ClientIn, InServer}
-use Rattle.rh_line.specs.declared.which.Which.{Which}
-use Rattle.rh_line.specs.declared.which.Which.TheVariants.{Current, Next}
-use Rattle.rh_shell.specs.Rules.{Message, Packet}
-use Rattle.rh_shell.specs.declared.answers.Count.{Count}
 use Rattle.rh_shell.specs.declared.answers.Phase.TheVariants as phase
-use Rattle.rh_shell.specs.declared.end_role.RecycleRefused.{RecycleRefused}
-use Rattle.rh_shell.specs.declared.end_role.RecycleRefused.TheVariants.{Last}
-use Rattle.rh_client.specs.declared.channels.Opening.{Opening}
-use Rattle.rh_client.specs.declared.channels.Opening.TheVariants.{NotUp, Request, First, Second, Put}
-use Rattle.rh_client.specs.declared.channels.TheConstants.{LAST_NUMBER}
-use Rattle.rh_client.specs.declared.replacement.Replacement.{Replacement}
-use Rattle.rh_client.specs.declared.replacement.Replacement.TheVariants.{NoneUnderWay, In, Out}
 use Rattle.rh_client.specs.declared.replacement.InStage.TheVariants as in_stage
 use Rattle.rh_client.specs.declared.replacement.OutStage.TheVariants as out_stage
-use Rattle.rh_client.specs.declared.replacement.Waits.{Waits}
 use Rattle.rh_client.specs.declared.replacement.Waits.TheVariants as waits
-use Rattle.rh_client.specs.declared.state.ClientRole.{ClientRole}
-use Rattle.rh_client.specs.Channels.{unopened_in, unopened_out, is_named}
-use Rattle.rh_client.specs.Replacements.{is_out, has_out, with_out}
-use Rattle.rh_client.specs.State.{Done, taken, unexpected, is_open, is_current, is_out_successor, is_writing, is_in_successor, is_over, begin_in, begin_out, after_in, after_out}
-use Rattle.rh_client.specs.Opening.{on_conn_a3, on_conn_c2}
-use Rattle.rh_client.specs.Acknowledging.{on_ack_to, ack_named, ack_due}
-use Rattle.rh_client.specs.InReplacement.{recycle_by, wish_by, wished, wants_successor, on_in_r1_a4, on_in_r2_a4, handed_over}
-use Rattle.rh_client.specs.OutReplacement.{succeeded, ended_or, pass_by, passed, a2_by, a10_by, on_out_r1_a6}
-use Rattle.rh_client.specs.Ending.{on_end_b2}
 use Rattle.rh_client.specs.Putting as putting
-use Rattle.rh_client.specs.Putting.{Pick, or_else, due_by, put_due, ack_by, put_ack_of, put_ack, put_pdu, put_end, put_ping, put_successor_ping, put_next, put_conn_b1, put_in_r1_a1, put_writing, put_in_successor, put_in, put_current, put_out_successor, put_out, put_by, settled_or_wished, settled_pick}
-use Rattle.rh_client.specs.Client.{packet_by, on_packet}
+use Rattle.law_moves.proofs.Vocabulary.{Ack, may_put, fits, by_test, Cookie, Named, CONN_B1_LEN, IN_R1_A1_LEN, IN_R1_A5_LEN, OUT_R1_A7_LEN, END_A1_LEN, ACK_TO_LEN, PING_LEN, after_finish, front_length, LegKind, ClientOut, OutServer, ClientIn, InServer, Which, Current, Next, Message, Packet, Count, RecycleRefused, Last}
+use Rattle.law_role_client.proofs.Vocabulary.{Opening, NotUp, Request, First, Second, Put, LAST_NUMBER, Replacement, NoneUnderWay, In, Out, Waits, ClientRole, unopened_in, unopened_out, is_named, is_out, has_out, with_out, Done, taken, unexpected, is_open, is_current, is_out_successor, is_writing, is_in_successor, is_over, begin_in, begin_out, after_in, after_out, on_conn_a3, on_conn_c2, on_ack_to, ack_named, ack_due, recycle_by, wish_by, wished, wants_successor, on_in_r1_a4}
+use Rattle.law_role_client.proofs.Vocabulary.{on_in_r2_a4, handed_over, succeeded, ended_or, pass_by, passed, a2_by, a10_by, on_out_r1_a6, on_end_b2, Pick, or_else, due_by, put_due, ack_by, put_ack_of, put_ack, put_pdu, put_end, put_ping, put_successor_ping, put_next, put_conn_b1, put_in_r1_a1, put_writing, put_in_successor, put_in, put_current, put_out_successor, put_out, put_by, settled_or_wished, settled_pick, packet_by, on_packet}
 
 -- ---- what numbers are told by
 

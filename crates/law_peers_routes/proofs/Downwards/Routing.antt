@@ -1,30 +1,14 @@
 -- the parts of a route downwards: which proxy reads which channel, and what is on no leg
-use Rattle.std.proofs.Common.{◌≡◌, ℕ, suc, ◌<◌, ◌≤◌, true, false, if◌then◌else◌, List, [], arith, refl, sym, ap, ◌∙◌, subst, ◌⊎◌, inl, inr}
-use Rattle.std.proofs.lemmas.Bool.{true≢false}
-use Rattle.std.proofs.lemmas.Bool.Decides.{nat_tests}
-use mathlib.Core.List.{IsPrefix}
-use Rattle.rh_http.specs.declared.config.ClientConfig.{ClientConfig}
-use Rattle.law_order.proofs.ByNumber.{by_test}
-use Rattle.law_order.proofs.ItemLists.{nil_front}
-use Rattle.law_order.specs.Items.{Item}
-use Rattle.law_order.specs.Logs.{IsLeg, seen}
-use Rattle.law_order.specs.Passing.{PasserLaw}
-use Rattle.law_order.specs.Routes.{IsNumbered}
-use Rattle.law_moves.specs.Moves.{Passage, EndPassage, started}
-use Rattle.law_moves.specs.Moving.{Event, EndEvent}
-use Rattle.law_moves.specs.Wires.{of_leg}
-use Rattle.law_moves.specs.ReadBack.Reading.{messages_read}
-use Rattle.rh_client.specs.declared.state.ClientRole.{ClientRole}
+use Rattle.law_order.proofs.Vocabulary.{◌≡◌, ℕ, suc, ◌<◌, ◌≤◌, true, false, if◌then◌else◌, List, [], arith, refl, sym, ap, ◌∙◌, subst, ◌⊎◌, inl, inr, true≢false, nat_tests, IsPrefix, Item, IsLeg, seen, PasserLaw, IsNumbered}
+use Rattle.law_moves.proofs.Vocabulary.{by_test, nil_front, ClientConfig, Passage, EndPassage, started, Event, EndEvent, of_leg, messages_read}
+use Rattle.law_role_client.proofs.Vocabulary.{ClientRole, has_leg, down_items}
 use Rattle.law_role_client.specs.Order as client_order
-use Rattle.law_role_client.specs.Order.{has_leg, down_items}
-use Rattle.rh_outproxy.specs.declared.state.OutProxyConfig.{OutProxyConfig}
-use Rattle.rh_outproxy.specs.OutProxy.{OutProxy, new_proxy}
-use Rattle.law_role_outproxy.specs.Order.{KeepsOrder, passer_of, came_log, put_items, server_leg, from_server}
+use Rattle.law_role_server.proofs.Vocabulary.{sent}
+use Rattle.law_role_outproxy.proofs.Vocabulary.{OutProxyConfig, OutProxy, new_proxy, KeepsOrder, passer_of, came_log, put_items, server_leg, from_server}
 use Rattle.law_role_outproxy.proofs.OrderKept.{steps, starts}
-use Rattle.law_role_server.specs.Order.{sent}
-use Rattle.law_peers_routes.specs.Downwards.{GoesDown, proxy_reads, route_of}
 use Rattle.law_peers_routes.proofs.Downwards.ClientLegs.{IsQuiet, client_quiet}
 use Rattle.law_peers_routes.proofs.Downwards.Sides.{client_came, proxy_came, nothing_first}
+use Rattle.law_peers_routes.specs.Downwards.{GoesDown, proxy_reads, route_of}
 
 -- ---- numbers
 

@@ -1,26 +1,14 @@
 -- the logs of the three roles, as what order sees of the messages of a leg
-use Rattle.std.proofs.Common.{◌≡◌, ℕ, Bool, true, false, if◌then◌else◌, List, [], ◌++◌, refl, sym, ap, ◌∙◌, inl, inr}
-use mathlib.Core.List.{IsPrefix}
-use Rattle.rh_http.specs.declared.refusal.Refusal.{Refusal}
-use Rattle.rh_http.specs.Texts.{refusal_text}
-use Rattle.rh_line.specs.declared.leg.LegKind.TheVariants.{OutServer}
-use Rattle.rh_sig.specs.declared.named.Named.TheVariants.{Ping}
-use Rattle.law_order.specs.Items.{Item}
-use Rattle.law_order.specs.Logs.{seen}
-use Rattle.law_moves.specs.Carrying.{spelled}
-use Rattle.law_moves.specs.Moves.{OnLeg}
-use Rattle.rh_shell.specs.Rules.{Message, Text, Pdu, Packet}
-use Rattle.rh_shell.specs.Shells.{same_leg}
-use Rattle.law_moves.specs.Wires.{of_leg}
-use Rattle.law_moves.specs.ReadBack.Reading.{read_of}
-use Rattle.law_node_streams.specs.Streams.{IsDrawn}
+use Rattle.law_order.proofs.Vocabulary.{◌≡◌, ℕ, Bool, true, false, if◌then◌else◌, List, [], ◌++◌, refl, sym, ap, ◌∙◌, inl, inr, IsPrefix, Item, seen}
+use Rattle.law_moves.proofs.Vocabulary.{Ping, Refusal, refusal_text, OutServer, Message, Text, Pdu, Packet, same_leg, spelled, OnLeg, of_leg, read_of}
+use Rattle.law_role_client.proofs.Vocabulary.{down_items}
 use Rattle.law_role_client.specs.Order as client
-use Rattle.law_role_client.specs.Order.{down_items}
-use Rattle.law_role_outproxy.specs.Order as proxy
-use Rattle.law_role_outproxy.specs.Order.{from_server, to_client, client_leg, server_leg}
+use Rattle.law_role_server.proofs.Vocabulary.{items_if, out_items}
 use Rattle.law_role_server.specs.Order as server
-use Rattle.law_role_server.specs.Order.{items_if, out_items}
+use Rattle.law_role_outproxy.proofs.Vocabulary.{from_server, to_client, client_leg, server_leg}
+use Rattle.law_role_outproxy.specs.Order as proxy
 use Rattle.law_node_streams.proofs.Streams.LegLogs.{leg_items}
+use Rattle.law_node_streams.specs.Streams.{IsDrawn}
 
 -- ---- logs
 

@@ -1,9 +1,7 @@
 -- channels by their numbers: each has a leg of its own at the server, or is carried on that of one
 -- before it, whose in proxy reads it
-use Rattle.std.proofs.Common.{◌≡◌, ◌≢◌, ◌⊎◌, ℕ, ◌+◌, ◌<◌, ◌≤◌, Bool, true, false, ◌||◌, nat_eq, nat_le, refl, sym, ◌∙◌, subst, arith, inl, inr}
-use Rattle.std.proofs.lemmas.Bool.{or_left, or_right}
-use Rattle.std.proofs.lemmas.Bool.Decides.{nat_tests}
-use Rattle.law_order.proofs.ByNumber.{same_number, other_number}
+use Rattle.law_order.proofs.Vocabulary.{◌≡◌, ◌≢◌, ◌⊎◌, ℕ, ◌+◌, ◌<◌, ◌≤◌, Bool, true, false, ◌||◌, nat_eq, nat_le, refl, sym, ◌∙◌, subst, arith, inl, inr, or_left, or_right, nat_tests}
+use Rattle.law_moves.proofs.Vocabulary.{same_number, other_number}
 
 -- in proxy m reads channel n; reader n is the one that does; final m is how often in proxy m told
 -- the server of one

@@ -1,33 +1,8 @@
 -- which ci legs came up at an in proxy by its moves, and how often it told the server of one
-use Rattle.std.proofs.Common.{◌≡◌, ℕ, ◌+◌, ◌==◌, ◌<◌, ◌≤◌, ◌&&◌, ◌||◌, List, [], ◌∷◌, ◌++◌, Bool, true, false, not, nat_le, Some, None, Ok, Err, refl, sym, ap, ◌∙◌, subst, arith}
-use Rattle.std.proofs.lemmas.List.{append-nil, append_assoc}
-use Rattle.std.proofs.lemmas.Bool.{or_left, or_right}
-use Rattle.std.specs.Prelude.{if◌then◌else◌}
-use Rattle.law_order.proofs.ByNumber.{by_test, same_number, other_number}
-use Rattle.rh_line.specs.declared.leg.Leg.{Leg}
-use Rattle.rh_line.specs.declared.leg.LegKind.{LegKind}
-use Rattle.rh_line.specs.declared.leg.LegKind.TheVariants.{ClientOut, OutServer, ClientIn, InServer}
-use Rattle.rh_shell.specs.Rules.{Message, Pdu, Packet}
-use Rattle.rh_shell.specs.Shells.{same_leg}
-use Rattle.rh_inproxy.specs.declared.opening.TheConstants.{GREATEST_LENGTHS}
-use Rattle.rh_inproxy.specs.declared.state.Handover.{Handover}
-use Rattle.rh_inproxy.specs.declared.state.Handover.TheVariants.{Before, Came, Passed}
-use Rattle.rh_inproxy.specs.declared.state.InProxyConfig.{InProxyConfig}
-use Rattle.rh_inproxy.specs.declared.state.Opening.{Opening}
-use Rattle.rh_inproxy.specs.declared.state.Opening.TheVariants.{AwaitsClient, AwaitsPacket, WantsServer, Announces, Announced}
-use Rattle.rh_inproxy.specs.declared.state.Successor.{Successor}
-use Rattle.rh_inproxy.specs.declared.state.Successor.TheVariants.{Absent, Joined}
+use Rattle.law_order.proofs.Vocabulary.{◌≡◌, ℕ, ◌+◌, ◌==◌, ◌<◌, ◌≤◌, ◌&&◌, ◌||◌, List, [], ◌∷◌, ◌++◌, Bool, true, false, not, nat_le, Some, None, Ok, Err, refl, sym, ap, ◌∙◌, subst, arith, append-nil, append_assoc, or_left, or_right, if◌then◌else◌}
 use Rattle.rh_inproxy.specs.declared.state.Successor.TheVariants as successors
-use Rattle.rh_inproxy.specs.Answers.{Done, Pick}
-use Rattle.rh_inproxy.specs.Ending.{mark}
-use Rattle.rh_inproxy.specs.InReplacement.{has_passed}
-use Rattle.rh_inproxy.specs.Machine.{packet, pdu}
-use Rattle.rh_inproxy.specs.Machine.{rules as proxy_rules}
-use Rattle.rh_inproxy.specs.Opening.{is_absent, accepts, accepts_later, may_accept, accepted, connected, up, wants, wants_server, head, drawn}
-use Rattle.rh_inproxy.specs.Putting.{put}
-use Rattle.rh_inproxy.specs.State.{InProxy, first, has_come}
-use Rattle.rh_inproxy.specs.Time.{ping}
-use Rattle.law_moves.specs.Moves.{Move, Up, HeadCame, PduCame, PacketCame, Puts, IsDrawn, Marks, Pings, Passage, MayMove, AreAllowed, moved, all_moved, started, taken_by, put_by}
+use Rattle.law_moves.proofs.Vocabulary.{by_test, same_number, other_number, Leg, LegKind, ClientOut, OutServer, ClientIn, InServer, Message, Pdu, Packet, same_leg, Move, Up, HeadCame, PduCame, PacketCame, Puts, IsDrawn, Marks, Pings, Passage, MayMove, AreAllowed, moved, all_moved, started, taken_by, put_by}
+use Rattle.law_role_inproxy.proofs.Vocabulary.{GREATEST_LENGTHS, Handover, Before, Came, Passed, InProxyConfig, Opening, AwaitsClient, AwaitsPacket, WantsServer, Announces, Announced, Successor, Absent, Joined, Done, Pick, mark, has_passed, packet, pdu, rules as proxy_rules, is_absent, accepts, accepts_later, may_accept, accepted, connected, up, wants, wants_server, head, drawn, put, InProxy, first, has_come, ping}
 use Rattle.law_node_streams.specs.Streams.{is_up_on}
 use Rattle.law_node_begins.specs.ProxiesBegin.Pipes.{ci as client_leg, is as server_leg}
 use Rattle.law_peers_routes.proofs.Upwards.Rising.{or_nothing, rose, rose_more}

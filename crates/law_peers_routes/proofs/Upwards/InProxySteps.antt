@@ -1,53 +1,16 @@
 -- which ci leg is the newest one at an in proxy, and whether the server was told of it, behind each
 -- rule
-use Rattle.std.proofs.Common.{◌≡◌, ℕ, ◌+◌, ◌==◌, ◌≤◌, ◌&&◌, List, [], ◌∷◌, ◌++◌, length, Bool, true, false, not, Some, None, refl, sym, ◌∙◌, subst, rules, arith}
-use Rattle.std.proofs.lemmas.Bool.{and_parts}
-use Rattle.std.specs.Prelude.{if◌then◌else◌, nat_lt, IfSome}
-use Rattle.std.specs.List.{list_any, AllByRecursion}
-use Rattle.std.specs.declared.option.Option.{Option}
-use Rattle.rh_window.specs.Sending.{may_send}
 use Rattle.rh_window.specs.declared.recv_window.Ack as told
-use Rattle.law_order.proofs.ByNumber.{by_test, same_number}
-use Rattle.rh_rts.specs.declared.command.Cookie.{Cookie}
-use Rattle.rh_sig.specs.declared.named.Named.{Named}
-use Rattle.rh_sig.specs.declared.named.Named.TheVariants.{ConnB1, InR1A1, InR1A5, InR2A2, OutR1A7, OutR1A8, EndA1, EndA2, AckTo, KeepAlive, Ping}
+use Rattle.law_order.proofs.Vocabulary.{◌≡◌, ℕ, ◌+◌, ◌==◌, ◌≤◌, ◌&&◌, List, [], ◌∷◌, ◌++◌, length, Bool, true, false, not, Some, None, refl, sym, ◌∙◌, subst, rules, arith, and_parts, if◌then◌else◌, nat_lt, IfSome, list_any, AllByRecursion, Option}
 use Rattle.rh_line.specs.Lines as line
-use Rattle.rh_line.specs.Lines.{Line, after_finish, after_take}
-use Rattle.rh_line.specs.declared.leg.Leg.{Leg}
-use Rattle.rh_line.specs.declared.which.Which.{Which}
-use Rattle.rh_line.specs.declared.which.Which.TheVariants.{Current, Next}
-use Rattle.rh_shell.specs.declared.answers.Count.{Count}
 use Rattle.rh_shell.specs.declared.answers.Refused.TheVariants as refused
-use Rattle.rh_shell.specs.declared.due.Due.{Due}
-use Rattle.rh_shell.specs.declared.due.Origin.TheVariants.{Forwarded}
-use Rattle.rh_shell.specs.Rules.{Message, Text, Pdu, Packet}
 use Rattle.rh_shell.specs.Waiting as waiting
-use Rattle.rh_shell.specs.Waiting.{Waiting, better, merged, takes, edge_of}
-use Rattle.rh_inproxy.specs.declared.state.ClientLeg.{ClientLeg}
-use Rattle.rh_inproxy.specs.declared.state.Entry.{Entry}
-use Rattle.rh_inproxy.specs.declared.state.Entry.TheVariants.{Connects, Replaces}
-use Rattle.rh_inproxy.specs.declared.state.Handover.{Handover}
-use Rattle.rh_inproxy.specs.declared.state.Handover.TheVariants.{Before, Came, Passed}
-use Rattle.rh_inproxy.specs.declared.state.Joining.TheVariants.{TellsServer, Told, Follows}
-use Rattle.rh_inproxy.specs.declared.state.Opener.{Opener}
-use Rattle.rh_inproxy.specs.declared.state.Opening.{Opening}
-use Rattle.rh_inproxy.specs.declared.state.Opening.TheVariants.{AwaitsClient, AwaitsPacket, WantsServer, Announces, Announced}
-use Rattle.rh_inproxy.specs.declared.state.Successor.{Successor}
-use Rattle.rh_inproxy.specs.declared.state.Successor.TheVariants.{Absent, Joined}
 use Rattle.rh_inproxy.specs.declared.state.Successor.TheVariants as successors
-use Rattle.rh_inproxy.specs.declared.state.Work.{Work}
 use Rattle.rh_inproxy.specs.declared.state.Work.TheVariants as works
-use Rattle.rh_inproxy.specs.Answers.{Done, Pick, or_else, taken, refuse, unexpected}
-use Rattle.rh_inproxy.specs.State.{InProxy, channel_of, has_a5, follows, is_client_leg, is_server_leg, same_cookie}
-use Rattle.rh_inproxy.specs.Opening.{is_absent, head, drawn, is_first, opener_of, announcement, on_first_in_r1_a1, on_conn_b1, first_by, put_first, echo_answer, echo_by, put_echo}
-use Rattle.rh_inproxy.specs.Acknowledging.{forwarded, forward_by, on_ack_to, ack_due, ack_by, current_ack, next_ack, put_acks}
-use Rattle.rh_inproxy.specs.Ending.{is_newest, on_end_a1, mark, put_end, settled, settled_pick}
-use Rattle.rh_inproxy.specs.InReplacement.{has_passed, is_newcomer, joined, join, on_later_in_r1_a1, on_in_r1_a1, on_in_r1_a5, told_by, put_in_r2_a2, one_less, finished, finish_by, hand_over, mark_by, put_in_r1_a6}
-use Rattle.rh_inproxy.specs.OutReplacement.{on_out_r1_a7}
-use Rattle.rh_inproxy.specs.Passing.{passed, next_pdu, put_pdu}
-use Rattle.rh_inproxy.specs.Putting.{put, next, waiting_by, put_waiting, put_control, put_early, put_stream, put_behind, put_mark}
-use Rattle.rh_inproxy.specs.Time.{on_keep_alive, ping, put_ping}
-use Rattle.rh_inproxy.specs.Machine.{packet, pdu, on_ci, on_is, on_channel, on_channel_by}
+use Rattle.law_moves.proofs.Vocabulary.{may_send, by_test, same_number, Cookie, Named, ConnB1, InR1A1, InR1A5, InR2A2, OutR1A7, OutR1A8, EndA1, EndA2, AckTo, KeepAlive, Ping, after_finish, after_take, Leg, Which, Current, Next, Count, Due, Forwarded, Message, Text, Pdu, Packet, Waiting, better, merged, takes, edge_of}
+use Rattle.law_role_inproxy.proofs.Vocabulary.{ClientLeg, Entry, Connects, Replaces, Handover, Before, Came, Passed, TellsServer, Told, Follows, Opener, Opening, AwaitsClient, AwaitsPacket, WantsServer, Announces, Announced, Successor, Absent, Joined, Work, Done, Pick, or_else, taken, refuse, unexpected, InProxy, channel_of, has_a5, follows, is_client_leg, is_server_leg, same_cookie, is_absent, head, drawn, is_first, opener_of, announcement, on_first_in_r1_a1, on_conn_b1}
+use Rattle.law_role_inproxy.proofs.Vocabulary.{first_by, put_first, echo_answer, echo_by, put_echo, forwarded, forward_by, on_ack_to, ack_due, ack_by, current_ack, next_ack, put_acks, is_newest, on_end_a1, mark, put_end, settled, settled_pick, has_passed, is_newcomer, joined, join, on_later_in_r1_a1, on_in_r1_a1, on_in_r1_a5, told_by, put_in_r2_a2, one_less, finished, finish_by, hand_over, mark_by, put_in_r1_a6, on_out_r1_a7, passed, next_pdu, put_pdu, put, next, waiting_by}
+use Rattle.law_role_inproxy.proofs.Vocabulary.{put_waiting, put_control, put_early, put_stream, put_behind, put_mark, on_keep_alive, ping, put_ping, packet, pdu, on_ci, on_is, on_channel, on_channel_by}
 use Rattle.law_peers_routes.proofs.Upwards.Told.{tells}
 
 -- ---- what these facts are about

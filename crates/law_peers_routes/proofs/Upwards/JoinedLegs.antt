@@ -1,35 +1,15 @@
 -- what comes on a leg is a front of what was put there, as order sees both
-use Rattle.std.proofs.Common.{◌≡◌, ◌≢◌, ℕ, ◌==◌, List, [], ◌∷◌, ◌++◌, Bool, true, false, Some, Ok, refl, sym, ap, ◌∙◌, subst, rules, inl, inr}
-use Rattle.std.specs.Prelude.{if◌then◌else◌}
-use Rattle.std.specs.List.{AllByRecursion}
-use Rattle.std.specs.declared.option.Option.{Option}
-use mathlib.Core.List.{IsPrefix}
-use Rattle.rh_sig.specs.declared.name.Pipe.{Pipe}
-use Rattle.rh_sig.specs.declared.name.Pipe.TheVariants.{IsU}
-use Rattle.rh_sig.specs.declared.named.Named.{Named}
-use Rattle.rh_line.specs.declared.leg.Leg.{Leg}
-use Rattle.rh_line.specs.declared.leg.LegKind.{LegKind}
-use Rattle.rh_line.specs.declared.leg.LegKind.TheVariants.{ClientOut, OutServer, ClientIn, InServer}
-use Rattle.rh_http.specs.Texts.{refusal_text}
-use Rattle.law_order.proofs.ByNumber.{test_same, other_number}
-use Rattle.law_order.specs.Items.{Item}
-use Rattle.law_order.specs.Logs.{seen}
-use Rattle.law_moves.specs.Carrying.{spelled, named_messages}
-use Rattle.law_moves.specs.Moves.{OnLeg}
-use Rattle.rh_shell.specs.Rules.{Message, Text, Pdu, Packet}
-use Rattle.rh_shell.specs.Shells.{same_leg}
-use Rattle.law_moves.specs.Wires.{of_leg}
-use Rattle.law_moves.specs.Legible.Legible.{ReadsBack}
-use Rattle.law_moves.specs.ReadBack.Reading.{Begins, ReadsNothing, messages_read, read_of}
-use Rattle.law_node_streams.specs.Streams.{IsDrawn}
-use Rattle.law_role_client.specs.Order as client_order
-use Rattle.law_role_client.specs.Order.{up_items, up_mark}
+use Rattle.law_order.proofs.Vocabulary.{◌≡◌, ◌≢◌, ℕ, ◌==◌, List, [], ◌∷◌, ◌++◌, Bool, true, false, Some, Ok, refl, sym, ap, ◌∙◌, subst, rules, inl, inr, if◌then◌else◌, AllByRecursion, Option, IsPrefix, Item, seen}
+use Rattle.law_moves.proofs.Vocabulary.{test_same, other_number, Pipe, IsU, Named, refusal_text, Leg, LegKind, ClientOut, OutServer, ClientIn, InServer, Message, Text, Pdu, Packet, same_leg, spelled, named_messages, OnLeg, of_leg, ReadsBack, Begins, ReadsNothing, messages_read, read_of}
+use Rattle.law_role_inproxy.proofs.Vocabulary.{item_came, item_put}
 use Rattle.law_role_inproxy.specs.Order as proxy_order
-use Rattle.law_role_inproxy.specs.Order.{item_came, item_put}
+use Rattle.law_role_client.proofs.Vocabulary.{up_items, up_mark}
+use Rattle.law_role_client.specs.Order as client_order
+use Rattle.law_role_server.proofs.Vocabulary.{in_items, items_if}
 use Rattle.law_role_server.specs.Order as server_order
-use Rattle.law_role_server.specs.Order.{in_items, items_if}
-use Rattle.law_node_begins.specs.ProxiesBegin.Pipes.{ci as client_leg, is as server_leg}
 use Rattle.law_node_streams.proofs.Streams.LegLogs.{leg_items}
+use Rattle.law_node_streams.specs.Streams.{IsDrawn}
+use Rattle.law_node_begins.specs.ProxiesBegin.Pipes.{ci as client_leg, is as server_leg}
 use Rattle.law_peers_routes.proofs.Upwards.Told.{told_items}
 use Rattle.law_peers_routes.proofs.Upwards.Unread.{refusal_unread}
 

@@ -1,39 +1,21 @@
 -- the laws of the roles and of reading on which the route stands, each as its own crate says it
-use Rattle.std.specs.Prelude.{ℕ, ◌≡◌, ◌≢◌, List, [], Bool, false, Some}
-use Rattle.std.proofs.Common.{refl, sym, ◌∙◌, subst}
-use Rattle.std.specs.declared.option.Option.{Option}
-use Rattle.law_order.specs.Taking.{TakerLaw}
-use Rattle.law_order.proofs.ByNumber.{test_other}
-use Rattle.rh_sig.specs.declared.name.Pipe.{Pipe}
-use Rattle.rh_sig.specs.declared.name.Pipe.TheVariants.{CiU, IsU}
-use Rattle.rh_http.specs.declared.config.ClientConfig.{ClientConfig}
-use Rattle.rh_line.specs.declared.leg.Leg.{Leg}
-use Rattle.rh_shell.specs.Shells.{same_leg}
-use Rattle.rh_inproxy.specs.declared.state.InProxyConfig.{InProxyConfig}
+use Rattle.law_order.proofs.Vocabulary.{ℕ, ◌≡◌, ◌≢◌, List, [], Bool, false, Some, refl, sym, ◌∙◌, subst, Option, TakerLaw}
 use Rattle.rh_inproxy.specs.Machine as proxy
-use Rattle.rh_inproxy.specs.State.{InProxy, first, is_client_leg}
-use Rattle.rh_client.specs.declared.state.ClientRole.{ClientRole}
 use Rattle.rh_server.specs.Servers as server
-use Rattle.rh_server.specs.States.{Server}
-use Rattle.law_moves.specs.Moves.{Move, EndMove, Passage, EndPassage, AreAllowed, AreAllowedAtEnd, all_moved, all_end_moved, started, end_started}
-use Rattle.law_moves.specs.Moving.{Event, EndEvent}
-use Rattle.law_moves.specs.Wires.{of_leg}
-use Rattle.law_moves.specs.ReadBack.Reading.{Begins}
-use Rattle.law_moves.specs.Turns.{RefusesInTurn}
-use Rattle.law_role_inproxy.specs.Order.{KeepsOrder}
-use Rattle.law_role_client.specs.Legible.{pipe_put}
-use Rattle.law_role_client.specs.Order.{AreAllowedMoves, client_moved, GivesInOrder}
-use Rattle.law_role_server.specs.Order.{got, has_leg, taker_of}
+use Rattle.law_moves.proofs.Vocabulary.{test_other, Pipe, CiU, IsU, ClientConfig, Leg, same_leg, Move, EndMove, Passage, EndPassage, AreAllowed, AreAllowedAtEnd, all_moved, all_end_moved, started, end_started, Event, EndEvent, of_leg, Begins, RefusesInTurn}
+use Rattle.law_role_inproxy.proofs.Vocabulary.{InProxyConfig, InProxy, first, is_client_leg, KeepsOrder}
+use Rattle.law_role_client.proofs.Vocabulary.{ClientRole, pipe_put, AreAllowedMoves, client_moved, GivesInOrder}
+use Rattle.law_role_server.proofs.Vocabulary.{Server, got, has_leg, taker_of}
 use Rattle.law_node_streams.specs.Streams.{RefusesFirst}
 use Rattle.law_node_begins.specs.EndsBegin.{BeginsLegs}
 use Rattle.law_node_begins.specs.ProxiesBegin.Pipes.{ci as client_leg, is as server_leg, in_pipe}
-use Rattle.law_peers_routes.specs.Upwards.{GoesUp}
 use Rattle.law_peers_routes.proofs.Upwards.JoinedLegs.{Carries, ComesToNothing}
+use Rattle.law_peers_routes.specs.Upwards.{GoesUp}
 
 abbrev proxy_moved : InProxyConfig → List Move → Passage InProxy
 proxy_moved config moves = all_moved proxy.rules (started (first config)) moves
 
-abbrev server_moved : ℕ → List EndMove → EndPassage Server
+abbrev pub server_moved : ℕ → List EndMove → EndPassage Server
 server_moved window moves =
     all_end_moved server.rules server.acts (end_started (server.first window)) moves
 

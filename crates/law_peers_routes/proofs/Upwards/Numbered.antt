@@ -1,38 +1,23 @@
 -- which in proxy reads which channel, and which legs the server knows
-use Rattle.std.proofs.Common.{◌≡◌, ◌≢◌, ◌⊎◌, ℕ, zero, suc, ◌+◌, ◌-◌, ◌==◌, ◌<◌, ◌≤◌, ◌&&◌, ◌||◌, List, [], Bool, true, false, not, nat_eq, nat_lt, refl, sym, ap, ◌∙◌, subst, arith, inl, inr, ⊎_elim}
-use Rattle.std.proofs.lemmas.Bool.{true≢false, cases_eq, and_parts, eq-eqb, lt-ltb, ltb-true, or_right}
-use Rattle.std.proofs.lemmas.Bool.Decides.{nat_tests}
-use Rattle.std.specs.Prelude.{if◌then◌else◌}
-use Rattle.law_order.specs.Items.{Item, has_handover}
-use Rattle.law_order.specs.Logs.{Log}
-use Rattle.law_order.specs.Passing.{PasserLaw}
-use Rattle.law_order.specs.Routes.{Route, IsRoute}
-use Rattle.law_order.specs.Taking.{Taker, TakerLaw}
-use Rattle.law_order.proofs.ByNumber.{same_number, other_number, test_other}
-use Rattle.rh_http.specs.declared.config.ClientConfig.{ClientConfig}
-use Rattle.rh_inproxy.specs.declared.state.InProxyConfig.{InProxyConfig}
-use Rattle.rh_inproxy.specs.declared.state.Successor.{Successor}
-use Rattle.rh_inproxy.specs.declared.state.Successor.TheVariants.{Absent, Up, Joined}
-use Rattle.rh_inproxy.specs.InReplacement.{has_passed}
-use Rattle.rh_inproxy.specs.Opening.{is_absent}
+use Rattle.law_order.proofs.Vocabulary.{◌≡◌, ◌≢◌, ◌⊎◌, ℕ, zero, suc, ◌+◌, ◌-◌, ◌==◌, ◌<◌, ◌≤◌, ◌&&◌, ◌||◌, List, [], Bool, true, false, not, nat_eq, nat_lt, refl, sym, ap, ◌∙◌, subst, arith, inl, inr, ⊎_elim, true≢false, cases_eq, and_parts, eq-eqb, lt-ltb, ltb-true, or_right, nat_tests, if◌then◌else◌, Item, has_handover, Log, PasserLaw, Route, IsRoute, Taker, TakerLaw}
 use Rattle.rh_server.specs.Servers as server
-use Rattle.rh_server.specs.States.{Server}
-use Rattle.law_moves.specs.Moves.{EndPassage, end_started}
-use Rattle.law_moves.specs.Moving.{Event, EndEvent}
+use Rattle.law_moves.proofs.Vocabulary.{same_number, other_number, test_other, ClientConfig, EndPassage, end_started, Event, EndEvent}
+use Rattle.law_role_inproxy.proofs.Vocabulary.{InProxyConfig, Successor, Absent, Up, Joined, has_passed, is_absent}
 use Rattle.law_role_inproxy.specs.Order as proxy_order
+use Rattle.law_role_server.proofs.Vocabulary.{Server}
 use Rattle.law_role_server.specs.Order as server_order
-use Rattle.law_node_history.specs.Carried.{came_up}
+use Rattle.law_node_history.proofs.Vocabulary.{came_up}
 use Rattle.law_node_begins.specs.ProxiesBegin.Pipes.{ci as client_leg}
-use Rattle.law_peers_routes.specs.Upwards.{GoesUp, has_leg, is_known, up_route}
 use Rattle.law_peers_routes.proofs.Upwards.Counts.{AreRead, AreMade, IsCarried, Counted, none_counted}
-use Rattle.law_peers_routes.proofs.Upwards.InProxyMoves as proxy_moves
 use Rattle.law_peers_routes.proofs.Upwards.InProxySteps.{top}
 use Rattle.law_peers_routes.proofs.Upwards.Laws.{Laws, AreBegun}
 use Rattle.law_peers_routes.proofs.Upwards.Passed.{gives, keeps, takes, proxy_holds, near, far, told_less, idle_came, idle_got, spoke_made, has_own}
 use Rattle.law_peers_routes.proofs.Upwards.Rising.{rose}
-use Rattle.law_peers_routes.proofs.Upwards.ServerMoves as server_moves
 use Rattle.law_peers_routes.proofs.Upwards.ServerMoves.{moves_hold}
 use Rattle.law_peers_routes.proofs.Upwards.Told.{carried}
+use Rattle.law_peers_routes.proofs.Upwards.InProxyMoves as proxy_moves
+use Rattle.law_peers_routes.proofs.Upwards.ServerMoves as server_moves
+use Rattle.law_peers_routes.specs.Upwards.{GoesUp, has_leg, is_known, up_route}
 
 -- the newest ci leg is the current one, where none is behind it
 top_alone : (n : ℕ) (z : Successor) → is_absent z ≡ true → top n z ≡ n
@@ -43,11 +28,6 @@ top_alone n (Joined leg stage) e = absurd cc
 neither_of : (a b c : Bool) → b ≡ false → c ≡ false → a && (b || c) ≡ false
 neither_of true b c p q = ap (λ t. t || c) p ∙ q
 neither_of false b c p q = refl
-
-either_of : (a b c : Bool) → a && (b || c) ≡ true → (b ≡ true) ⊎ (c ≡ true)
-either_of true true c e = inl refl
-either_of true false c e = inr e
-either_of false b c e = absurd cc
 
 -- a taker asks of no number behind the one that follows whether it has a leg
 known_before : (following n : ℕ) (legs : ℕ → Bool) → n < following

@@ -1,45 +1,26 @@
 -- what passed the client, the in proxies and the server keeps the laws of each, and comes from the
 -- one to the next in order
-use Rattle.std.proofs.Common.{◌≡◌, ◌⊎◌, ℕ, zero, suc, ◌+◌, ◌==◌, ◌<◌, ◌≤◌, ◌&&◌, ◌||◌, List, [], length, Bool, true, false, Some, sym, ap, ◌∙◌, subst, arith, refl, inl, inr, ⊎_elim}
-use Rattle.std.proofs.lemmas.Bool.{true≢false, eq-eqb, lt-ltb, or_left}
-use Rattle.std.proofs.lemmas.List.{length-append, append-nil}
-use Rattle.std.specs.Prelude.{if◌then◌else◌}
-use mathlib.Core.List.{IsPrefix}
-use Rattle.rh_http.specs.declared.config.ClientConfig.{ClientConfig}
-use Rattle.rh_sig.specs.declared.name.Pipe.TheVariants.{CiU, IsU}
-use Rattle.law_order.specs.Items.{Item}
-use Rattle.law_order.specs.Giving.{GiverLaw}
-use Rattle.law_order.specs.Logs.{seen, IsLeg}
-use Rattle.law_order.specs.Passing.{PasserLaw}
-use Rattle.law_order.specs.Taking.{TakerLaw}
-use Rattle.law_order.proofs.ByNumber.{by_test}
-use Rattle.law_order.proofs.ItemLists.{nil_front}
-use Rattle.law_moves.specs.Moves.{Passage}
-use Rattle.law_moves.specs.Moving.{Event, EndEvent}
-use Rattle.rh_shell.specs.Rules.{Message}
-use Rattle.law_moves.specs.Wires.{of_leg}
-use Rattle.law_moves.specs.ReadBack.Reading.{messages_read}
-use Rattle.law_node_history.specs.Carried.{heard_on, drawn_on, happened}
+use Rattle.law_order.proofs.Vocabulary.{◌≡◌, ◌⊎◌, ℕ, zero, suc, ◌+◌, ◌==◌, ◌<◌, ◌≤◌, ◌&&◌, ◌||◌, List, [], length, Bool, true, false, Some, sym, ap, ◌∙◌, subst, arith, refl, inl, inr, ⊎_elim, true≢false, eq-eqb, lt-ltb, or_left, length-append, append-nil, if◌then◌else◌, IsPrefix, Item, GiverLaw, seen, IsLeg, PasserLaw, TakerLaw}
+use Rattle.rh_inproxy.specs.Machine as proxy
+use Rattle.law_moves.proofs.Vocabulary.{by_test, nil_front, CiU, IsU, ClientConfig, Message, Passage, Event, EndEvent, of_leg, messages_read}
+use Rattle.law_role_inproxy.proofs.Vocabulary.{InProxyConfig, InProxy, first, item_came, item_put}
+use Rattle.law_role_inproxy.specs.Legible as proxy_legible
+use Rattle.law_role_inproxy.specs.Order as proxy_order
+use Rattle.law_role_client.proofs.Vocabulary.{up_items}
 use Rattle.law_role_client.specs.Legible as client_legible
 use Rattle.law_role_client.specs.Order as client_order
-use Rattle.law_role_client.specs.Order.{up_items}
-use Rattle.rh_inproxy.specs.declared.state.InProxyConfig.{InProxyConfig}
-use Rattle.law_role_inproxy.specs.Legible as proxy_legible
-use Rattle.rh_inproxy.specs.Machine as proxy
-use Rattle.law_role_inproxy.specs.Order as proxy_order
-use Rattle.law_role_inproxy.specs.Order.{item_came, item_put}
-use Rattle.rh_inproxy.specs.State.{InProxy, first}
+use Rattle.law_role_server.proofs.Vocabulary.{in_items}
 use Rattle.law_role_server.specs.Order as server_order
-use Rattle.law_role_server.specs.Order.{in_items}
+use Rattle.law_node_history.proofs.Vocabulary.{heard_on, drawn_on, happened}
+use Rattle.law_node_streams.proofs.Streams.LegLogs.{leg_reads_back}
 use Rattle.law_node_begins.specs.ProxiesBegin.Pipes.{ci as client_leg, is as server_leg, in_pipe}
-use Rattle.law_peers_routes.specs.Upwards.{GoesUp, has_leg}
-use Rattle.law_peers_routes.proofs.Upwards.InProxyMoves as proxy_moves
 use Rattle.law_peers_routes.proofs.Upwards.InProxyMoves.{in_proxy_holds}
 use Rattle.law_peers_routes.proofs.Upwards.JoinedLegs.{AgreeOn, up_views, in_views, told_views, client_put, proxy_came, server_came, proxy_put, drawn_leg}
 use Rattle.law_peers_routes.proofs.Upwards.Laws.{Laws, AreBegun}
-use Rattle.law_node_streams.proofs.Streams.LegLogs.{leg_reads_back}
 use Rattle.law_peers_routes.proofs.Upwards.Rising.{rose}
 use Rattle.law_peers_routes.proofs.Upwards.Told.{told_items, carried, has_any, spoke}
+use Rattle.law_peers_routes.proofs.Upwards.InProxyMoves as proxy_moves
+use Rattle.law_peers_routes.specs.Upwards.{GoesUp, has_leg}
 
 module _ (laws : Laws) (config : ClientConfig) (window : ℕ) (in_config : ℕ → InProxyConfig)
     (client_events server_events : List EndEvent) (ins : ℕ → List Event) (made : ℕ → Bool)

@@ -1,8 +1,7 @@
 -- legs that came up by moves, move by move
-use Rattle.std.proofs.Common.{◌≡◌, ◌||◌, List, [], ◌∷◌, ◌++◌, Bool, true, false, refl, sym, ap, ◌∙◌}
-use Rattle.std.specs.List.{list_any}
-use Rattle.rh_line.specs.declared.leg.Leg.{Leg}
-use Rattle.law_moves.specs.Moves.{Move}
+use Rattle.law_order.proofs.Vocabulary.{◌≡◌, ◌||◌, List, [], ◌∷◌, ◌++◌, Bool, true, false, refl, sym, ap, ◌∙◌, list_any}
+use Rattle.law_moves.proofs.Vocabulary.{Leg, Move}
+use Rattle.law_role_server.proofs.Takes.{or_again as or_assoc}
 use Rattle.law_node_streams.specs.Streams.{is_up_on}
 
 -- the leg came up by one of the moves
@@ -10,10 +9,6 @@ abbrev pub rose : Leg → List Move → Bool
 rose leg moves = list_any (is_up_on leg) moves
 
 -- ---- tests
-
-pub or_assoc : (a b c : Bool) → (a || b) || c ≡ a || (b || c)
-or_assoc true b c = refl
-or_assoc false b c = refl
 
 pub or_nothing : (b : Bool) → b || false ≡ b
 or_nothing true = refl

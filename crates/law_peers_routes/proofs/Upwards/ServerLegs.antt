@@ -1,65 +1,21 @@
 -- the is legs that a server keeps came up, and on those of its channels a message came
-use Rattle.std.proofs.Common.{◌≡◌, ◌⊎◌, ℕ, zero, suc, ◌+◌, ◌==◌, ◌&&◌, ◌||◌, List, [], ◌∷◌, ◌++◌, length, Bool, true, false, not, Some, None, Ok, Err, refl, sym, subst, rules, arith, inl, inr}
-use Rattle.std.specs.Prelude.{slice_get, slice_set, remove, position, IfSome, if◌then◌else◌, nat_lt}
-use Rattle.std.specs.List.{AllByRecursion, position_or_len}
-use Rattle.std.specs.declared.option.Option.{Option}
-use Rattle.std.specs.declared.result.Result.{Result}
-use Rattle.law_order.proofs.ByNumber.{by_test, same_number}
-use Rattle.rh_rts.specs.declared.command.Cookie.{Cookie}
-use Rattle.rh_sig.specs.declared.named.Named.{Named}
+use Rattle.law_order.proofs.Vocabulary.{◌≡◌, ◌⊎◌, ℕ, suc, ◌+◌, ◌==◌, ◌&&◌, ◌||◌, List, [], ◌∷◌, ◌++◌, length, Bool, true, false, not, Some, None, Ok, Err, refl, sym, subst, rules, arith, inl, inr, slice_get, position, IfSome, if◌then◌else◌, nat_lt, AllByRecursion, position_or_len, Option, Result}
 use Rattle.rh_sig.specs.declared.named.Named.TheVariants as named
-use Rattle.rh_line.specs.Lines.{Line, after_end, after_finish, after_take, admit_verdict, is_empty, moved_on, released, settled as settled_line, taken as taken_line, after_open_next}
-use Rattle.rh_line.specs.declared.leg.Leg.{Leg}
-use Rattle.rh_line.specs.declared.line_fault.LineFault.{LineFault}
-use Rattle.rh_line.specs.declared.line_fault.LineFault.TheVariants.{Window, Over}
-use Rattle.rh_line.specs.declared.which.Which.{Which}
-use Rattle.rh_line.specs.declared.which.Which.TheVariants.{Current, Next}
-use Rattle.rh_line.specs.declared.leg.LegKind.{LegKind}
-use Rattle.rh_line.specs.declared.leg.LegKind.TheVariants.{ClientOut, OutServer, ClientIn, InServer}
-use Rattle.rh_shell.specs.declared.answers.Count.{Count}
-use Rattle.rh_shell.specs.Rules.{Packet}
-use Rattle.rh_shell.specs.Waiting.{added}
+use Rattle.rh_line.specs.Lines.{taken as taken_line}
 use Rattle.rh_shell.specs.declared.answers.Refused.TheVariants as refused
-use Rattle.rh_server.specs.declared.state.Edge.TheVariants.{Shut}
-use Rattle.rh_server.specs.declared.state.Stage.{Stage}
+use Rattle.rh_server.specs.Servers.{pdu_by}
 use Rattle.rh_server.specs.declared.state.Stage.TheVariants as stage
-use Rattle.rh_server.specs.declared.state.InStage.{InStage}
-use Rattle.rh_server.specs.declared.state.InStage.TheVariants.{Fresh, Waits, Opened}
-use Rattle.rh_server.specs.declared.state.InLeg.{InLeg}
 use Rattle.rh_server.specs.declared.out_line.Kind.TheVariants as kind
-use Rattle.rh_server.specs.OutLines.{waits}
-use Rattle.rh_server.specs.States.{Server, is_open, is_fresh, is_waiting, stays, without_out, same_cookie, in_place, in_at, in_leg, set_at, removed_at, with_in, without_in}
-use Rattle.rh_server.specs.Opening.{Done, took, refuse, unexpected, is_first, opens, first_in, with_first_in, conn_b2_at, on_conn_a2, on_conn_b2}
-use Rattle.rh_server.specs.Acknowledging.{channel_at, admitted_by, admitted_on, on_pdu, on_ack_to, on_ack, on_ping_traffic}
 use Rattle.rh_server.specs.declared.state.Tells.TheVariants as tells
 use Rattle.rh_server.specs.declared.state.Leaving.TheVariants as leaving
-use Rattle.rh_server.specs.OutReplacement.{on_out_r1_a4, on_out_r1_a8}
-use Rattle.rh_server.specs.Ending.{end_a2_on_leg, end_a2_waiting, end_a2_at, on_end_a2, in_is_drawn, drawn_by, drawn, lost_in, mark_by, mark, settled, with_ack_dropped}
-use Rattle.rh_server.specs.Servers.{on_is, on_os, packet, packet_by, pdu_by}
-use Rattle.rh_server.specs.InReplacement.{ended_if, opens_next, opens_leg, waiting_place, first_waiting, next_opened, becomes_current, moved_if, take, has_fresh_below, announced, in_r1_a2_by, in_r1_a2_at, on_in_r1_a2, leaves_by, hands_over, on_in_r1_a6, in_r2_a2_on, on_in_r2_a2}
+use Rattle.law_moves.proofs.Vocabulary.{by_test, same_number, Cookie, Named, Line, after_end, after_finish, after_take, admit_verdict, is_empty, moved_on, released, settled as settled_line, after_open_next, Leg, LineFault, Window, Over, Which, Current, Next, LegKind, ClientOut, OutServer, ClientIn, InServer, Count, Packet, added}
 use Rattle.law_moves.proofs.Legible.Each.{each_so}
+use Rattle.law_role_server.proofs.Vocabulary.{Shut, Stage, InStage, Fresh, Waits, Opened, InLeg, waits, Server, is_open, is_fresh, is_waiting, stays, without_out, same_cookie, in_place, in_at, in_leg, set_at, removed_at, with_in, without_in, Done, took, refuse, unexpected, is_first, opens, first_in, with_first_in, conn_b2_at, on_conn_a2, on_conn_b2, channel_at, admitted_by, admitted_on, on_pdu, on_ack_to, on_ack, on_ping_traffic, on_out_r1_a4, on_out_r1_a8, end_a2_on_leg}
+use Rattle.law_role_server.proofs.Vocabulary.{end_a2_waiting, end_a2_at, on_end_a2, in_is_drawn, drawn_by, drawn, lost_in, mark_by, mark, settled, with_ack_dropped, on_is, on_os, packet, packet_by, ended_if, opens_next, opens_leg, waiting_place, first_waiting, next_opened, becomes_current, moved_if, take, has_fresh_below, announced, in_r1_a2_by, in_r1_a2_at, on_in_r1_a2, leaves_by, hands_over, on_in_r1_a6, in_r2_a2_on, on_in_r2_a2}
+use Rattle.law_role_server.proofs.Each.{each_removed, each_got, each_set}
 use Rattle.law_peers_routes.proofs.Upwards.Told.{tells}
 
 -- ---- what holds of each element of a list
-
-each_got : {X : Type 0} (P : X → Type 0) (xs : List X) (place : ℕ) → AllByRecursion P xs
-    → IfSome (slice_get xs place) P
-each_got P [] place h = tt
-each_got P (x ∷ xs) zero h = h.0
-each_got P (x ∷ xs) (suc place) h = each_got P xs place h.1
-
-each_set : {X : Type 0} (P : X → Type 0) (xs : List X) (place : ℕ) (x : X) → P x
-    → AllByRecursion P xs → AllByRecursion P (slice_set xs place x)
-each_set P [] place x is h = tt
-each_set P (y ∷ xs) zero x is h = (is, h.1)
-each_set P (y ∷ xs) (suc place) x is h = (h.0, each_set P xs place x is h.1)
-
-each_removed : {X : Type 0} (P : X → Type 0) (xs : List X) (place : ℕ)
-    → AllByRecursion P xs → AllByRecursion P (remove xs place)
-each_removed P [] zero h = tt
-each_removed P [] (suc place) h = tt
-each_removed P (x ∷ xs) zero h = h.1
-each_removed P (x ∷ xs) (suc place) h = (h.0, each_removed P xs place h.1)
 
 pub each_pushed : {X : Type 0} (P : X → Type 0) (xs : List X) (x : X) → AllByRecursion P xs → P x
     → AllByRecursion P (xs ++ x ∷ [])

@@ -1,40 +1,15 @@
 -- what a server's moves do to its is legs, and which numbers they give
-use Rattle.std.proofs.Common.{◌≡◌, ℕ, ◌+◌, ◌≤◌, ◌==◌, ◌&&◌, ◌||◌, List, [], ◌∷◌, ◌++◌, length, Bool, true, false, not, nat_eq, Some, None, Ok, Err, refl, sym, ap, ◌∙◌, subst, rules, arith}
-use Rattle.std.proofs.lemmas.Bool.{and_parts, or_left, or_right}
-use Rattle.std.proofs.lemmas.List.{append-nil, append_assoc}
-use Rattle.std.specs.Prelude.{IfSome, if◌then◌else◌, nat_le}
-use Rattle.std.specs.declared.option.Option.{Option}
-use Rattle.std.specs.declared.result.Result.{Result}
-use Rattle.law_order.proofs.ByNumber.{by_test, same_number, test_same, test_other}
-use Rattle.rh_pdu.specs.Checking.{pdu_fault}
-use Rattle.rh_pdu.specs.declared.fault.PduFault.{PduFault}
-use Rattle.rh_rts.specs.declared.command.Cookie.{Cookie}
-use Rattle.rh_sig.specs.declared.named.Named.{Named}
+use Rattle.law_order.proofs.Vocabulary.{◌≡◌, ℕ, ◌+◌, ◌≤◌, ◌==◌, ◌&&◌, ◌||◌, List, [], ◌∷◌, ◌++◌, length, Bool, true, false, not, nat_eq, Some, None, Ok, Err, refl, sym, ap, ◌∙◌, subst, rules, arith, and_parts, or_left, or_right, append-nil, append_assoc, IfSome, if◌then◌else◌, nat_le, Option, Result}
 use Rattle.rh_sig.specs.declared.named.Named.TheVariants as named
-use Rattle.rh_line.specs.Queue.{total, queue_bytes}
-use Rattle.rh_line.specs.declared.leg.Leg.{Leg}
-use Rattle.rh_line.specs.declared.leg.LegKind.{LegKind}
-use Rattle.rh_line.specs.declared.leg.LegKind.TheVariants.{ClientOut, OutServer, ClientIn, InServer}
-use Rattle.rh_shell.specs.declared.answers.Count.{Count}
-use Rattle.rh_shell.specs.declared.end_role.GiveRefused.{GiveRefused}
 use Rattle.rh_shell.specs.declared.end_role.GiveRefused.TheVariants as give_refused
-use Rattle.rh_shell.specs.Rules.{Pdu, Packet}
-use Rattle.rh_shell.specs.Shells.{same_leg}
-use Rattle.rh_server.specs.declared.state.InLeg.{InLeg}
-use Rattle.rh_server.specs.States.{Server, is_closing, in_leg}
-use Rattle.rh_server.specs.Opening.{Done, in_leg_up, has_room, may_up, may_up_by, up, up_by}
-use Rattle.rh_server.specs.Ending.{give, give_by, in_is_done, is_done, is_done_by, drawn, mark}
-use Rattle.rh_server.specs.InReplacement.{take}
-use Rattle.rh_server.specs.OutReplacement.{recycle}
-use Rattle.rh_server.specs.Putting.{Pick, put}
-use Rattle.rh_server.specs.Servers.{packet, packet_by, pdu}
-use Rattle.rh_server.specs.Servers.{rules as server_rules, acts as server_acts}
-use Rattle.law_moves.specs.Moves.{Move, Up, HeadCame, PduCame, PacketCame, Puts, IsDrawn, Marks, Pings, Passage, OnLeg, MayMove, moved, taken_by, put_by, EndMove, Moves, Gives, Takes, Closes, Recycles, EndPassage, MayEndMove, AreAllowedAtEnd, end_moved, all_end_moved, end_now_at, given_by, with_first, is_at_work}
-use Rattle.law_role_server.specs.Order.{is_up, came_up}
+use Rattle.law_moves.proofs.Vocabulary.{by_test, same_number, test_same, test_other, pdu_fault, PduFault, Cookie, Named, total, queue_bytes, Leg, LegKind, ClientOut, OutServer, ClientIn, InServer, Count, GiveRefused, Pdu, Packet, same_leg, Move, Up, HeadCame, PduCame, PacketCame, Puts, IsDrawn, Marks, Pings, Passage, OnLeg, MayMove, moved, taken_by, put_by, EndMove, Moves, Gives, Takes, Closes, Recycles, EndPassage, MayEndMove, AreAllowedAtEnd, end_moved, all_end_moved}
+use Rattle.law_moves.proofs.Vocabulary.{end_now_at, given_by, with_first, is_at_work}
+use Rattle.law_role_server.proofs.Vocabulary.{InLeg, Server, is_closing, in_leg, Done, in_leg_up, has_room, may_up, may_up_by, up, up_by, give, give_by, in_is_done, is_done, is_done_by, drawn, mark, take, recycle, Pick, put, packet, packet_by, pdu, rules as server_rules, acts as server_acts, is_up, came_up}
+use Rattle.law_role_server.proofs.Takes.{or_again as or_assoc}
 use Rattle.law_node_begins.specs.ProxiesBegin.Pipes.{is as server_leg}
 use Rattle.law_peers_routes.proofs.Upwards.Told.{tells, told_more, carried, carried_less, spoke, spoke_more, spoke_last}
 use Rattle.law_peers_routes.proofs.Upwards.Counts.{AreRead, Counted, same_counted, risen_counted, carried_counted}
-use Rattle.law_peers_routes.proofs.Upwards.Rising.{or_assoc, or_nothing}
+use Rattle.law_peers_routes.proofs.Upwards.Rising.{or_nothing}
 use Rattle.law_peers_routes.proofs.Upwards.ServerLegs.{Stands, Kept, Same, same_kept, more_kept, number_found, found_up, each_pushed, take_kept, KeptRow, packet_row, pdu_kept, drawn_kept, mark_kept}
 use Rattle.law_peers_routes.proofs.Upwards.ServerPuts.{PickKept, put_kept}
 

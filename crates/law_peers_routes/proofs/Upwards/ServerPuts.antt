@@ -1,34 +1,13 @@
 -- what a server puts leaves the is legs that it keeps
-use Rattle.std.proofs.Common.{ℕ, ◌==◌, ◌&&◌, Bool, Some, None, refl, ◌∙◌}
-use Rattle.std.specs.Prelude.{slice_get, IfSome}
-use Rattle.std.specs.declared.option.Option.{Option}
-use Rattle.rh_window.specs.declared.recv_window.Ack.{Ack}
-use Rattle.law_order.proofs.ByNumber.{by_test}
-use Rattle.rh_sig.specs.declared.named.Named.{Named}
+use Rattle.law_order.proofs.Vocabulary.{ℕ, ◌==◌, ◌&&◌, Bool, Some, None, refl, ◌∙◌, slice_get, IfSome, Option}
 use Rattle.rh_sig.specs.declared.named.Named.TheVariants as named
-use Rattle.rh_line.specs.Lines.{after_tell}
-use Rattle.rh_line.specs.Queue.{front_length}
-use Rattle.rh_line.specs.declared.which.Which.TheVariants.{Current}
-use Rattle.rh_line.specs.declared.leg.Leg.{Leg}
-use Rattle.rh_line.specs.declared.leg.LegKind.{LegKind}
-use Rattle.rh_line.specs.declared.leg.LegKind.TheVariants.{ClientOut, OutServer, ClientIn, InServer}
-use Rattle.rh_shell.specs.declared.due.Due.{Due}
-use Rattle.rh_shell.specs.Hearing.{greeting as greeting_text}
-use Rattle.rh_shell.specs.NearEnds.{first_of}
-use Rattle.rh_shell.specs.Rules.{Message, Text, Pdu, Packet}
-use Rattle.rh_shell.specs.Waiting.{Waiting, taken}
-use Rattle.rh_server.specs.declared.state.Edge.TheVariants.{Told}
 use Rattle.rh_server.specs.declared.state.EndMark.TheVariants as end_mark
 use Rattle.rh_server.specs.declared.state.Greeting.TheVariants as greeting
-use Rattle.rh_server.specs.declared.state.InLeg.{InLeg}
-use Rattle.rh_server.specs.declared.state.OutLeg.{OutLeg}
-use Rattle.rh_server.specs.declared.state.Leaving.{Leaving}
 use Rattle.rh_server.specs.declared.state.Leaving.TheVariants as leaving
-use Rattle.rh_server.specs.declared.state.Tells.{Tells}
 use Rattle.rh_server.specs.declared.state.Tells.TheVariants as tells
-use Rattle.rh_server.specs.States.{Server, is_due, is_open, is_shut, in_leg, with_in, out_place}
-use Rattle.rh_server.specs.OutLines.{Gate, lets, length_of}
-use Rattle.rh_server.specs.Putting.{Pick, or_else, put, put_by, put_in_by, put_in_greeting, told_by, was_current, put_tells, put_tells_by, put_b1, put_b1_by, put_ack, put_ack_by, ack_due, next_in, put_out, put_out_at, put_open, next_out, out_greeting_at, put_out_greeting, put_waiting, waiting_at, waiting_by, was_put, goes, with_out, counts, counts_at, may_go_at, may_end_at, is_end_due, gate_at, put_pdu, pdu_by, put_end, put_pdu_or_end, settled_pick}
+use Rattle.law_moves.proofs.Vocabulary.{Ack, by_test, Named, after_tell, front_length, Current, Leg, LegKind, ClientOut, OutServer, ClientIn, InServer, Due, greeting as greeting_text, first_of, Message, Text, Pdu, Packet, Waiting, taken}
+use Rattle.law_role_server.proofs.Vocabulary.{Told, InLeg, OutLeg, Leaving, Tells, Server, is_due, is_open, is_shut, in_leg, with_in, out_place, Gate, lets, length_of, Pick, or_else, put, put_by, put_in_by, put_in_greeting, told_by, was_current, put_tells, put_tells_by, put_b1, put_b1_by, put_ack, put_ack_by, ack_due, next_in, put_out, put_out_at, put_open, next_out, out_greeting_at, put_out_greeting, put_waiting, waiting_at, waiting_by, was_put, goes, with_out, counts}
+use Rattle.law_role_server.proofs.Vocabulary.{counts_at, may_go_at, may_end_at, is_end_due, gate_at, put_pdu, pdu_by, put_end, put_pdu_or_end, settled_pick}
 use Rattle.law_peers_routes.proofs.Upwards.ServerLegs.{Stands, Kept, Same, same_kept, with_kept, found_up, same_settled}
 
 -- ---- on an os leg

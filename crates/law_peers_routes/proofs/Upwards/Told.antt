@@ -1,19 +1,8 @@
 -- how often an in proxy tells the server that a leg carries one channel more, and on which legs
 -- the server took a message (profile)
-use Rattle.std.proofs.Common.{◌≡◌, ℕ, ◌+◌, ◌≤◌, arith, List, [], ◌∷◌, ◌++◌, length, refl, ap, ◌∙◌}
-use Rattle.std.proofs.lemmas.Bool.{or_left, or_right}
-use Rattle.std.proofs.lemmas.List.{append-nil, length-append}
-use Rattle.std.specs.Prelude.{Bool, true, false, ◌||◌, if◌then◌else◌}
-use Rattle.law_order.specs.Items.{Item, Stop}
-use Rattle.law_order.specs.Logs.{seen}
-use Rattle.law_order.proofs.ByNumber.{seen-append}
-use Rattle.rh_sig.specs.declared.named.Named.TheVariants.{InR2A2}
-use Rattle.rh_line.specs.declared.leg.Leg.{Leg}
-use Rattle.rh_shell.specs.Shells.{same_leg}
-use Rattle.rh_shell.specs.Rules.{Message, Packet}
-use Rattle.law_moves.specs.Moves.{OnLeg}
-use Rattle.law_moves.specs.Wires.{of_leg}
-use Rattle.law_node_streams.proofs.Streams.LegLogs.{one_more}
+use Rattle.law_order.proofs.Vocabulary.{◌≡◌, ℕ, ◌+◌, ◌≤◌, arith, List, [], ◌∷◌, ◌++◌, length, refl, ap, ◌∙◌, or_left, or_right, append-nil, length-append, Bool, true, false, ◌||◌, if◌then◌else◌, Item, Stop, seen}
+use Rattle.law_moves.proofs.Vocabulary.{seen-append, InR2A2, Leg, same_leg, Message, Packet, OnLeg, of_leg}
+use Rattle.law_moves.proofs.Lemmas.{leg_more as one_more}
 use Rattle.law_node_begins.specs.ProxiesBegin.Pipes.{is as server_leg}
 
 -- IN_R2/A2, as if it were an item

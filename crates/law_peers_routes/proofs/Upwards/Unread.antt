@@ -1,15 +1,6 @@
 -- in a refusal no message is read, whatever its reader waits for first
-use Rattle.std.proofs.Common.{◌≡◌, ◌&&◌, Bool, true, false, ℕ, List, [], ◌∷◌, ◌++◌, ◌∙◌, Some, None, refl, sym, ap, subst}
-use Rattle.std.specs.declared.option.Option.{Option}
-use Rattle.rh_pdu.specs.Header.{head_fault}
-use Rattle.rh_sig.specs.declared.name.Pipe.{Pipe}
-use Rattle.rh_sig.specs.declared.name.Pipe.TheVariants.{CiU, IsU, IsD, CoU, CoD, OsU, OsD}
-use Rattle.rh_http.specs.declared.refusal.Refusal.{Refusal}
-use Rattle.rh_http.specs.declared.refusal.Refusal.TheVariants.{Bad, Missing, Unavailable}
-use Rattle.rh_http.specs.Texts.{refusal_text}
-use Rattle.rh_shell.specs.Intakes.{ends_head}
-use Rattle.rh_shell.specs.Rules.{Message}
-use Rattle.law_moves.specs.ReadBack.Reading.{Reading, ReadsNothing, begin, messages_from, read_byte}
+use Rattle.law_order.proofs.Vocabulary.{◌≡◌, ◌&&◌, Bool, true, false, ℕ, List, [], ◌∷◌, ◌++◌, ◌∙◌, Some, None, refl, sym, ap, subst, Option}
+use Rattle.law_moves.proofs.Vocabulary.{head_fault, Pipe, CiU, IsU, IsD, CoU, CoD, OsU, OsD, Refusal, Bad, Missing, Unavailable, refusal_text, ends_head, Message, Reading, ReadsNothing, begin, messages_from, read_byte}
 
 -- whether no byte makes a message whole
 is_none : List Message → Bool

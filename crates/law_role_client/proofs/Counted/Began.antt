@@ -1,16 +1,10 @@
 -- the channel in use and its successor, on IN or on OUT legs: which of them began
-use Rattle.std.proofs.Common.{◌≡◌, ◌⊎◌, ℕ, ◌+◌, ◌<◌, ◌≤◌, Bool, true, false, true≢false, List, [], ◌∷◌, ◌++◌, inl, inr, arith, refl, sym, ◌∙◌, subst}
-use Rattle.rh_rts.specs.declared.command.Cookie.{Cookie}
-use Rattle.rh_sig.specs.declared.named.Named.{Named}
-use Rattle.rh_line.specs.declared.leg.Leg.{Leg}
-use Rattle.rh_line.specs.declared.leg.LegKind.{LegKind}
-use Rattle.law_moves.specs.Moves.{OnLeg}
-use Rattle.law_moves.specs.Wires.{of_leg}
-use Rattle.law_moves.specs.Passages.Passing.{HasOne}
+use Rattle.law_order.proofs.Vocabulary.{◌≡◌, ◌⊎◌, ℕ, ◌+◌, ◌<◌, ◌≤◌, Bool, true, false, true≢false, List, [], ◌∷◌, ◌++◌, inl, inr, arith, refl, sym, ◌∙◌, subst}
+use Rattle.law_moves.proofs.Vocabulary.{Cookie, Named, Leg, LegKind, OnLeg, of_leg, HasOne}
 use Rattle.law_role_client.proofs.ClientLogs.{of_kind}
-use Rattle.law_role_client.specs.Counted.Counting.{total}
 use Rattle.law_role_client.proofs.Counted.Standing.{Stands, passes, stands_none, stands_stays, stands_next}
 use Rattle.law_role_client.proofs.Counted.Behind.{still_has, now_has}
+use Rattle.law_role_client.proofs.Vocabulary.{total}
 
 -- the packet that begins the first channel, and those that begin a channel of a cookie
 module _ (kind : LegKind) (first : Named → Bool) (Begins : Cookie → Named → Type 0) where

@@ -1,18 +1,8 @@
 -- one more message, and what began before
-use Rattle.std.proofs.Common.{◌≡◌, ℕ, ◌==◌, ◌&&◌, Bool, true, false, if◌then◌else◌, List, [], ◌∷◌, ◌++◌, inl, inr, refl, sym, subst}
-use Rattle.std.proofs.lemmas.Bool.{and_parts}
-use Rattle.std.proofs.lemmas.List.{append_assoc, append-nil}
-use Rattle.law_order.proofs.ByNumber.{test_same, same_number}
-use Rattle.rh_sig.specs.declared.named.Named.{Named}
-use Rattle.rh_line.specs.declared.leg.Leg.{Leg}
-use Rattle.rh_line.specs.declared.leg.LegKind.{LegKind}
-use Rattle.rh_shell.specs.Rules.{Message, Text, Pdu, Packet}
-use Rattle.rh_shell.specs.Shells.{same_leg, kind_number}
-use Rattle.law_moves.specs.Moves.{OnLeg}
-use Rattle.law_moves.specs.Wires.{of_leg}
-use Rattle.law_moves.specs.Passages.Passing.{Has, HasOne}
-use Rattle.law_moves.proofs.Passages.Messages.{leg_more, one_more_so}
-use Rattle.law_role_client.specs.Counted.Naming.{EachBehind}
+use Rattle.law_order.proofs.Vocabulary.{◌≡◌, ℕ, ◌==◌, ◌&&◌, Bool, true, false, if◌then◌else◌, List, [], ◌∷◌, ◌++◌, inl, inr, refl, sym, subst, and_parts, append_assoc, append-nil}
+use Rattle.law_moves.proofs.Vocabulary.{test_same, same_number, Named, Leg, LegKind, Message, Text, Pdu, Packet, same_leg, kind_number, OnLeg, of_leg, Has, HasOne}
+use Rattle.law_moves.proofs.Lemmas.{leg_more, one_more_so}
+use Rattle.law_role_client.proofs.Vocabulary.{EachBehind}
 
 behind_more : (Is : List OnLeg → OnLeg → Type 0) (front log : List OnLeg) (one : OnLeg)
     → EachBehind Is front log → Is (front ++ log) one → EachBehind Is front (log ++ one ∷ [])
@@ -42,7 +32,7 @@ still_has Is leg log one h =
     subst (HasOne Is) (sym (leg_more leg log one))
     (one_more_so Is (of_leg leg log) (of_leg leg (one ∷ [])) h)
 
-both_true : (a b : Bool) → a ≡ true → b ≡ true → a && b ≡ true
+pub both_true : (a b : Bool) → a ≡ true → b ≡ true → a && b ≡ true
 both_true true true e o = refl
 both_true true false e o = absurd (cc)
 both_true false b e o = absurd (cc)

@@ -1,24 +1,15 @@
 -- a client replaces its IN channels one by one
-use Rattle.std.proofs.Common.{◌≡◌, ℕ, ◌+◌, ◌≤◌, Bool, true, false, true≢false, List, [], ◌∷◌, ◌++◌, arith, refl, sym, ap, ◌∙◌, subst}
-use Rattle.rh_http.specs.declared.config.ClientConfig.{ClientConfig}
-use Rattle.rh_line.specs.declared.leg.LegKind.TheVariants.{ClientOut, ClientIn}
-use Rattle.rh_client.specs.declared.replacement.Replacement.{Replacement}
-use Rattle.rh_client.specs.declared.replacement.Replacement.TheVariants.{NoneUnderWay, In, Out}
+use Rattle.law_order.proofs.Vocabulary.{◌≡◌, ℕ, ◌+◌, ◌≤◌, Bool, true, false, true≢false, List, [], ◌∷◌, ◌++◌, arith, refl, sym, ap, ◌∙◌, subst}
 use Rattle.rh_client.specs.declared.replacement.InStage.TheVariants as in_stage
 use Rattle.rh_client.specs.declared.replacement.OutStage.TheVariants as out_stage
-use Rattle.rh_client.specs.declared.state.ClientRole.{ClientRole}
-use Rattle.rh_client.specs.State.{first}
-use Rattle.rh_client.specs.Channels.{is_put}
-use Rattle.rh_client.specs.Client.{acts, rules}
-use Rattle.law_moves.specs.Moves.{OnLeg, Passage, EndMove, end_started, all_end_moved, AreAllowedAtEnd}
+use Rattle.law_moves.proofs.Vocabulary.{ClientConfig, ClientOut, ClientIn, OnLeg, Passage, EndMove, end_started, all_end_moved, AreAllowedAtEnd}
+use Rattle.law_role_client.proofs.Vocabulary.{Replacement, NoneUnderWay, In, Out, ClientRole, first, is_put, acts, rules, is_in_r1_a1, is_in_a4, is_in_r1_a5, total, once_if, in_asked, in_answered, in_handed_over, InIsAt, ReplacesIns}
 use Rattle.law_role_client.proofs.ClientLogs.{of_kind}
-use Rattle.law_role_client.specs.Counted.Counting.{is_in_r1_a1, is_in_a4, is_in_r1_a5, total, once_if}
-use Rattle.law_role_client.specs.Counted.Replacing.{in_asked, in_answered, in_handed_over, InIsAt, ReplacesIns}
 use Rattle.law_role_client.proofs.Counted.Allowed.{allowed_moves_keep}
 use Rattle.law_role_client.proofs.Counted.Standing.{Stands, passes, stands_none, stands_stays, stands_next, stands_on, total_stays, total_rises, once_at_most}
 use Rattle.law_role_client.proofs.Counted.Views.{View, Way, way_of, Free, InIsAsked, InIsAnswered, OutIsAsked, OutIsAnswered, OutIsSwitched, OutIsFinished, is_in_way, Marks, EventsKeep}
-use Rattle.law_role_client.proofs.Counted.Replacements as keeps
 use Rattle.law_role_client.proofs.Counted.Moves.{client_keeps}
+use Rattle.law_role_client.proofs.Counted.Replacements as keeps
 
 -- the counts at each way
 abbrev Asked : ℕ → ℕ → Bool → Way → ℕ → ℕ → ℕ → Type 0

@@ -1,31 +1,16 @@
 -- a client names its IN channels
-use Rattle.std.proofs.Common.{◌≡◌, ◌⊎◌, ℕ, ◌+◌, ◌≤◌, Bool, true, false, true≢false, List, [], ◌∷◌, ◌++◌, inl, inr, arith, refl, sym, ap, ◌∙◌, subst}
-use Rattle.rh_rts.specs.declared.command.Cookie.{Cookie}
-use Rattle.rh_sig.specs.declared.named.Named.TheVariants.{ConnB1, InR1A1, InR1A5}
-use Rattle.rh_sig.specs.declared.ranges.TheConstants.{PROTOCOL_VERSION}
-use Rattle.rh_http.specs.declared.config.ClientConfig.{ClientConfig}
-use Rattle.rh_line.specs.declared.leg.Leg.{Leg}
-use Rattle.rh_line.specs.declared.leg.LegKind.TheVariants.{ClientIn}
-use Rattle.rh_shell.specs.Rules.{Message, Text, Pdu, Packet}
-use Rattle.rh_client.specs.State.{first, ci}
-use Rattle.rh_client.specs.Channels.{no_cookie}
-use Rattle.rh_client.specs.Client.{acts, rules}
-use Rattle.rh_client.specs.declared.state.ClientRole.{ClientRole}
-use Rattle.law_moves.specs.Moves.{OnLeg, Passage, EndMove, end_started, all_end_moved, AreAllowedAtEnd}
-use Rattle.law_moves.specs.Wires.{of_leg}
-use Rattle.law_moves.specs.Passages.Passing.{Has, BeginsIn, HasBegunIn}
-use Rattle.law_role_client.specs.Counted.Counting.{is_conn_b1, is_in_r1_a1, is_in_r1_a5, total}
-use Rattle.law_role_client.specs.Counted.Replacing.{ReplacesIns}
-use Rattle.law_role_client.specs.Counted.Naming.{EachBehind, NamesIn, NamesIns}
+use Rattle.law_order.proofs.Vocabulary.{◌≡◌, ◌⊎◌, ℕ, ◌+◌, ◌≤◌, Bool, true, false, true≢false, List, [], ◌∷◌, ◌++◌, inl, inr, arith, refl, sym, ap, ◌∙◌, subst}
+use Rattle.law_moves.proofs.Vocabulary.{Cookie, ConnB1, InR1A1, InR1A5, PROTOCOL_VERSION, ClientConfig, Leg, ClientIn, Message, Text, Pdu, Packet, OnLeg, Passage, EndMove, end_started, all_end_moved, AreAllowedAtEnd, of_leg, Has, BeginsIn, HasBegunIn}
+use Rattle.law_role_client.proofs.Vocabulary.{first, ci, no_cookie, acts, rules, ClientRole, is_conn_b1, is_in_r1_a1, is_in_r1_a5, total, ReplacesIns, EachBehind, NamesIn, NamesIns}
 use Rattle.law_role_client.proofs.Counted.Allowed.{allowed_moves_keep}
 use Rattle.law_role_client.proofs.Counted.Standing.{passes, stands_on}
 use Rattle.law_role_client.proofs.Counted.Behind.{one_more_behind, still_has_all, has_one, found}
 use Rattle.law_role_client.proofs.Counted.Began.{Began, began_not, began_more, began_up, began_anew, began_first, began_asked, began_follows, began_before}
 use Rattle.law_role_client.proofs.Counted.Views.{View, view, Way, Free, InIsAsked, InIsAnswered, OutIsAsked, OutIsAnswered, OutIsSwitched, OutIsFinished, is_in_way, Marks, marks, unmarked, Names, EventsKeep}
-use Rattle.law_role_client.proofs.Counted.Replacements as keeps
 use Rattle.law_role_client.proofs.Counted.Moves.{client_keeps}
 use Rattle.law_role_client.proofs.Counted.InCounts.{replaces_ins}
 use Rattle.law_role_client.proofs.Counted.OneCookie.{one_in_cookie}
+use Rattle.law_role_client.proofs.Counted.Replacements as keeps
 
 -- the successor has the next number, and its first packet was put before it is answered
 abbrev IsNext : Way → Bool → ℕ → ℕ → Type 0

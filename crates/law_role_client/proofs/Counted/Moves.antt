@@ -1,9 +1,7 @@
 -- each allowed step of a client keeps what its events keep
-use Rattle.std.proofs.Common.{List, refl}
-use Rattle.rh_client.specs.Ending.{give, drawn}
-use Rattle.rh_client.specs.Time.{ping}
-use Rattle.rh_client.specs.Client.{acts, rules}
-use Rattle.law_moves.specs.Moves.{OnLeg}
+use Rattle.law_order.proofs.Vocabulary.{List, refl}
+use Rattle.law_moves.proofs.Vocabulary.{OnLeg}
+use Rattle.law_role_client.proofs.Vocabulary.{give, drawn, ping, acts, rules}
 use Rattle.law_role_client.proofs.Counted.Allowed.{AllowedKeep}
 use Rattle.law_role_client.proofs.Counted.Views.{View, EventsKeep}
 use Rattle.law_role_client.proofs.Counted.Replacements.{Holds, same_holds, take_holds, recycled}

@@ -1,19 +1,7 @@
 -- a channel that began has one cookie
-use Rattle.std.proofs.Common.{◌≡◌, ℕ, suc, ◌+◌, ◌≤◌, ◌&&◌, ◌||◌, Bool, true, false, if◌then◌else◌, List, [], ◌∷◌, inl, inr, arith, refl, sym, ◌∙◌, subst}
-use Rattle.std.proofs.lemmas.Bool.Decides.{nat_tests}
-use Rattle.rh_rts.specs.declared.command.Cookie.{Cookie}
-use Rattle.rh_sig.specs.declared.named.Named.{Named}
-use Rattle.rh_sig.specs.declared.named.Named.TheVariants.{ConnA1, ConnB1, InR1A1, OutR1A3}
-use Rattle.rh_line.specs.declared.leg.Leg.{Leg}
-use Rattle.rh_line.specs.declared.leg.LegKind.{LegKind}
-use Rattle.rh_line.specs.declared.leg.LegKind.TheVariants.{ClientIn, ClientOut}
-use Rattle.rh_shell.specs.Rules.{Message, Text, Pdu, Packet}
-use Rattle.rh_shell.specs.Shells.{is_of}
-use Rattle.rh_client.specs.State.{ci, co}
-use Rattle.law_moves.specs.Moves.{OnLeg}
-use Rattle.law_moves.specs.Wires.{of_leg}
-use Rattle.law_moves.specs.Passages.Passing.{BeginsIn, BeginsOut, HasBegunIn, HasBegunOut, HasOne, count_of}
-use Rattle.law_role_client.specs.Counted.Counting.{is_conn_a1, is_conn_b1, is_in_r1_a1, is_out_r1_a3, is_among, once_if, total, StandsOnEach}
+use Rattle.law_order.proofs.Vocabulary.{◌≡◌, ℕ, suc, ◌+◌, ◌≤◌, ◌&&◌, ◌||◌, Bool, true, false, if◌then◌else◌, List, [], ◌∷◌, inl, inr, arith, refl, sym, ◌∙◌, subst, nat_tests}
+use Rattle.law_moves.proofs.Vocabulary.{Cookie, Named, ConnA1, ConnB1, InR1A1, OutR1A3, Leg, LegKind, ClientIn, ClientOut, Message, Text, Pdu, Packet, is_of, OnLeg, of_leg, BeginsIn, BeginsOut, HasBegunIn, HasBegunOut, HasOne, count_of}
+use Rattle.law_role_client.proofs.Vocabulary.{ci, co, is_conn_a1, is_conn_b1, is_in_r1_a1, is_out_r1_a3, is_among, once_if, total, StandsOnEach}
 
 either_count : (one other : Named → Bool) (ms : List Message)
     → count_of (λ named. one named || other named) ms ≤ count_of one ms + count_of other ms

@@ -1,48 +1,23 @@
 -- a client opens once, and does little before
-use Rattle.std.proofs.Common.{◌≡◌, ℕ, ◌+◌, Bool, true, false, true≢false, not, List, [], ◌∷◌, ◌++◌, Some, None, inl, inr, arith, refl, sym, ap, ◌∙◌, subst}
-use Rattle.std.proofs.lemmas.Bool.Decides.{nat_tests}
-use Rattle.std.specs.Prelude.{IfSome}
-use Rattle.std.specs.List.{AllByRecursion}
-use Rattle.std.specs.declared.option.Option.{Option}
 use Rattle.rh_window.specs.Receiving as windows
-use Rattle.rh_window.specs.declared.recv_window.Ack.{Ack}
-use Rattle.law_order.proofs.ByNumber.{by_test}
-use Rattle.rh_http.specs.declared.config.ClientConfig.{ClientConfig}
-use Rattle.rh_line.specs.Lines.{Line, first_line, after_take, after_told}
-use Rattle.rh_line.specs.declared.leg.LegKind.TheVariants.{ClientOut, ClientIn}
-use Rattle.rh_line.specs.declared.which.Which.{Which}
-use Rattle.rh_line.specs.declared.which.Which.TheVariants.{Current, Next}
-use Rattle.rh_shell.specs.declared.answers.Phase.{Phase}
+use Rattle.law_order.proofs.Vocabulary.{◌≡◌, ℕ, ◌+◌, Bool, true, false, true≢false, not, List, [], ◌∷◌, ◌++◌, Some, None, inl, inr, arith, refl, sym, ap, ◌∙◌, subst, nat_tests, IfSome, AllByRecursion, Option}
 use Rattle.rh_shell.specs.declared.answers.Phase.TheVariants as phase
-use Rattle.rh_shell.specs.NearEnds.{is_ended}
-use Rattle.rh_shell.specs.Rules.{Message}
-use Rattle.rh_shell.specs.Shells.{is_of}
-use Rattle.rh_client.specs.declared.replacement.Replacement.{Replacement}
-use Rattle.rh_client.specs.declared.replacement.Replacement.TheVariants.{NoneUnderWay, In, Out}
 use Rattle.rh_client.specs.declared.replacement.InStage.TheVariants as in_stage
 use Rattle.rh_client.specs.declared.replacement.OutStage.TheVariants as out_stage
-use Rattle.rh_client.specs.declared.replacement.Waits.{Waits}
 use Rattle.rh_client.specs.declared.replacement.Waits.TheVariants as waits
-use Rattle.rh_client.specs.declared.state.ClientRole.{ClientRole}
-use Rattle.rh_client.specs.State.{first, is_open, is_opening}
-use Rattle.rh_client.specs.Replacements.{has_out, with_in, with_out}
-use Rattle.rh_client.specs.Client.{acts, rules}
-use Rattle.law_moves.specs.Moves.{OnLeg, Passage, EndMove, end_started, all_end_moved, AreAllowedAtEnd}
-use Rattle.law_moves.specs.Passages.Passing.{of_kind}
-use Rattle.law_moves.proofs.Passages.Messages.{all_append, kind_more}
-use Rattle.law_role_client.proofs.ClientLogs as logs
-use Rattle.law_role_client.specs.Counted.Counting.{is_conn_c2, is_greeting, total, once_if}
-use Rattle.law_role_client.specs.Counted.Replacing.{InIsAt, OutIsAt, ReplacesIns, ReplacesOuts, AsksWhereWanted, is_to_ask, out_waits, out_wanted, out_asked}
-use Rattle.law_role_client.specs.Counted.Opening.{opened, IsUnused, OpensOnce}
+use Rattle.law_moves.proofs.Vocabulary.{Ack, by_test, ClientConfig, Line, first_line, after_take, after_told, ClientOut, ClientIn, Which, Current, Next, Phase, Message, is_of, OnLeg, Passage, EndMove, end_started, all_end_moved, AreAllowedAtEnd, of_kind}
+use Rattle.law_moves.proofs.Lemmas.{all_append, kind_more}
+use Rattle.law_role_client.proofs.Vocabulary.{Replacement, NoneUnderWay, In, Out, Waits, ClientRole, first, is_open, is_opening, has_out, with_in, with_out, acts, rules, is_conn_c2, is_greeting, total, once_if, InIsAt, OutIsAt, ReplacesIns, ReplacesOuts, AsksWhereWanted, is_to_ask, out_waits, out_wanted, out_asked, opened, IsUnused, OpensOnce}
 use Rattle.law_role_client.proofs.Counted.Allowed.{allowed_moves_keep}
 use Rattle.law_role_client.proofs.Counted.Standing.{passes, total_stays, total_rises, once_at_most}
 use Rattle.law_role_client.proofs.Counted.Views.{View, view, Way, way_of, Free, InIsAsked, InIsAnswered, OutIsAsked, OutIsAnswered, OutIsSwitched, OutIsFinished, is_in_way, is_out_way, out_if, has_in, first_is_in, behind_out, Marks, IsGreeting, IsPast, IsDue, EventsKeep}
-use Rattle.law_role_client.proofs.Counted.Replacements as keeps
 use Rattle.law_role_client.proofs.Counted.Puts.{not_both}
 use Rattle.law_role_client.proofs.Counted.Moves.{client_keeps}
 use Rattle.law_role_client.proofs.Counted.InCounts.{replaces_ins}
 use Rattle.law_role_client.proofs.Counted.OutCounts.{replaces_outs}
-use Rattle.law_role_client.proofs.Counted.Wishes.{asks_where_wanted}
+use Rattle.law_role_client.proofs.Counted.Wishes.{asks_where_wanted, not_yet_ended as live}
+use Rattle.law_role_client.proofs.ClientLogs as logs
+use Rattle.law_role_client.proofs.Counted.Replacements as keeps
 
 abbrev Greets : Message → Type 0
 Greets m = is_greeting m ≡ true
@@ -303,11 +278,6 @@ none_is (Out out_stage.Asked w) e = absurd (not_free_out OutIsAsked refl e)
 none_is (Out out_stage.Answered w) e = absurd (not_free_out OutIsAnswered refl e)
 none_is (Out out_stage.Switched w) e = absurd (not_free_out OutIsSwitched refl e)
 none_is (Out out_stage.Finished w) e = absurd (not_free_out OutIsFinished refl e)
-
-live : (p : Phase) → is_opening p ≡ true → is_ended p ≡ false
-live phase.Opening e = refl
-live phase.Open e = absurd (cc)
-live phase.Ended e = absurd (cc)
 
 unused : (window : ℕ) (p : Passage ClientRole) → is_opening p.role.phase ≡ true
     → Fresh window (view p.role) p.put → ReplacesIns p → ReplacesOuts p → AsksWhereWanted p

@@ -1,24 +1,15 @@
 -- a client replaces its OUT channels one by one
-use Rattle.std.proofs.Common.{◌≡◌, ℕ, ◌+◌, ◌≤◌, Bool, true, false, true≢false, List, [], ◌∷◌, ◌++◌, arith, refl, sym, ap, subst}
-use Rattle.rh_http.specs.declared.config.ClientConfig.{ClientConfig}
-use Rattle.rh_line.specs.declared.leg.LegKind.TheVariants.{ClientOut, ClientIn}
-use Rattle.rh_client.specs.declared.replacement.Replacement.{Replacement}
-use Rattle.rh_client.specs.declared.replacement.Replacement.TheVariants.{NoneUnderWay, In, Out}
+use Rattle.law_order.proofs.Vocabulary.{◌≡◌, ℕ, ◌+◌, ◌≤◌, Bool, true, false, true≢false, List, [], ◌∷◌, ◌++◌, arith, refl, sym, ap, subst}
 use Rattle.rh_client.specs.declared.replacement.InStage.TheVariants as in_stage
 use Rattle.rh_client.specs.declared.replacement.OutStage.TheVariants as out_stage
-use Rattle.rh_client.specs.declared.state.ClientRole.{ClientRole}
-use Rattle.rh_client.specs.State.{first}
-use Rattle.rh_client.specs.Channels.{is_asked}
-use Rattle.rh_client.specs.Client.{acts, rules}
-use Rattle.law_moves.specs.Moves.{OnLeg, Passage, EndMove, end_started, all_end_moved, AreAllowedAtEnd}
+use Rattle.law_moves.proofs.Vocabulary.{ClientConfig, ClientOut, ClientIn, OnLeg, Passage, EndMove, end_started, all_end_moved, AreAllowedAtEnd}
+use Rattle.law_role_client.proofs.Vocabulary.{Replacement, NoneUnderWay, In, Out, ClientRole, first, is_asked, acts, rules, is_out_r1_a3, is_out_r1_a6, is_out_r1_a7, is_out_r1_a10, total, once_if, OutStands, OutIsAt, ReplacesOuts}
 use Rattle.law_role_client.proofs.ClientLogs.{of_kind}
-use Rattle.law_role_client.specs.Counted.Counting.{is_out_r1_a3, is_out_r1_a6, is_out_r1_a7, is_out_r1_a10, total, once_if}
-use Rattle.law_role_client.specs.Counted.Replacing.{OutStands, OutIsAt, ReplacesOuts}
 use Rattle.law_role_client.proofs.Counted.Allowed.{allowed_moves_keep}
 use Rattle.law_role_client.proofs.Counted.Standing.{Stands, passes, stands_none, stands_stays, stands_next, stands_on, total_stays, total_rises, once_at_most}
 use Rattle.law_role_client.proofs.Counted.Views.{View, Way, way_of, Free, InIsAsked, InIsAnswered, OutIsAsked, OutIsAnswered, OutIsSwitched, OutIsFinished, is_out_way, Marks, EventsKeep}
-use Rattle.law_role_client.proofs.Counted.Replacements as keeps
 use Rattle.law_role_client.proofs.Counted.Moves.{client_keeps}
+use Rattle.law_role_client.proofs.Counted.Replacements as keeps
 
 record At (current more_asked more_answered more_switched more o3 o6 o7 o10 : ℕ) : Type 0 where
   asked : o3 ≡ o10 + more_asked

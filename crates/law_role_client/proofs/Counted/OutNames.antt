@@ -1,32 +1,17 @@
 -- a client names its OUT channels
-use Rattle.std.proofs.Common.{◌≡◌, ◌⊎◌, ℕ, ◌+◌, ◌≤◌, Bool, true, false, true≢false, List, [], ◌∷◌, ◌++◌, inl, inr, arith, refl, sym, ap, ◌∙◌, subst}
-use Rattle.rh_rts.specs.declared.command.Cookie.{Cookie}
-use Rattle.rh_sig.specs.declared.named.Named.TheVariants.{ConnA1, OutR1A3, OutR1A7}
-use Rattle.rh_sig.specs.declared.ranges.TheConstants.{PROTOCOL_VERSION}
-use Rattle.rh_http.specs.declared.config.ClientConfig.{ClientConfig}
-use Rattle.rh_line.specs.declared.leg.Leg.{Leg}
-use Rattle.rh_line.specs.declared.leg.LegKind.TheVariants.{ClientOut, ClientIn}
-use Rattle.rh_shell.specs.Rules.{Message, Text, Pdu, Packet}
-use Rattle.rh_client.specs.State.{first, co}
-use Rattle.rh_client.specs.Channels.{no_cookie}
-use Rattle.rh_client.specs.Client.{acts, rules}
-use Rattle.rh_client.specs.declared.state.ClientRole.{ClientRole}
-use Rattle.law_moves.specs.Moves.{OnLeg, Passage, EndMove, end_started, all_end_moved, AreAllowedAtEnd}
-use Rattle.law_moves.specs.Wires.{of_leg}
-use Rattle.law_moves.specs.Passages.Passing.{Has, BeginsOut, HasBegunOut}
+use Rattle.law_order.proofs.Vocabulary.{◌≡◌, ◌⊎◌, ℕ, ◌+◌, ◌≤◌, Bool, true, false, true≢false, List, [], ◌∷◌, ◌++◌, inl, inr, arith, refl, sym, ap, ◌∙◌, subst}
+use Rattle.law_moves.proofs.Vocabulary.{Cookie, ConnA1, OutR1A3, OutR1A7, PROTOCOL_VERSION, ClientConfig, Leg, ClientOut, ClientIn, Message, Text, Pdu, Packet, OnLeg, Passage, EndMove, end_started, all_end_moved, AreAllowedAtEnd, of_leg, Has, BeginsOut, HasBegunOut}
+use Rattle.law_role_client.proofs.Vocabulary.{first, co, no_cookie, acts, rules, ClientRole, is_conn_a1, is_out_r1_a3, is_out_r1_a7, total, ReplacesOuts, EachBehind, NamesOut, NamesOuts}
 use Rattle.law_role_client.proofs.ClientLogs.{of_kind}
-use Rattle.law_role_client.specs.Counted.Counting.{is_conn_a1, is_out_r1_a3, is_out_r1_a7, total}
-use Rattle.law_role_client.specs.Counted.Replacing.{ReplacesOuts}
-use Rattle.law_role_client.specs.Counted.Naming.{EachBehind, NamesOut, NamesOuts}
 use Rattle.law_role_client.proofs.Counted.Allowed.{allowed_moves_keep}
 use Rattle.law_role_client.proofs.Counted.Standing.{passes, stands_on, total_stays, total_rises}
 use Rattle.law_role_client.proofs.Counted.Behind.{one_more_behind, still_has_all, has_one, found}
 use Rattle.law_role_client.proofs.Counted.Began.{Began, began_not, began_more, began_up, began_anew, began_first, began_asked, began_follows, began_before}
 use Rattle.law_role_client.proofs.Counted.Views.{View, view, Way, Free, InIsAsked, InIsAnswered, OutIsAsked, OutIsAnswered, OutIsSwitched, OutIsFinished, is_out_way, Marks, marks, unmarked, Names, EventsKeep}
-use Rattle.law_role_client.proofs.Counted.Replacements as keeps
 use Rattle.law_role_client.proofs.Counted.Moves.{client_keeps}
 use Rattle.law_role_client.proofs.Counted.OutCounts.{replaces_outs}
 use Rattle.law_role_client.proofs.Counted.OneCookie.{one_out_cookie}
+use Rattle.law_role_client.proofs.Counted.Replacements as keeps
 
 -- the successor has the next number, its first packet was put before it is answered, and so many
 -- OUT_R1/A7 were put

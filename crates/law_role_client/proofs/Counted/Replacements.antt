@@ -1,29 +1,12 @@
 -- a replacement at a client begins and is over, and its work is done: events of its replacements
-use Rattle.std.proofs.Common.{◌≡◌, ◌+◌, Bool, true, false, ◌&&◌, nat_lt, List, Ok, Err, refl, sym, ap, subst}
-use Rattle.std.proofs.lemmas.Bool.{and_parts}
-use Rattle.std.specs.declared.result.Result.{Result}
-use Rattle.law_order.proofs.ByNumber.{by_test}
-use Rattle.rh_line.specs.Lines.{after_take}
+use Rattle.law_order.proofs.Vocabulary.{◌≡◌, ◌+◌, Bool, true, false, ◌&&◌, nat_lt, List, Ok, Err, refl, sym, ap, subst, and_parts, Result}
 use Rattle.rh_shell.specs.declared.answers.Phase.TheVariants as phase
-use Rattle.rh_shell.specs.declared.end_role.RecycleRefused.{RecycleRefused}
-use Rattle.rh_shell.specs.declared.end_role.RecycleRefused.TheVariants.{Last}
-use Rattle.rh_client.specs.declared.channels.TheConstants.{LAST_NUMBER}
-use Rattle.rh_client.specs.declared.replacement.Replacement.{Replacement}
-use Rattle.rh_client.specs.declared.replacement.Replacement.TheVariants.{NoneUnderWay, In, Out}
 use Rattle.rh_client.specs.declared.replacement.InStage.TheVariants as in_stage
 use Rattle.rh_client.specs.declared.replacement.OutStage.TheVariants as out_stage
-use Rattle.rh_client.specs.declared.replacement.Waits.{Waits}
 use Rattle.rh_client.specs.declared.replacement.Waits.TheVariants as waits
-use Rattle.rh_client.specs.declared.state.ClientRole.{ClientRole}
-use Rattle.rh_client.specs.Channels.{unopened_in, unopened_out}
-use Rattle.rh_client.specs.Replacements.{is_none, has_out}
-use Rattle.rh_client.specs.State.{settled, is_open, is_over, begin_in, begin_out, after_in, after_out}
-use Rattle.rh_client.specs.InReplacement.{recycle_by, wish_by, wished, wants_successor}
-use Rattle.rh_client.specs.OutReplacement.{succeeded, ended_or, pass_by, passed}
-use Rattle.rh_client.specs.Ending.{take}
-use Rattle.rh_client.specs.Putting.{settled_or_wished}
-use Rattle.law_moves.specs.Moves.{OnLeg}
-use Rattle.law_moves.proofs.Passages.Logs.{Fact}
+use Rattle.law_moves.proofs.Vocabulary.{by_test, after_take, RecycleRefused, Last, OnLeg}
+use Rattle.law_moves.proofs.Lemmas.{Fact}
+use Rattle.law_role_client.proofs.Vocabulary.{LAST_NUMBER, Replacement, NoneUnderWay, In, Out, Waits, ClientRole, unopened_in, unopened_out, is_none, has_out, settled, is_open, is_over, begin_in, begin_out, after_in, after_out, recycle_by, wish_by, wished, wants_successor, succeeded, ended_or, pass_by, passed, take, settled_or_wished}
 use Rattle.law_role_client.proofs.Counted.Views.{View, view, view_by, Free, out_if, has_in, is_in_first, behind_out, EventsKeep}
 
 free : (r : Replacement) → is_none r ≡ true → r ≡ NoneUnderWay

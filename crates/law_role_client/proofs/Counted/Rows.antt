@@ -1,46 +1,20 @@
 -- what comes to a client, its legs and what it is given, are events of its replacements
-use Rattle.std.proofs.Common.{◌≡◌, ◌⊎◌, inl, inr, ℕ, ◌==◌, Bool, true, false, not, ◌&&◌, ◌||◌, nat_lt, if◌then◌else◌, List, [], ◌∷◌, ◌++◌, Some, None, Ok, Err, rules, refl, sym, ap, ◌∙◌, subst}
-use Rattle.std.proofs.lemmas.Bool.{and_parts}
 use Rattle.std.specs.Option.{is_some}
-use Rattle.std.specs.declared.option.Option.{Option}
-use Rattle.law_order.proofs.ByNumber.{by_test, same_number}
-use Rattle.rh_rts.specs.declared.command.Cookie.{Cookie}
-use Rattle.rh_sig.specs.declared.named.Named.{Named}
+use Rattle.law_order.proofs.Vocabulary.{◌≡◌, ◌⊎◌, inl, inr, ℕ, ◌==◌, Bool, true, false, not, ◌&&◌, ◌||◌, nat_lt, if◌then◌else◌, List, [], ◌∷◌, ◌++◌, Some, None, Ok, Err, rules, refl, sym, ap, ◌∙◌, subst, and_parts, Option}
 use Rattle.rh_sig.specs.declared.named.Named.TheVariants as named
-use Rattle.rh_line.specs.Lines.{admit_verdict, after_admit, after_end, after_finish, channel_of}
-use Rattle.rh_line.specs.declared.leg.Leg.{Leg}
-use Rattle.rh_line.specs.declared.leg.LegKind.{LegKind}
-use Rattle.rh_line.specs.declared.leg.LegKind.TheVariants.{ClientOut, OutServer, ClientIn, InServer}
-use Rattle.rh_line.specs.declared.which.Which.{Which}
-use Rattle.rh_shell.specs.declared.answers.Count.{Count}
 use Rattle.rh_shell.specs.declared.answers.Phase.TheVariants as phase
-use Rattle.rh_shell.specs.Rules.{Row, Pdu, Packet}
-use Rattle.rh_client.specs.declared.channels.Opening.{Opening}
-use Rattle.rh_client.specs.declared.channels.Opening.TheVariants.{NotUp, Request, First, Second, Put}
-use Rattle.rh_client.specs.declared.channels.TheConstants.{LAST_NUMBER}
-use Rattle.rh_client.specs.declared.replacement.Replacement.{Replacement}
-use Rattle.rh_client.specs.declared.replacement.Replacement.TheVariants.{NoneUnderWay, In, Out}
 use Rattle.rh_client.specs.declared.replacement.InStage.TheVariants as in_stage
-use Rattle.rh_client.specs.declared.replacement.OutStage.{OutStage}
 use Rattle.rh_client.specs.declared.replacement.OutStage.TheVariants as out_stage
 use Rattle.rh_client.specs.declared.replacement.Waits.TheVariants as waits
-use Rattle.rh_client.specs.declared.state.ClientRole.{ClientRole}
-use Rattle.rh_client.specs.Channels.{is_up, is_put, is_asked, told_in, is_named, in_up, out_up}
-use Rattle.rh_client.specs.Replacements.{is_in, is_out, has_out, with_out}
-use Rattle.rh_client.specs.State.{Done, taken, unexpected, settled, is_open, is_opening, is_writing, is_in_successor, is_current, is_out_successor}
-use Rattle.rh_client.specs.Opening.{up_by, wants_by, on_conn_a3, on_conn_c2, with_next}
-use Rattle.rh_client.specs.Acknowledging.{pdu_on, admit_row, on_ack_to, ack_named, acked, ack_row}
-use Rattle.rh_client.specs.InReplacement.{answer_by}
-use Rattle.rh_client.specs.OutReplacement.{passed, a2_by, a6_by, a10_by, on_out_r1_a2, on_out_r1_a6}
-use Rattle.rh_client.specs.Ending.{give, drawn_by, on_end_b2, end_on, end_channel}
-use Rattle.rh_client.specs.Time.{ping_by}
 use Rattle.rh_client.specs.Client as client
-use Rattle.rh_client.specs.Client.{on_packet, packet_by}
-use Rattle.law_moves.specs.Moves.{OnLeg}
-use Rattle.law_moves.proofs.Passages.Logs.{Fact, RowKeeps}
+use Rattle.law_moves.proofs.Vocabulary.{by_test, same_number, Cookie, Named, admit_verdict, after_admit, after_end, after_finish, channel_of, Leg, LegKind, ClientOut, OutServer, ClientIn, InServer, Which, Count, Row, Pdu, Packet, OnLeg}
+use Rattle.law_moves.proofs.Lemmas.{Fact, RowKeeps}
+use Rattle.law_role_client.proofs.Vocabulary.{Opening, NotUp, Request, First, Second, Put, LAST_NUMBER, Replacement, NoneUnderWay, In, Out, OutStage, ClientRole, is_up, is_put, is_asked, told_in, is_named, in_up, out_up, is_in, is_out, has_out, with_out, Done, taken, unexpected, settled, is_open, is_opening, is_writing, is_in_successor, is_current, is_out_successor, up_by, wants_by, on_conn_a3, on_conn_c2, with_next, pdu_on, admit_row, on_ack_to, ack_named, acked, ack_row}
+use Rattle.law_role_client.proofs.Vocabulary.{answer_by, passed, a2_by, a6_by, a10_by, on_out_r1_a2, on_out_r1_a6, give, drawn_by, on_end_b2, end_on, end_channel, ping_by, on_packet, packet_by}
 use Rattle.law_role_client.proofs.Counted.Views.{View, view, view_by, way_of, out_way, is_in_way, is_out_way, newest_out, marks, unmarked, EventsKeep}
-use Rattle.law_role_client.proofs.Counted.Replacements as replacements
 use Rattle.law_role_client.proofs.Counted.Replacements.{at_replacement, same_holds, begin_out_holds, settled_holds, passed_holds}
+use Rattle.law_role_client.proofs.Sending.Laws.{not_so as not_true}
+use Rattle.law_role_client.proofs.Counted.Replacements as replacements
 
 first_of : (a b c : Bool) → a || (b && c) ≡ true → b ≡ false → a ≡ true
 first_of true b c e o = refl
@@ -54,10 +28,6 @@ second_of false b true true e o = absurd (cc)
 second_of false b true false e o = (refl, refl)
 second_of false b false d e o = absurd (cc)
 
-not_true : (b : Bool) → not b ≡ true → b ≡ false
-not_true true e = absurd (cc)
-not_true false e = refl
-
 either_of : (a b c d : Bool) → (a && not b) || (c && not d) ≡ true → (b ≡ false) ⊎ (c ≡ true)
 either_of true false c d e = inl refl
 either_of true true true d e = inr refl
@@ -65,7 +35,7 @@ either_of true true false d e = absurd (cc)
 either_of false b true d e = inr refl
 either_of false b false d e = absurd (cc)
 
-not_false : (b : Bool) → not b ≡ false → b ≡ true
+pub not_false : (b : Bool) → not b ≡ false → b ≡ true
 not_false true e = refl
 not_false false e = absurd (cc)
 

@@ -1,16 +1,8 @@
 -- one more message in a log, and the packets that are counted there
-use Rattle.std.proofs.Common.{◌≡◌, ℕ, ◌+◌, ◌≤◌, ◌==◌, ◌&&◌, Bool, true, false, if◌then◌else◌, List, [], ◌∷◌, ◌++◌, arith, refl, sym, ap, ◌∙◌, subst}
-use Rattle.std.proofs.lemmas.Bool.Decides.{nat_tests}
-use Rattle.rh_sig.specs.declared.named.Named.{Named}
-use Rattle.rh_line.specs.declared.leg.Leg.{Leg}
-use Rattle.rh_line.specs.declared.leg.LegKind.{LegKind}
-use Rattle.rh_shell.specs.Rules.{Message, Text, Pdu, Packet}
-use Rattle.rh_shell.specs.Shells.{same_leg, is_of, kind_number}
-use Rattle.law_moves.specs.Moves.{OnLeg}
-use Rattle.law_moves.specs.Wires.{of_leg}
-use Rattle.law_moves.specs.Passages.Passing.{count_of, of_kind}
-use Rattle.law_moves.proofs.Passages.Messages.{count_append, leg_more, kind_more}
-use Rattle.law_role_client.specs.Counted.Counting.{total, is_among, once_if, StandsOnEach}
+use Rattle.law_order.proofs.Vocabulary.{◌≡◌, ℕ, ◌+◌, ◌≤◌, ◌==◌, ◌&&◌, Bool, true, false, if◌then◌else◌, List, [], ◌∷◌, ◌++◌, arith, refl, sym, ap, ◌∙◌, subst, nat_tests}
+use Rattle.law_moves.proofs.Vocabulary.{Named, Leg, LegKind, Message, Text, Pdu, Packet, same_leg, is_of, kind_number, OnLeg, of_leg, count_of, of_kind}
+use Rattle.law_moves.proofs.Lemmas.{count_append, leg_more, kind_more}
+use Rattle.law_role_client.proofs.Vocabulary.{total, is_among, once_if, StandsOnEach}
 
 -- a message is a packet that passes the test
 abbrev pub passes : (Named → Bool) → Message → Bool

@@ -1,31 +1,17 @@
 -- a client asks for a successor of an OUT channel where one is wanted
-use Rattle.std.proofs.Common.{◌≡◌, ℕ, ◌+◌, ◌≤◌, Bool, true, false, true≢false, not, nat_lt, List, [], ◌∷◌, ◌++◌, arith, refl, sym, ap, ◌∙◌, subst}
-use Rattle.rh_http.specs.declared.config.ClientConfig.{ClientConfig}
-use Rattle.rh_line.specs.declared.leg.LegKind.TheVariants.{ClientOut}
-use Rattle.rh_shell.specs.declared.answers.Phase.{Phase}
+use Rattle.law_order.proofs.Vocabulary.{◌≡◌, ℕ, ◌+◌, ◌≤◌, Bool, true, false, true≢false, not, nat_lt, List, [], ◌∷◌, ◌++◌, arith, refl, sym, ap, ◌∙◌, subst}
 use Rattle.rh_shell.specs.declared.answers.Phase.TheVariants as phase
-use Rattle.rh_shell.specs.NearEnds.{is_ended}
-use Rattle.rh_client.specs.declared.channels.TheConstants.{LAST_NUMBER}
-use Rattle.rh_client.specs.declared.replacement.Replacement.{Replacement}
-use Rattle.rh_client.specs.declared.replacement.Replacement.TheVariants.{NoneUnderWay, In, Out}
 use Rattle.rh_client.specs.declared.replacement.InStage.TheVariants as in_stage
 use Rattle.rh_client.specs.declared.replacement.OutStage.TheVariants as out_stage
-use Rattle.rh_client.specs.declared.replacement.Waits.{Waits}
 use Rattle.rh_client.specs.declared.replacement.Waits.TheVariants as waits
-use Rattle.rh_client.specs.declared.state.ClientRole.{ClientRole}
-use Rattle.rh_client.specs.State.{first, is_open, is_opening}
-use Rattle.rh_client.specs.Channels.{is_asked}
-use Rattle.rh_client.specs.Replacements.{has_out, with_in, with_out}
-use Rattle.rh_client.specs.Client.{acts, rules}
-use Rattle.law_moves.specs.Moves.{OnLeg, Passage, EndMove, end_started, all_end_moved, AreAllowedAtEnd}
+use Rattle.law_moves.proofs.Vocabulary.{ClientConfig, ClientOut, Phase, is_ended, OnLeg, Passage, EndMove, end_started, all_end_moved, AreAllowedAtEnd}
+use Rattle.law_role_client.proofs.Vocabulary.{LAST_NUMBER, Replacement, NoneUnderWay, In, Out, Waits, ClientRole, first, is_open, is_opening, is_asked, has_out, with_in, with_out, acts, rules, is_out_r1_a2, is_out_r1_a3, total, once_if, is_to_ask, out_waits, AsksWhereWanted}
 use Rattle.law_role_client.proofs.ClientLogs.{of_kind}
-use Rattle.law_role_client.specs.Counted.Counting.{is_out_r1_a2, is_out_r1_a3, total, once_if}
-use Rattle.law_role_client.specs.Counted.Replacing.{is_to_ask, out_waits, AsksWhereWanted}
 use Rattle.law_role_client.proofs.Counted.Allowed.{allowed_moves_keep}
 use Rattle.law_role_client.proofs.Counted.Standing.{passes, total_stays, total_rises}
 use Rattle.law_role_client.proofs.Counted.Views.{View, view, Way, way_of, waits_of, Free, InIsAsked, InIsAnswered, OutIsAsked, OutIsAnswered, OutIsSwitched, OutIsFinished, is_out_way, out_if, has_in, behind_out, newest_out, Marks, EventsKeep}
-use Rattle.law_role_client.proofs.Counted.Replacements as keeps
 use Rattle.law_role_client.proofs.Counted.Moves.{client_keeps}
+use Rattle.law_role_client.proofs.Counted.Replacements as keeps
 
 abbrev to_ask : Bool → Way → Bool
 to_ask asked OutIsAsked = not asked
@@ -88,7 +74,7 @@ not_ended phase.Opening e = absurd (cc)
 not_ended phase.Open e = refl
 not_ended phase.Ended e = absurd (cc)
 
-not_yet_ended : (p : Phase) → is_opening p ≡ true → is_ended p ≡ false
+pub not_yet_ended : (p : Phase) → is_opening p ≡ true → is_ended p ≡ false
 not_yet_ended phase.Opening e = refl
 not_yet_ended phase.Open e = absurd (cc)
 not_yet_ended phase.Ended e = absurd (cc)

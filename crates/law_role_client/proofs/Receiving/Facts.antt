@@ -1,17 +1,8 @@
 -- what is known of a client's OUT channels, by what came on their legs and by what it put
-use Rattle.std.proofs.Common.{◌≡◌, ℕ, suc, ◌+◌, ◌≤◌, ◌<◌, Bool, true, List, [], ◌∷◌, ◌++◌, arith, rules, sym, ◌∙◌}
-use Rattle.std.specs.List.{AllByRecursion}
-use Rattle.rh_window.specs.declared.range.TheConstants.{GREATEST_WINDOW}
-use Rattle.rh_rts.specs.declared.command.Cookie.{Cookie}
-use Rattle.rh_sig.specs.declared.named.Named.TheVariants.{ConnA1, OutR1A3, AckTo}
-use Rattle.rh_line.specs.Lines.{Line}
-use Rattle.rh_line.specs.declared.leg.Leg.{Leg}
-use Rattle.rh_shell.specs.Rules.{Message, Text, Pdu, Packet}
-use Rattle.rh_client.specs.State.{co}
-use Rattle.law_moves.specs.Moves.{OnLeg}
-use Rattle.law_moves.specs.Wires.{of_leg}
-use Rattle.law_moves.specs.Passages.Passing.{pdu_bytes}
-use Rattle.law_moves.proofs.Passages.Messages.{all_append, each_so}
+use Rattle.law_order.proofs.Vocabulary.{◌≡◌, ℕ, suc, ◌+◌, ◌≤◌, ◌<◌, Bool, true, List, [], ◌∷◌, ◌++◌, arith, rules, sym, ◌∙◌, AllByRecursion}
+use Rattle.law_moves.proofs.Vocabulary.{GREATEST_WINDOW, Cookie, ConnA1, OutR1A3, AckTo, Line, Leg, Message, Text, Pdu, Packet, OnLeg, of_leg, pdu_bytes}
+use Rattle.law_moves.proofs.Lemmas.{all_append, each_so}
+use Rattle.law_role_client.proofs.Vocabulary.{co}
 use Rattle.law_role_client.proofs.Receiving.Windows.{Counts, counts_more, leg_rises}
 
 -- what is seen of an OUT channel; up: its leg came up

@@ -1,41 +1,15 @@
 -- what is known of a client's OUT channels stays so behind each put
-use Rattle.std.proofs.Common.{◌≡◌, ℕ, suc, Bool, true, false, not, ◌&&◌, if◌then◌else◌, List, [], ◌∷◌, ◌++◌, Some, None, arith, refl, sym, ap, ◌∙◌}
-use Rattle.std.proofs.lemmas.Bool.{and_parts}
-use Rattle.std.specs.Prelude.{IfSome}
-use Rattle.std.specs.declared.option.Option.{Option}
-use Rattle.rh_window.specs.Sides.{IsWindow}
 use Rattle.rh_window.specs.Receiving as windows
-use Rattle.rh_window.specs.declared.recv_window.Ack.{Ack}
-use Rattle.rh_keep.specs.Meters.{may_put, fits}
-use Rattle.law_order.proofs.ByNumber.{by_test}
-use Rattle.rh_sig.specs.declared.named.Named.{Named}
+use Rattle.law_order.proofs.Vocabulary.{◌≡◌, ℕ, suc, Bool, true, false, not, ◌&&◌, if◌then◌else◌, List, [], ◌∷◌, ◌++◌, Some, None, arith, refl, sym, ap, ◌∙◌, and_parts, IfSome, Option}
 use Rattle.rh_sig.specs.declared.named.Named.TheVariants as named
-use Rattle.rh_sig.specs.declared.lengths.TheConstants.{CONN_B1_LEN, IN_R1_A1_LEN, IN_R1_A5_LEN, OUT_R1_A7_LEN, END_A1_LEN, ACK_TO_LEN, PING_LEN}
 use Rattle.rh_line.specs.Lines as lines
-use Rattle.rh_line.specs.Lines.{Incoming, due}
-use Rattle.rh_line.specs.Queue.{front_length}
-use Rattle.rh_line.specs.declared.leg.Leg.{Leg}
-use Rattle.rh_line.specs.declared.leg.LegKind.{LegKind}
-use Rattle.rh_line.specs.declared.leg.LegKind.TheVariants.{ClientOut, OutServer, ClientIn, InServer}
-use Rattle.rh_line.specs.declared.which.Which.TheVariants.{Current, Next}
-use Rattle.rh_shell.specs.Rules.{Message, Packet}
-use Rattle.rh_client.specs.declared.channels.Opening.{Opening}
-use Rattle.rh_client.specs.declared.channels.Opening.TheVariants.{NotUp, Request, First, Second, Put}
-use Rattle.rh_client.specs.declared.replacement.Replacement.{Replacement}
-use Rattle.rh_client.specs.declared.replacement.Replacement.TheVariants.{NoneUnderWay, In, Out}
+use Rattle.rh_client.specs.Putting.{pdu_by as put_pdu_by}
 use Rattle.rh_client.specs.declared.replacement.InStage.TheVariants as in_stage
 use Rattle.rh_client.specs.declared.replacement.OutStage.TheVariants as out_stage
-use Rattle.rh_client.specs.declared.state.ClientRole.{ClientRole}
-use Rattle.rh_client.specs.Channels.{is_up, metered, unopened_in}
-use Rattle.rh_client.specs.Replacements.{is_finished}
-use Rattle.rh_client.specs.State.{co, is_writing, is_in_successor, is_current, is_out_successor}
-use Rattle.rh_client.specs.Acknowledging.{may_ack, ack_due}
-use Rattle.rh_client.specs.InReplacement.{handed_over}
-use Rattle.rh_client.specs.Putting.{Pick, or_else, begun_out, conn_a1, out_r1_a3, due_by, put_due, ack_by, put_ack_of, put_ack, lets_pdu, pdu_by as put_pdu_by, put_pdu, is_end_due, put_end, put_ping, put_next, put_conn_b1, put_in_r1_a1, put_current, put_out_successor, put_out, put_successor_ping, put_writing, put_in_successor, put_in, settled_pick, put_by}
-use Rattle.law_moves.specs.Moves.{OnLeg}
-use Rattle.law_moves.specs.Wires.{of_leg}
-use Rattle.law_moves.specs.Passages.Passing.{pdu_bytes}
-use Rattle.law_moves.proofs.Passages.Logs.{PutKeeps}
+use Rattle.law_moves.proofs.Vocabulary.{IsWindow, Ack, may_put, fits, by_test, Named, CONN_B1_LEN, IN_R1_A1_LEN, IN_R1_A5_LEN, OUT_R1_A7_LEN, END_A1_LEN, ACK_TO_LEN, PING_LEN, Incoming, due, front_length, Leg, LegKind, ClientOut, OutServer, ClientIn, InServer, Current, Next, Message, Packet, OnLeg, of_leg, pdu_bytes}
+use Rattle.law_moves.proofs.Lemmas.{PutKeeps}
+use Rattle.law_role_client.proofs.Vocabulary.{Opening, NotUp, Request, First, Second, Put, Replacement, NoneUnderWay, In, Out, ClientRole, is_up, metered, unopened_in, is_finished, co, is_writing, is_in_successor, is_current, is_out_successor, may_ack, ack_due, handed_over, Pick, or_else, begun_out, conn_a1, out_r1_a3, due_by, put_due, ack_by, put_ack_of, put_ack, lets_pdu, put_pdu, is_end_due, put_end, put_ping, put_next, put_conn_b1, put_in_r1_a1, put_current}
+use Rattle.law_role_client.proofs.Vocabulary.{put_out_successor, put_out, put_successor_ping, put_writing, put_in_successor, put_in, settled_pick, put_by}
 use Rattle.law_role_client.proofs.Receiving.Windows.{IsDue, due_is, none_due}
 use Rattle.law_role_client.proofs.Receiving.Facts.{Seen, Known, Says, IsToldBy, IsQuiet, kept_put, quiet_put}
 use Rattle.law_role_client.proofs.Receiving.Replaced.{channel, seen, Of, same_holds, by_replacement, after_in_holds, settled_holds, current_changes}

@@ -1,45 +1,10 @@
 -- a client receives within its windows, and acknowledges what came
-use Rattle.std.proofs.Common.{◌≡◌, ◌⊎◌, ℕ, suc, ◌+◌, ◌<◌, ◌==◌, Bool, true, false, true≢false, not, ◌&&◌, ◌||◌, if◌then◌else◌, List, [], ◌∷◌, ◌++◌, length, Some, None, Ok, Err, inl, inr, arith, refl, rules, sym, ap, ◌∙◌, subst}
-use Rattle.std.proofs.lemmas.Bool.{and_parts}
-use Rattle.std.specs.List.{AllByRecursion}
-use Rattle.std.specs.declared.option.Option.{Option}
-use Rattle.std.specs.declared.result.Result.{Result}
-use Rattle.rh_window.specs.Sides.{IsWindow}
-use Rattle.rh_window.specs.Sending.{ack_verdict}
-use Rattle.rh_window.specs.declared.fault.BadAck.{BadAck}
-use Rattle.law_order.proofs.ByNumber.{by_test, same_number}
-use Rattle.rh_rts.specs.declared.command.Cookie.{Cookie}
-use Rattle.rh_sig.specs.declared.named.Named.{Named}
+use Rattle.law_order.proofs.Vocabulary.{◌≡◌, ◌⊎◌, ℕ, suc, ◌+◌, ◌<◌, ◌==◌, Bool, true, false, true≢false, not, ◌&&◌, ◌||◌, if◌then◌else◌, List, [], ◌∷◌, ◌++◌, length, Some, None, Ok, Err, inl, inr, arith, refl, rules, sym, ap, ◌∙◌, subst, and_parts, AllByRecursion, Option, Result}
 use Rattle.rh_sig.specs.declared.named.Named.TheVariants as named
-use Rattle.rh_http.specs.declared.config.ClientConfig.{ClientConfig}
 use Rattle.rh_line.specs.Lines as lines
-use Rattle.rh_line.specs.declared.leg.Leg.{Leg}
-use Rattle.rh_line.specs.declared.leg.LegKind.{LegKind}
-use Rattle.rh_line.specs.declared.leg.LegKind.TheVariants.{ClientOut, OutServer, ClientIn, InServer}
-use Rattle.rh_line.specs.declared.line_fault.LineFault.{LineFault}
-use Rattle.rh_line.specs.declared.line_fault.LineFault.TheVariants.{Window, Over}
-use Rattle.rh_line.specs.declared.which.Which.{Which}
-use Rattle.rh_line.specs.declared.which.Which.TheVariants.{Current, Next}
-use Rattle.rh_shell.specs.declared.answers.Count.{Count}
-use Rattle.rh_shell.specs.Rules.{Message, Packet}
-use Rattle.rh_shell.specs.Shells.{same_leg}
-use Rattle.rh_client.specs.declared.channels.InChannel.{InChannel}
-use Rattle.rh_client.specs.declared.state.ClientRole.{ClientRole}
-use Rattle.rh_client.specs.Channels.{is_named, is_up}
-use Rattle.rh_client.specs.Replacements.{is_out}
-use Rattle.rh_client.specs.State.{Done, co, unexpected, is_open, is_current, is_out_successor, first}
-use Rattle.rh_client.specs.Acknowledging.{is_switched, admit_row, pdu_channel, pdu_on, ack_row_by, ack_row, ack_named, on_ack_to}
-use Rattle.rh_client.specs.Ending.{give, drawn}
-use Rattle.rh_client.specs.Time.{ping}
-use Rattle.rh_client.specs.Client.{packet_by, on_packet, acts as client_acts}
-use Rattle.rh_client.specs.Client.{rules as client_rules}
-use Rattle.law_moves.specs.Moves.{OnLeg, Up, EndMove, Moves, Passage, EndPassage, end_moved, MayEndMove, AreAllowedAtEnd}
-use Rattle.law_moves.specs.Wires.{of_leg}
-use Rattle.law_moves.specs.Passages.Passing.{pdu_bytes, Has}
-use Rattle.law_moves.specs.Passages.Rising.{HasComeUp, WasUp, IsUpFirst, AreUpFirst}
-use Rattle.law_moves.proofs.Passages.Logs.{ActsKeep}
-use Rattle.law_role_client.specs.Order.{AreAllowedMoves, client_moved, client_started}
-use Rattle.law_role_client.specs.Receiving.{IsBehindWindow, IsBehindAcks, RefusesBehind, IsNoWindow, IsTrueAck}
+use Rattle.law_moves.proofs.Vocabulary.{IsWindow, ack_verdict, BadAck, by_test, same_number, Cookie, Named, ClientConfig, Leg, LegKind, ClientOut, OutServer, ClientIn, InServer, LineFault, Window, Over, Which, Current, Next, Count, Message, Packet, same_leg, OnLeg, Up, EndMove, Moves, Passage, EndPassage, end_moved, MayEndMove, AreAllowedAtEnd, of_leg, pdu_bytes, Has, HasComeUp, WasUp, IsUpFirst, AreUpFirst}
+use Rattle.law_moves.proofs.Lemmas.{ActsKeep}
+use Rattle.law_role_client.proofs.Vocabulary.{InChannel, ClientRole, is_named, is_up, is_out, Done, co, unexpected, is_open, is_current, is_out_successor, first, is_switched, admit_row, pdu_channel, pdu_on, ack_row_by, ack_row, ack_named, on_ack_to, give, drawn, ping, packet_by, on_packet, acts as client_acts, rules as client_rules, AreAllowedMoves, client_moved, client_started}
 use Rattle.law_role_client.proofs.Receiving.Along.{May, Past, AllMay, IsNoUp, LetStepsKeep, let_moves_keep}
 use Rattle.law_role_client.proofs.Receiving.Windows.{IsBehind, refused_behind}
 use Rattle.law_role_client.proofs.Receiving.Facts.{Known, Says, Acks, IsToldBy, kept_up}
@@ -47,6 +12,7 @@ use Rattle.law_role_client.proofs.Receiving.Replaced.{Same, seen, same_holds, re
 use Rattle.law_role_client.proofs.Receiving.Rows.{Fits, pdu_fits, packet_fits}
 use Rattle.law_role_client.proofs.Receiving.Ups.{up_fits, first_up}
 use Rattle.law_role_client.proofs.Receiving.Puts.{put_fits}
+use Rattle.law_role_client.specs.Receiving.{IsBehindWindow, IsBehindAcks, RefusesBehind, IsNoWindow, IsTrueAck}
 
 -- ---- the steps of a client
 

@@ -1,47 +1,13 @@
 -- what is known of a client's OUT channels stays so behind each row, and where a leg is up
-use Rattle.std.proofs.Common.{◌≡◌, ℕ, suc, ◌==◌, Bool, true, false, true≢false, not, ◌&&◌, ◌||◌, nat_lt, List, [], ◌∷◌, ◌++◌, Some, None, Ok, Err, arith, refl, rules, sym, ap, ◌∙◌, subst}
-use Rattle.std.proofs.lemmas.Bool.{and_parts}
-use Rattle.std.proofs.lemmas.Bool.Decides.{nat_tests}
-use Rattle.std.specs.declared.option.Option.{Option}
-use Rattle.std.specs.declared.result.Result.{Result}
-use Rattle.law_order.proofs.ByNumber.{by_test, same_number}
-use Rattle.rh_rts.specs.declared.command.Cookie.{Cookie}
-use Rattle.rh_sig.specs.declared.named.Named.{Named}
+use Rattle.law_order.proofs.Vocabulary.{◌≡◌, ℕ, suc, ◌==◌, Bool, true, false, true≢false, not, ◌&&◌, ◌||◌, nat_lt, List, [], ◌∷◌, ◌++◌, Some, None, Ok, Err, arith, refl, rules, sym, ap, ◌∙◌, subst, and_parts, nat_tests, Option, Result}
 use Rattle.rh_sig.specs.declared.named.Named.TheVariants as named
 use Rattle.rh_line.specs.Lines as lines
-use Rattle.rh_line.specs.Lines.{Incoming, after_finish}
-use Rattle.rh_line.specs.declared.leg.Leg.{Leg}
-use Rattle.rh_line.specs.declared.leg.LegKind.{LegKind}
-use Rattle.rh_line.specs.declared.leg.LegKind.TheVariants.{ClientOut, OutServer, ClientIn, InServer}
-use Rattle.rh_line.specs.declared.line_fault.LineFault.{LineFault}
-use Rattle.rh_line.specs.declared.line_fault.LineFault.TheVariants.{Window, Over}
-use Rattle.rh_line.specs.declared.which.Which.{Which}
-use Rattle.rh_line.specs.declared.which.Which.TheVariants.{Current, Next}
-use Rattle.rh_shell.specs.declared.answers.Count.{Count}
-use Rattle.rh_shell.specs.Rules.{Message, Pdu, Packet}
-use Rattle.rh_shell.specs.Shells.{kind_number, same_leg}
-use Rattle.rh_client.specs.declared.channels.TheConstants.{LAST_NUMBER}
-use Rattle.rh_client.specs.declared.channels.Opening.{Opening}
-use Rattle.rh_client.specs.declared.channels.Opening.TheVariants.{NotUp, Request, First, Second, Put}
-use Rattle.rh_client.specs.declared.replacement.Replacement.{Replacement}
-use Rattle.rh_client.specs.declared.replacement.Replacement.TheVariants.{NoneUnderWay, In, Out}
 use Rattle.rh_client.specs.declared.replacement.OutStage.TheVariants as out_stage
-use Rattle.rh_client.specs.declared.replacement.Waits.{Waits}
 use Rattle.rh_client.specs.declared.replacement.Waits.TheVariants as waits
-use Rattle.rh_client.specs.declared.state.ClientRole.{ClientRole}
-use Rattle.rh_client.specs.Channels.{is_named, is_asked, is_up}
-use Rattle.rh_client.specs.Replacements.{is_out, is_finished, has_out, with_out}
-use Rattle.rh_client.specs.State.{Done, co, unexpected, taken, settled, is_open, is_current, is_out_successor}
-use Rattle.rh_client.specs.Opening.{on_conn_a3, on_conn_c2}
-use Rattle.rh_client.specs.Acknowledging.{is_switched, admit_row, pdu_channel, pdu_on, ack_named, on_ack_to}
-use Rattle.rh_client.specs.Ending.{end_channel, end_on}
-use Rattle.rh_client.specs.InReplacement.{on_in_r1_a4, on_in_r2_a4}
-use Rattle.rh_client.specs.OutReplacement.{a2_by, on_out_r1_a2, a6_by, on_out_r1_a6, a10_by, passed}
-use Rattle.rh_client.specs.Client.{pdu_by, packet_by, on_packet}
-use Rattle.law_moves.specs.Moves.{OnLeg}
-use Rattle.law_moves.specs.Wires.{of_leg}
-use Rattle.law_moves.specs.Passages.Passing.{pdu_bytes}
-use Rattle.law_moves.proofs.Passages.Logs.{Fact, RowKeeps}
+use Rattle.law_moves.proofs.Vocabulary.{by_test, same_number, Cookie, Named, Incoming, after_finish, Leg, LegKind, ClientOut, OutServer, ClientIn, InServer, LineFault, Window, Over, Which, Current, Next, Count, Message, Pdu, Packet, kind_number, same_leg, OnLeg, of_leg, pdu_bytes}
+use Rattle.law_moves.proofs.Lemmas.{Fact, RowKeeps}
+use Rattle.law_role_client.proofs.Vocabulary.{LAST_NUMBER, Opening, NotUp, Request, First, Second, Put, Replacement, NoneUnderWay, In, Out, Waits, ClientRole, is_named, is_asked, is_up, is_out, is_finished, has_out, with_out, Done, co, unexpected, taken, settled, is_open, is_current, is_out_successor, on_conn_a3, on_conn_c2, is_switched, admit_row, pdu_channel, pdu_on, ack_named, on_ack_to, end_channel, end_on, on_in_r1_a4, on_in_r2_a4, a2_by, on_out_r1_a2, a6_by}
+use Rattle.law_role_client.proofs.Vocabulary.{on_out_r1_a6, a10_by, passed, pdu_by, packet_by, on_packet}
 use Rattle.law_role_client.proofs.Receiving.Windows.{Counts, leg_counts, admitted_told, admitted_released, admitted_counts, refused_same}
 use Rattle.law_role_client.proofs.Receiving.Facts.{Seen, Known, Kept, kept_more}
 use Rattle.law_role_client.proofs.Receiving.Replaced.{seen, Same, same_holds, by_replacement, none_out, begin_out_holds, settles, current_changes, next_changes}
@@ -72,7 +38,7 @@ up_by window known x came put h first = at (x.current.number == 1) refl
         let least = h.numbered.from_one in
         h.numbered.later (grind (arith, nat_tests, f, least))
 
-asked_up : (o : Opening) → is_asked o ≡ true → is_up o ≡ true
+pub asked_up : (o : Opening) → is_asked o ≡ true → is_up o ≡ true
 asked_up NotUp e = absurd (true≢false (sym e))
 asked_up Request e = refl
 asked_up First e = refl

@@ -1,19 +1,7 @@
 -- what is known of a client's OUT channels stays so where a leg is up
-use Rattle.std.proofs.Common.{◌≡◌, ℕ, ◌==◌, Bool, true, false, true≢false, not, ◌&&◌, ◌||◌, List, IsTrue, arith, refl, sym, subst}
-use Rattle.std.proofs.lemmas.Bool.{and_parts}
-use Rattle.std.proofs.lemmas.Bool.Decides.{nat_tests}
-use Rattle.law_order.proofs.ByNumber.{by_test, same_number}
-use Rattle.rh_rts.specs.declared.command.Cookie.{Cookie}
-use Rattle.rh_line.specs.Lines.{Line, after_open_next}
-use Rattle.rh_line.specs.declared.leg.Leg.{Leg}
-use Rattle.rh_line.specs.declared.leg.LegKind.{LegKind}
-use Rattle.rh_line.specs.declared.leg.LegKind.TheVariants.{ClientOut, OutServer, ClientIn, InServer}
-use Rattle.rh_client.specs.declared.state.ClientRole.{ClientRole}
-use Rattle.rh_client.specs.Channels.{is_up, out_up}
-use Rattle.rh_client.specs.Replacements.{is_out}
-use Rattle.rh_client.specs.State.{co, is_writing, is_current, is_out_successor}
-use Rattle.rh_client.specs.Opening.{wants_by, with_next, up_by, up}
-use Rattle.law_moves.specs.Moves.{OnLeg}
+use Rattle.law_order.proofs.Vocabulary.{◌≡◌, ℕ, ◌==◌, Bool, true, false, true≢false, not, ◌&&◌, ◌||◌, List, IsTrue, arith, refl, sym, subst, and_parts, nat_tests}
+use Rattle.law_moves.proofs.Vocabulary.{by_test, same_number, Cookie, Line, after_open_next, Leg, LegKind, ClientOut, OutServer, ClientIn, InServer, OnLeg}
+use Rattle.law_role_client.proofs.Vocabulary.{ClientRole, is_up, out_up, is_out, co, is_writing, is_current, is_out_successor, wants_by, with_next, up_by, up}
 use Rattle.law_role_client.proofs.Receiving.Facts.{Seen, Known}
 use Rattle.law_role_client.proofs.Receiving.Replaced.{channel, seen, Of, next_opens}
 use Rattle.law_role_client.proofs.Receiving.Rows.{Fits, leg_is}

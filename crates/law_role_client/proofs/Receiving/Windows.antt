@@ -1,24 +1,10 @@
 -- the receive window of an OUT channel, and what came on its leg
-use Rattle.std.proofs.Common.{◌≡◌, ℕ, ◌+◌, ◌≤◌, ◌<◌, Bool, true, false, List, [], ◌∷◌, ◌++◌, length, Some, Ok, Err, arith, refl, rules, sym, ap, subst}
-use Rattle.std.proofs.lemmas.Bool.Decides.{nat_tests}
-use Rattle.std.specs.Prelude.{if◌then◌else◌, is_ok, nat_le}
-use Rattle.std.specs.declared.result.Result.{Result}
 use Rattle.rh_window.specs.Receiving as windows
 use Rattle.rh_window.specs.declared.recv_window.Ack as told
-use Rattle.rh_window.specs.declared.fault.WindowExceeded.{WindowExceeded}
+use Rattle.law_order.proofs.Vocabulary.{◌≡◌, ℕ, ◌+◌, ◌≤◌, ◌<◌, Bool, true, false, List, [], ◌∷◌, ◌++◌, length, Some, Ok, Err, arith, refl, rules, sym, ap, subst, nat_tests, if◌then◌else◌, is_ok, nat_le, Result}
 use Rattle.rh_line.specs.Lines as line
-use Rattle.rh_line.specs.Lines.{Incoming}
-use Rattle.rh_line.specs.Queue.{total}
-use Rattle.rh_line.specs.declared.leg.Leg.{Leg}
-use Rattle.rh_line.specs.declared.line_fault.LineFault.{LineFault}
-use Rattle.rh_line.specs.declared.line_fault.LineFault.TheVariants.{Window, Over}
-use Rattle.rh_line.proofs.Queues.{total_push}
-use Rattle.rh_shell.specs.Rules.{Message, Pdu}
-use Rattle.rh_shell.specs.Shells.{same_leg}
-use Rattle.law_moves.specs.Moves.{OnLeg}
-use Rattle.law_moves.specs.Wires.{of_leg}
-use Rattle.law_moves.specs.Passages.Passing.{pdu_bytes}
-use Rattle.law_moves.proofs.Passages.Messages.{bytes_append, bytes_rise, leg_more}
+use Rattle.law_moves.proofs.Vocabulary.{WindowExceeded, total_push, Incoming, total, Leg, LineFault, Window, Over, Message, Pdu, same_leg, OnLeg, of_leg, pdu_bytes}
+use Rattle.law_moves.proofs.Lemmas.{bytes_append, bytes_rise, leg_more}
 
 -- ---- the bytes of a leg
 

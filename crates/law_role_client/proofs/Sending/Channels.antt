@@ -1,19 +1,7 @@
 -- one channel of a client changes
-use Rattle.std.proofs.Common.{◌≡◌, ℕ, ◌<◌, false, true, true≢false, List, inl, refl, sym, ◌∙◌, subst}
-use Rattle.std.proofs.lemmas.Bool.{false≢true}
-use Rattle.rh_rts.specs.declared.command.Cookie.{Cookie}
-use Rattle.rh_line.specs.declared.leg.Leg.{Leg}
-use Rattle.rh_client.specs.declared.channels.Opening.{Opening}
-use Rattle.rh_client.specs.declared.channels.InChannel.{InChannel}
-use Rattle.rh_client.specs.declared.channels.OutChannel.{OutChannel}
-use Rattle.rh_client.specs.declared.state.ClientRole.{ClientRole}
-use Rattle.rh_client.specs.Channels.{is_up, is_put, unopened_in}
-use Rattle.rh_client.specs.Replacements.{is_in}
-use Rattle.rh_client.specs.State.{ci}
-use Rattle.law_moves.specs.Moves.{OnLeg}
-use Rattle.law_moves.specs.Wires.{of_leg}
-use Rattle.law_moves.specs.Passages.Passing.{HasBegunIn}
-use Rattle.law_role_client.specs.Sending.{IsWithin}
+use Rattle.law_order.proofs.Vocabulary.{◌≡◌, ℕ, ◌<◌, false, true, true≢false, List, inl, refl, sym, ◌∙◌, subst, false≢true}
+use Rattle.law_moves.proofs.Vocabulary.{Cookie, Leg, OnLeg, of_leg, HasBegunIn}
+use Rattle.law_role_client.proofs.Vocabulary.{Opening, InChannel, OutChannel, ClientRole, is_up, is_put, unopened_in, is_in, ci, IsWithin}
 use Rattle.law_role_client.proofs.Sending.Logs.{within_so}
 use Rattle.law_role_client.proofs.Sending.Facts.{SeenIn, seen_in, seen_out, put_bytes, IsCookieOf, IsOfNone, IsKnownOut, IsKnownIn, IsNumbered, IsStill, Kept}
 

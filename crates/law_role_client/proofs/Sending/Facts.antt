@@ -1,24 +1,9 @@
 -- what a client knows of its channels, by what came and what it put
-use Rattle.std.proofs.Common.{◌≡◌, ◌⊎◌, ℕ, suc, ◌<◌, Bool, true, if◌then◌else◌, List, [], ◌∷◌, ◌++◌, inl, inr, sym, ◌∙◌, subst}
-use Rattle.rh_window.specs.Sides.{Sender}
-use Rattle.rh_rts.specs.declared.command.Cookie.{Cookie}
-use Rattle.rh_sig.specs.declared.named.Named.{Named}
-use Rattle.rh_line.specs.declared.leg.Leg.{Leg}
-use Rattle.rh_shell.specs.declared.answers.Phase.{Phase}
-use Rattle.rh_shell.specs.Rules.{Message}
-use Rattle.rh_shell.specs.Shells.{same_leg}
-use Rattle.rh_client.specs.declared.channels.Opening.{Opening}
-use Rattle.rh_client.specs.declared.channels.InChannel.{InChannel}
-use Rattle.rh_client.specs.declared.channels.OutChannel.{OutChannel}
-use Rattle.rh_client.specs.declared.state.ClientRole.{ClientRole}
-use Rattle.rh_client.specs.Channels.{is_up, is_put}
-use Rattle.rh_client.specs.Replacements.{is_in}
-use Rattle.rh_client.specs.State.{ci, co, is_opening}
-use Rattle.law_moves.specs.Moves.{OnLeg}
-use Rattle.law_moves.specs.Wires.{of_leg}
-use Rattle.law_moves.specs.Passages.Passing.{pdu_bytes, HasOne, BeginsIn, BeginsOut, HasBegunIn, HasBegunOut}
-use Rattle.law_role_client.specs.Sending.{IsWithin}
-use Rattle.law_role_client.proofs.Sending.Logs.{bytes_stay, one_stays, one_was, within_so, within_more}
+use Rattle.law_order.proofs.Vocabulary.{◌≡◌, ◌⊎◌, ℕ, suc, ◌<◌, Bool, true, if◌then◌else◌, List, [], ◌∷◌, ◌++◌, inl, inr, sym, ◌∙◌, subst}
+use Rattle.law_moves.proofs.Vocabulary.{Sender, Cookie, Named, Leg, Phase, Message, same_leg, OnLeg, of_leg, pdu_bytes, HasOne, BeginsIn, BeginsOut, HasBegunIn, HasBegunOut}
+use Rattle.law_role_client.proofs.Vocabulary.{Opening, InChannel, OutChannel, ClientRole, is_up, is_put, is_in, ci, co, is_opening, IsWithin}
+use Rattle.law_role_client.proofs.Sending.Logs.{bytes_stay, one_was, within_so, within_more}
+use Rattle.law_role_client.proofs.Counted.Behind.{still_has as one_stays}
 
 -- ---- what the facts are about
 

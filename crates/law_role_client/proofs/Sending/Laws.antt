@@ -1,46 +1,10 @@
 -- what a client knows of its channels holds whatever happens, and what it refuses
-use Rattle.std.proofs.Common.{◌≡◌, ◌⊎◌, ℕ, ◌+◌, ◌==◌, nat_le, nat_lt, Bool, true, false, true≢false, ◌&&◌, ◌||◌, not, if◌then◌else◌, List, [], ◌∷◌, ◌++◌, length, Some, None, Ok, Err, inl, inr, arith, refl, sym, ◌∙◌, subst, rules}
-use Rattle.std.proofs.lemmas.Bool.{false≢true, and_parts}
-use Rattle.std.proofs.lemmas.Bool.Decides.{nat_tests}
-use Rattle.std.specs.declared.option.Option.{Option}
-use Rattle.std.specs.declared.result.Result.{Result}
-use Rattle.rh_window.specs.Sending.{bad_ack}
-use Rattle.rh_window.specs.declared.range.TheConstants.{GREATEST_WINDOW}
-use Rattle.law_order.proofs.ByNumber.{by_test, same_number}
-use Rattle.rh_pdu.specs.Checking.{checked, pdu_fault}
-use Rattle.rh_pdu.specs.declared.fault.PduFault.{PduFault}
-use Rattle.rh_rts.specs.declared.command.Cookie.{Cookie}
-use Rattle.rh_sig.specs.declared.named.Named.{Named}
+use Rattle.law_order.proofs.Vocabulary.{◌≡◌, ◌⊎◌, ℕ, ◌+◌, ◌==◌, nat_le, nat_lt, Bool, true, false, true≢false, ◌&&◌, ◌||◌, not, if◌then◌else◌, List, [], ◌∷◌, ◌++◌, length, Some, None, Ok, Err, inl, inr, arith, refl, sym, ◌∙◌, subst, rules, false≢true, and_parts, nat_tests, Option, Result}
 use Rattle.rh_sig.specs.declared.named.Named.TheVariants as named
-use Rattle.rh_http.specs.declared.config.ClientConfig.{ClientConfig}
-use Rattle.rh_line.specs.Lines.{admit_verdict, after_take}
-use Rattle.rh_line.specs.Queue.{total, queue_bytes}
-use Rattle.rh_line.specs.declared.leg.Leg.{Leg}
-use Rattle.rh_line.specs.declared.leg.LegKind.{LegKind}
-use Rattle.rh_line.specs.declared.leg.LegKind.TheVariants.{ClientOut, OutServer, ClientIn, InServer}
-use Rattle.rh_line.specs.declared.line_fault.LineFault.{LineFault}
 use Rattle.rh_line.specs.declared.line_fault.LineFault.TheVariants as line_fault
-use Rattle.rh_line.specs.declared.which.Which.{Which}
-use Rattle.rh_shell.specs.declared.answers.Count.{Count}
-use Rattle.rh_shell.specs.declared.end_role.GiveRefused.TheVariants.{Closing, Full}
-use Rattle.rh_shell.specs.Rules.{Row}
-use Rattle.rh_shell.specs.Shells.{is_of}
-use Rattle.rh_client.specs.declared.channels.InChannel.{InChannel}
-use Rattle.rh_client.specs.declared.channels.Opening.TheVariants.{Request}
-use Rattle.rh_client.specs.declared.state.ClientRole.{ClientRole}
-use Rattle.rh_client.specs.Channels.{is_up, is_named, in_up, out_up, unopened_in}
-use Rattle.rh_client.specs.Replacements.{is_in, is_out}
-use Rattle.rh_client.specs.State.{Done, first, taken, unexpected, is_open, is_writing, is_in_successor, is_current, is_out_successor, ci, co}
-use Rattle.rh_client.specs.Opening.{wants_by, with_next, up_by}
-use Rattle.rh_client.specs.Acknowledging.{pdu_channel, pdu_on, admit_row, ack_row, ack_row_by, ack_named, on_ack_to, acked}
-use Rattle.rh_client.specs.Ending.{Given, give, give_pdu, close, take, drawn_by}
-use Rattle.rh_client.specs.Time.{ping_by}
-use Rattle.rh_client.specs.Client.{pdu_by, on_packet, packet_by, acts}
-use Rattle.rh_client.specs.Client.{rules as client_rules}
-use Rattle.law_moves.specs.Moves.{OnLeg, EndMove}
-use Rattle.law_moves.specs.Passages.Rising.{HasComeUp}
-use Rattle.law_role_client.specs.Order.{AreAllowedMoves, client_moved, client_started}
-use Rattle.law_role_client.specs.Sending.{BeginsByCookie, RefusesFalseAcks, IsInRange, SendsAsTold}
+use Rattle.law_moves.proofs.Vocabulary.{bad_ack, GREATEST_WINDOW, by_test, same_number, checked, pdu_fault, PduFault, Cookie, Named, ClientConfig, admit_verdict, after_take, total, queue_bytes, Leg, LegKind, ClientOut, OutServer, ClientIn, InServer, LineFault, Which, Count, Closing, Full, Row, is_of, OnLeg, EndMove, HasComeUp}
+use Rattle.law_role_client.proofs.Vocabulary.{InChannel, Request, ClientRole, is_up, is_named, in_up, out_up, unopened_in, is_in, is_out, Done, first, taken, unexpected, is_open, is_writing, is_in_successor, is_current, is_out_successor, ci, co, wants_by, with_next, up_by, pdu_channel, pdu_on, admit_row, ack_row, ack_row_by, ack_named, on_ack_to, acked, Given, give, give_pdu, close, take, drawn_by, ping_by, pdu_by, on_packet, packet_by, acts, rules as client_rules}
+use Rattle.law_role_client.proofs.Vocabulary.{AreAllowedMoves, client_moved, client_started, BeginsByCookie, RefusesFalseAcks, IsInRange, SendsAsTold}
 use Rattle.law_role_client.proofs.Sending.Steps.{StepsKeep, end_moves_keep}
 use Rattle.law_role_client.proofs.Sending.Facts.{seen_in, IsKnownIn, Kept}
 use Rattle.law_role_client.proofs.Sending.Channels.{unknown, known_up, with_writing, with_successor, with_leaving, with_current, with_out_successor}
@@ -51,13 +15,13 @@ use Rattle.law_role_client.proofs.Sending.Next.{put_kept}
 -- ---- what else happens
 
 -- one of two legs is wanted
-wanted_parts : (a b c d : Bool) → ((a && b) || (c && d)) ≡ true
+pub wanted_parts : (a b c d : Bool) → ((a && b) || (c && d)) ≡ true
     → ((a ≡ true) × (b ≡ true)) ⊎ ((c ≡ true) × (d ≡ true))
 wanted_parts true true c d e = inl (refl, refl)
 wanted_parts true false c d e = inr (and_parts c d e)
 wanted_parts false b c d e = inr (and_parts c d e)
 
-not_so : (b : Bool) → not b ≡ true → b ≡ false
+pub not_so : (b : Bool) → not b ≡ true → b ≡ false
 not_so true e = absurd (false≢true e)
 not_so false e = refl
 

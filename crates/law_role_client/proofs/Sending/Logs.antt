@@ -1,28 +1,13 @@
 -- a message more in a log: what began, what came, and up to where was told
-use Rattle.std.proofs.Common.{◌≡◌, ◌⊎◌, ℕ, ◌≤◌, nat_le, Bool, true, false, if◌then◌else◌, List, [], ◌∷◌, ◌++◌, inl, inr, arith, refl, sym, ap, ◌∙◌, subst}
-use Rattle.std.specs.Prelude.{max}
-use Rattle.std.proofs.lemmas.Bool.Decides.{nat_tests}
-use Rattle.std.proofs.lemmas.List.{append-nil}
-use Rattle.law_order.proofs.ByNumber.{test_same}
-use Rattle.rh_rts.specs.declared.command.Cookie.{Cookie}
-use Rattle.rh_sig.specs.declared.named.Named.{Named}
-use Rattle.rh_sig.specs.declared.named.Named.TheVariants.{ConnC2, InR1A4, AckTo}
-use Rattle.rh_line.specs.declared.leg.Leg.{Leg}
-use Rattle.rh_line.specs.declared.leg.LegKind.{LegKind}
-use Rattle.rh_line.specs.declared.leg.LegKind.TheVariants.{ClientOut}
-use Rattle.rh_shell.specs.Rules.{Message, Text, Pdu, Packet}
-use Rattle.rh_shell.specs.Shells.{same_leg}
-use Rattle.rh_client.specs.State.{co}
-use Rattle.law_moves.specs.Moves.{OnLeg}
-use Rattle.law_moves.specs.Wires.{of_leg}
-use Rattle.law_moves.specs.Passages.Passing.{pdu_bytes, Has, HasOn, HasOne}
-use Rattle.law_moves.proofs.Passages.Messages.{leg_more, has_more, has_last, bytes_append, one_more_so}
-use Rattle.law_role_client.specs.Sending.{TellsEdge, IsWithin}
+use Rattle.law_order.proofs.Vocabulary.{◌≡◌, ◌⊎◌, ℕ, ◌≤◌, nat_le, Bool, true, false, if◌then◌else◌, List, [], ◌∷◌, ◌++◌, inl, inr, arith, refl, sym, ap, ◌∙◌, subst, max, nat_tests}
+use Rattle.law_moves.proofs.Vocabulary.{test_same, Cookie, Named, ConnC2, InR1A4, AckTo, Leg, LegKind, ClientOut, Message, Text, Pdu, Packet, same_leg, OnLeg, of_leg, pdu_bytes, Has, HasOn, HasOne}
+use Rattle.law_moves.proofs.Lemmas.{leg_more, has_more, has_last, bytes_append, other_more as leg_other}
+use Rattle.law_role_client.proofs.Vocabulary.{co, TellsEdge, IsWithin}
 
 -- ---- on a leg
 
 -- on the leg itself, and on another
-leg_by : (leg : Leg) (log : List OnLeg) (one : OnLeg) (b : Bool) → same_leg one.0 leg ≡ b
+pub leg_by : (leg : Leg) (log : List OnLeg) (one : OnLeg) (b : Bool) → same_leg one.0 leg ≡ b
     → of_leg leg (log ++ one ∷ []) ≡ of_leg leg log ++ (if b then one.1 ∷ [] else [])
 leg_by leg log one b e =
     leg_more leg log one
@@ -31,10 +16,6 @@ leg_by leg log one b e =
 pub leg_here : (leg : Leg) (log : List OnLeg) (one : OnLeg) → same_leg one.0 leg ≡ true
     → of_leg leg (log ++ one ∷ []) ≡ of_leg leg log ++ one.1 ∷ []
 leg_here leg log one e = leg_by leg log one true e
-
-pub leg_other : (leg : Leg) (log : List OnLeg) (one : OnLeg) → same_leg one.0 leg ≡ false
-    → of_leg leg (log ++ one ∷ []) ≡ of_leg leg log
-leg_other leg log one e = leg_by leg log one false e ∙ append-nil (of_leg leg log)
 
 -- no bytes of RPC PDUs more
 pub bytes_stay : (leg : Leg) (log : List OnLeg) (one : OnLeg) → pdu_bytes (one.1 ∷ []) ≡ 0
@@ -64,12 +45,6 @@ one_of_both P (Packet named ∷ a) b (inr rest) = by (one_of_both P a b rest)
     by : HasOne P a ⊎ HasOne P b → (P named ⊎ HasOne P a) ⊎ HasOne P b
     by (inl here) = inl (inr here)
     by (inr there) = inr there
-
-pub one_stays : (P : Named → Type 0) (leg : Leg) (log : List OnLeg) (one : OnLeg)
-    → HasOne P (of_leg leg log) → HasOne P (of_leg leg (log ++ one ∷ []))
-one_stays P leg log one h =
-    subst (λ (ms : List Message). HasOne P ms) (sym (leg_more leg log one))
-    (one_more_so P (of_leg leg log) (of_leg leg (one ∷ [])) h)
 
 -- one that is so was there, or is the last
 pub one_was : (P : Named → Type 0) (leg : Leg) (log : List OnLeg) (one : OnLeg)

@@ -1,42 +1,12 @@
 -- the next message of a leg, as a client puts it
-use Rattle.std.proofs.Common.{◌≡◌, ◌⊎◌, ℕ, ◌==◌, ◌&&◌, if◌then◌else◌, List, [], ◌∷◌, ◌++◌, Some, None, inl, inr, refl, sym, ap, subst}
-use Rattle.std.proofs.lemmas.Bool.{false≢true, and_parts}
-use Rattle.std.specs.declared.option.Option.{Option}
-use Rattle.rh_window.specs.declared.recv_window.Ack.{Ack}
-use Rattle.rh_keep.specs.Meters.{may_put, fits}
-use Rattle.law_order.proofs.ByNumber.{by_test, same_number, test_same}
-use Rattle.rh_rts.specs.declared.command.Cookie.{Cookie}
-use Rattle.rh_sig.specs.declared.named.Named.{Named}
+use Rattle.law_order.proofs.Vocabulary.{◌≡◌, ◌⊎◌, ℕ, ◌==◌, ◌&&◌, if◌then◌else◌, List, [], ◌∷◌, ◌++◌, Some, None, inl, inr, refl, sym, ap, subst, false≢true, and_parts, Option}
 use Rattle.rh_sig.specs.declared.named.Named.TheVariants as named
-use Rattle.rh_sig.specs.declared.lengths.TheConstants.{CONN_B1_LEN, IN_R1_A1_LEN, IN_R1_A5_LEN}
-use Rattle.rh_sig.specs.declared.lengths.TheConstants.{OUT_R1_A7_LEN, END_A1_LEN, ACK_TO_LEN}
-use Rattle.rh_sig.specs.declared.lengths.TheConstants.{PING_LEN}
-use Rattle.rh_http.specs.Texts.{in_request, out_request}
-use Rattle.rh_line.specs.Lines.{after_told}
-use Rattle.rh_line.specs.declared.leg.Leg.{Leg}
-use Rattle.rh_line.specs.declared.leg.LegKind.{LegKind}
-use Rattle.rh_line.specs.declared.leg.LegKind.TheVariants.{ClientOut, OutServer, ClientIn, InServer}
-use Rattle.rh_line.specs.declared.which.Which.{Which}
-use Rattle.rh_line.specs.declared.which.Which.TheVariants.{Current, Next}
-use Rattle.rh_shell.specs.Rules.{Message, Text, Packet}
-use Rattle.rh_client.specs.declared.channels.Opening.{Opening}
-use Rattle.rh_client.specs.declared.channels.Opening.TheVariants.{NotUp, Request, First, Second, Put}
-use Rattle.rh_client.specs.declared.lengths.TheConstants.{CONN_A1_LEN, OUT_R1_A3_C1_LEN}
-use Rattle.rh_client.specs.declared.replacement.Replacement.{Replacement}
-use Rattle.rh_client.specs.declared.replacement.Replacement.TheVariants.{NoneUnderWay, In, Out}
 use Rattle.rh_client.specs.declared.replacement.InStage.TheVariants as in_stage
 use Rattle.rh_client.specs.declared.replacement.OutStage.TheVariants as out_stage
-use Rattle.rh_client.specs.declared.state.ClientRole.{ClientRole}
-use Rattle.rh_client.specs.Channels.{is_up, is_put, metered}
-use Rattle.rh_client.specs.Replacements.{is_in, is_out}
-use Rattle.rh_client.specs.State.{ci, co, is_writing, is_in_successor, is_current, is_out_successor}
-use Rattle.rh_client.specs.Acknowledging.{ack_due, cookie_of}
-use Rattle.rh_client.specs.InReplacement.{handed_over}
-use Rattle.rh_client.specs.Putting.{Pick, conn_a1, conn_b1, in_r1_a1, out_r1_a3, begun_in, begun_out, with_end_put, without_ping, put_conn_b1, put_in_r1_a1, put_current, put_out_successor, put_out, due_by, put_due, ack_by, put_ack_of, put_ack, put_pdu, is_end_due, put_end, put_ping, put_successor_ping, put_next, put_writing, put_in_successor, put_in, settled_pick, put_by, or_else}
-use Rattle.law_moves.specs.Moves.{OnLeg}
-use Rattle.law_moves.specs.Wires.{of_leg}
-use Rattle.law_moves.specs.Passages.Passing.{HasBegunIn, BeginsIn, BeginsOut}
-use Rattle.law_moves.proofs.Passages.Messages.{last_one_so}
+use Rattle.law_moves.proofs.Vocabulary.{Ack, may_put, fits, by_test, same_number, test_same, Cookie, Named, CONN_B1_LEN, IN_R1_A1_LEN, IN_R1_A5_LEN, OUT_R1_A7_LEN, END_A1_LEN, ACK_TO_LEN, PING_LEN, in_request, out_request, after_told, Leg, LegKind, ClientOut, OutServer, ClientIn, InServer, Which, Current, Next, Message, Text, Packet, OnLeg, of_leg, HasBegunIn, BeginsIn, BeginsOut}
+use Rattle.law_moves.proofs.Lemmas.{last_one_so}
+use Rattle.law_role_client.proofs.Vocabulary.{Opening, NotUp, Request, First, Second, Put, CONN_A1_LEN, OUT_R1_A3_C1_LEN, Replacement, NoneUnderWay, In, Out, ClientRole, is_up, is_put, metered, is_in, is_out, ci, co, is_writing, is_in_successor, is_current, is_out_successor, ack_due, cookie_of, handed_over, Pick, conn_a1, conn_b1, in_r1_a1, out_r1_a3, begun_in, begun_out, with_end_put, without_ping, put_conn_b1, put_in_r1_a1, put_current, put_out_successor, put_out, due_by}
+use Rattle.law_role_client.proofs.Vocabulary.{put_due, ack_by, put_ack_of, put_ack, put_pdu, is_end_due, put_end, put_ping, put_successor_ping, put_next, put_writing, put_in_successor, put_in, settled_pick, put_by, or_else}
 use Rattle.law_role_client.proofs.Sending.Logs.{leg_here}
 use Rattle.law_role_client.proofs.Sending.Facts.{seen_in, BeginsSo, Kept, was_put}
 use Rattle.law_role_client.proofs.Sending.Channels.{known_begun, with_writing, with_successor, with_current, with_out_successor}

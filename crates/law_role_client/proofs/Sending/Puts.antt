@@ -1,33 +1,16 @@
 -- what a client keeps as it puts a message
-use Rattle.std.proofs.Common.{◌≡◌, ◌≢◌, ℕ, suc, ◌+◌, ◌≤◌, nat_eq, Bool, true, false, true≢false, ◌&&◌, if◌then◌else◌, List, [], ◌∷◌, ◌++◌, length, Some, None, arith, refl, sym, ap, ◌∙◌, subst}
-use Rattle.std.proofs.lemmas.Bool.{false≢true, and_parts}
-use Rattle.std.proofs.lemmas.Bool.Decides.{nat_tests}
-use Rattle.rh_window.specs.Sending.{may_send}
-use Rattle.rh_keep.specs.Meters.{may_put}
-use Rattle.law_order.proofs.ByNumber.{by_test, same_number, other_number, test_same, test_other}
-use Rattle.rh_rts.specs.declared.command.Cookie.{Cookie}
-use Rattle.rh_line.specs.Queue.{behind, front_length}
-use Rattle.rh_line.specs.declared.leg.Leg.{Leg}
-use Rattle.rh_shell.specs.declared.answers.Phase.{Phase}
+use Rattle.law_order.proofs.Vocabulary.{◌≡◌, ◌≢◌, ℕ, suc, ◌+◌, ◌≤◌, nat_eq, Bool, true, false, true≢false, ◌&&◌, if◌then◌else◌, List, [], ◌∷◌, ◌++◌, length, Some, None, arith, refl, sym, ap, ◌∙◌, subst, false≢true, and_parts, nat_tests}
 use Rattle.rh_shell.specs.declared.answers.Phase.TheVariants as phase
-use Rattle.rh_shell.specs.NearEnds.{first_of}
-use Rattle.rh_shell.specs.Rules.{Message, Text, Pdu}
-use Rattle.rh_client.specs.declared.state.ClientRole.{ClientRole}
-use Rattle.rh_client.specs.Channels.{is_put, sent}
-use Rattle.rh_client.specs.Replacements.{is_in}
-use Rattle.rh_client.specs.State.{ci, is_open, is_opening}
-use Rattle.rh_client.specs.Putting.{Pick, or_else, lets_pdu, pdu_by}
-use Rattle.law_moves.specs.Moves.{OnLeg}
-use Rattle.law_moves.specs.Wires.{of_leg}
-use Rattle.law_moves.specs.Passages.Passing.{pdu_bytes, HasBegunIn, HasBegunOut, BeginsIn}
-use Rattle.law_moves.proofs.Passages.Logs.{PutKeeps}
-use Rattle.law_moves.proofs.Passages.Messages.{bytes_append}
-use Rattle.law_role_client.specs.Sending.{IsWithin}
-use Rattle.law_role_client.proofs.Sending.Logs.{leg_here, leg_other, one_stays, within_so, within_less}
+use Rattle.rh_client.specs.Putting.{pdu_by}
+use Rattle.law_moves.proofs.Vocabulary.{may_send, may_put, by_test, same_number, other_number, test_same, test_other, Cookie, behind, front_length, Leg, Phase, first_of, Message, Text, Pdu, OnLeg, of_leg, pdu_bytes, HasBegunIn, HasBegunOut, BeginsIn}
+use Rattle.law_moves.proofs.Lemmas.{PutKeeps, bytes_append, other_more as leg_other}
+use Rattle.law_role_client.proofs.Vocabulary.{ClientRole, is_put, sent, is_in, ci, is_open, is_opening, Pick, or_else, lets_pdu, IsWithin}
+use Rattle.law_role_client.proofs.Sending.Logs.{leg_here, within_so, within_less}
 use Rattle.law_role_client.proofs.Sending.Facts.{SeenIn, seen_in, seen, put_bytes, IsCookieOf, IsKnownIn, IsSo, BeginsSo, Kept, logs_put, was_put}
 use Rattle.law_role_client.proofs.Sending.Changes.{Same, quiet, same_kept}
+use Rattle.law_role_client.proofs.Counted.Behind.{still_has as one_stays}
 
-open_is : (p : Phase) → is_open p ≡ true → is_opening p ≡ false
+pub open_is : (p : Phase) → is_open p ≡ true → is_opening p ≡ false
 open_is phase.Opening e = absurd (false≢true e)
 open_is phase.Open e = refl
 open_is phase.Ended e = refl

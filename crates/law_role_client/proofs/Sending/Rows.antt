@@ -1,49 +1,14 @@
 -- what the rows of a client keep, as what comes is taken or refused
-use Rattle.std.proofs.Common.{◌≡◌, ℕ, ◌+◌, ◌==◌, nat_lt, Bool, true, false, ◌&&◌, ◌||◌, not, if◌then◌else◌, List, ◌++◌, ◌∷◌, [], Some, None, Ok, Err, refl, sym, ap, ◌∙◌, subst}
-use Rattle.std.proofs.lemmas.Bool.{false≢true, and_parts}
-use Rattle.std.proofs.lemmas.Slice.Eq.{bytes_eq-Decides}
-use Rattle.std.specs.Prelude.{max, is_ok}
 use Rattle.std.specs.Option.{is_some}
-use Rattle.std.specs.Str.{bytes_eq}
-use Rattle.std.specs.declared.option.Option.{Option}
-use Rattle.std.specs.declared.result.Result.{Result}
-use Rattle.rh_window.specs.Sending.{ack_verdict}
-use Rattle.rh_window.specs.declared.fault.BadAck.{BadAck}
-use Rattle.law_order.proofs.ByNumber.{by_test, same_number}
-use Rattle.rh_rts.specs.declared.command.Cookie.{Cookie}
-use Rattle.rh_sig.specs.declared.named.Named.{Named}
+use Rattle.law_order.proofs.Vocabulary.{◌≡◌, ℕ, ◌+◌, ◌==◌, nat_lt, Bool, true, false, ◌&&◌, ◌||◌, not, if◌then◌else◌, List, ◌++◌, ◌∷◌, [], Some, None, Ok, Err, refl, sym, ap, ◌∙◌, subst, false≢true, and_parts, bytes_eq-Decides, max, is_ok, bytes_eq, Option, Result}
 use Rattle.rh_sig.specs.declared.named.Named.TheVariants as named
-use Rattle.rh_line.specs.declared.leg.Leg.{Leg}
-use Rattle.rh_line.specs.declared.leg.LegKind.{LegKind}
-use Rattle.rh_line.specs.declared.leg.LegKind.TheVariants.{ClientOut, OutServer, ClientIn, InServer}
-use Rattle.rh_line.specs.declared.which.Which.{Which}
-use Rattle.rh_line.specs.Lines.{after_admit, channel_of, after_end, after_finish}
-use Rattle.rh_shell.specs.declared.answers.Count.{Count}
 use Rattle.rh_shell.specs.declared.answers.Phase.TheVariants as phase
-use Rattle.rh_shell.specs.Rules.{Pdu, Packet}
-use Rattle.rh_shell.specs.Hearing.{is_zero}
-use Rattle.rh_client.specs.declared.channels.InChannel.{InChannel}
-use Rattle.rh_client.specs.declared.channels.TheConstants.{LAST_NUMBER}
-use Rattle.rh_client.specs.declared.replacement.Replacement.{Replacement}
-use Rattle.rh_client.specs.declared.replacement.Replacement.TheVariants.{NoneUnderWay, In, Out}
-use Rattle.rh_client.specs.declared.replacement.InStage.{InStage}
 use Rattle.rh_client.specs.declared.replacement.InStage.TheVariants as in_stage
-use Rattle.rh_client.specs.declared.replacement.OutStage.{OutStage}
 use Rattle.rh_client.specs.declared.replacement.OutStage.TheVariants as out_stage
-use Rattle.rh_client.specs.declared.replacement.Waits.{Waits}
-use Rattle.rh_client.specs.declared.state.ClientRole.{ClientRole}
-use Rattle.rh_client.specs.Channels.{is_up, is_put, is_asked, is_named, told_in}
-use Rattle.rh_client.specs.Replacements.{is_in, has_out, with_out}
-use Rattle.rh_client.specs.State.{Done, taken, unexpected, is_open, is_opening, is_current, is_out_successor, settled, co}
-use Rattle.rh_client.specs.Opening.{on_conn_a3, on_conn_c2}
-use Rattle.rh_client.specs.Acknowledging.{pdu_channel, pdu_on, acked, ack_row, ack_row_by, ack_named, on_ack_to}
-use Rattle.rh_client.specs.InReplacement.{answer_at, answer_by, answered, on_in_r1_a4, on_in_r2_a4}
-use Rattle.rh_client.specs.OutReplacement.{a2_by, on_out_r1_a2, a6_at, a6_by, on_out_r1_a6, passed, a10_at, a10_by, on_out_r1_a10}
-use Rattle.rh_client.specs.Ending.{end_channel, end_on, on_end_b2}
-use Rattle.rh_client.specs.Client.{pdu_by, on_packet, packet_by}
-use Rattle.law_moves.specs.Moves.{OnLeg}
-use Rattle.law_moves.proofs.Passages.Logs.{RowKeeps}
-use Rattle.law_role_client.specs.Sending.{IsWithin}
+use Rattle.law_moves.proofs.Vocabulary.{ack_verdict, BadAck, by_test, same_number, Cookie, Named, Leg, LegKind, ClientOut, OutServer, ClientIn, InServer, Which, after_admit, channel_of, after_end, after_finish, Count, Pdu, Packet, is_zero, OnLeg}
+use Rattle.law_moves.proofs.Lemmas.{RowKeeps}
+use Rattle.law_role_client.proofs.Vocabulary.{InChannel, LAST_NUMBER, Replacement, NoneUnderWay, In, Out, InStage, OutStage, Waits, ClientRole, is_up, is_put, is_asked, is_named, told_in, is_in, has_out, with_out, Done, taken, unexpected, is_open, is_opening, is_current, is_out_successor, settled, co, on_conn_a3, on_conn_c2, pdu_channel, pdu_on, acked, ack_row, ack_row_by, ack_named, on_ack_to, answer_at, answer_by, answered, on_in_r1_a4, on_in_r2_a4, a2_by, on_out_r1_a2}
+use Rattle.law_role_client.proofs.Vocabulary.{a6_at, a6_by, on_out_r1_a6, passed, a10_at, a10_by, on_out_r1_a10, end_channel, end_on, on_end_b2, pdu_by, on_packet, packet_by, IsWithin}
 use Rattle.law_role_client.proofs.Sending.Logs.{within_more, within_both, within_last}
 use Rattle.law_role_client.proofs.Sending.Facts.{seen_in, IsCookieOf, IsOfNone, Kept, heard}
 use Rattle.law_role_client.proofs.Sending.Channels.{known_told, known_edge, with_writing, with_successor, with_leaving}

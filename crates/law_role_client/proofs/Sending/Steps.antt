@@ -1,17 +1,7 @@
 -- what each step of an end keeps, its moves keep, where each leg that comes up may do so
-use Rattle.std.proofs.Common.{◌≡◌, ℕ, List, [], ◌∷◌, Some, None, Ok, Err, inl, inr, refl}
-use Rattle.std.specs.Prelude.{IsTrue}
-use Rattle.std.specs.declared.option.Option.{Option}
-use Rattle.std.specs.declared.result.Result.{Result}
-use Rattle.rh_rts.specs.declared.command.Cookie.{Cookie}
-use Rattle.rh_sig.specs.declared.named.Named.{Named}
-use Rattle.rh_line.specs.declared.leg.Leg.{Leg}
-use Rattle.rh_shell.specs.declared.answers.Count.{Count}
-use Rattle.rh_shell.specs.declared.end_role.GiveRefused.{GiveRefused}
-use Rattle.rh_shell.specs.Rules.{Rules, Acts, Row, Message, Pdu, Packet}
-use Rattle.law_moves.specs.Moves.{Move, Up, HeadCame, PduCame, PacketCame, Puts, IsDrawn, Marks, Pings, Passage, MayMove, moved, taken_by, put_by, EndMove, Moves, Gives, Takes, Closes, Recycles, EndPassage, AreAllowedAtEnd, MayEndMove, end_moved, all_end_moved, end_now_at, given_by, with_first}
-use Rattle.law_moves.proofs.Passages.Logs.{Fact, RowKeeps, PutKeeps}
-use Rattle.law_moves.specs.Passages.Rising.{HasComeUp}
+use Rattle.law_order.proofs.Vocabulary.{◌≡◌, ℕ, List, [], ◌∷◌, Some, None, Ok, Err, inl, inr, refl, IsTrue, Option, Result}
+use Rattle.law_moves.proofs.Vocabulary.{Cookie, Named, Leg, Count, GiveRefused, Rules, Acts, Row, Message, Pdu, Packet, Move, Up, HeadCame, PduCame, PacketCame, Puts, IsDrawn, Marks, Pings, Passage, MayMove, moved, taken_by, put_by, EndMove, Moves, Gives, Takes, Closes, Recycles, EndPassage, AreAllowedAtEnd, MayEndMove, end_moved, all_end_moved, end_now_at, given_by, with_first, HasComeUp}
+use Rattle.law_moves.proofs.Lemmas.{Fact, RowKeeps, PutKeeps}
 
 -- each step keeps the fact, where legs come up only with cookies of which something holds
 pub record StepsKeep {S : Type 0} (rules : Rules S) (acts : Acts S)

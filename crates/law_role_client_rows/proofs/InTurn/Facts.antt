@@ -1,12 +1,7 @@
 -- what a client knows of its turn, by what it put, and one message more
-use Rattle.std.proofs.Common.{◌≡◌, ℕ, suc, Bool, true, false, true≢false, List, [], ◌∷◌, ◌++◌, refl, sym, ◌∙◌, ap, subst}
-use Rattle.std.proofs.lemmas.Bool.{false≢true}
-use Rattle.rh_line.specs.Lines.{is_empty}
-use Rattle.rh_line.specs.declared.leg.Leg.{Leg}
-use Rattle.rh_shell.specs.Rules.{Message}
-use Rattle.rh_client.specs.declared.state.ClientRole.{ClientRole}
-use Rattle.rh_client.specs.Replacements.{is_in}
-use Rattle.law_moves.specs.Moves.{OnLeg}
+use Rattle.law_order.proofs.Vocabulary.{◌≡◌, ℕ, suc, Bool, true, false, true≢false, List, [], ◌∷◌, ◌++◌, refl, sym, ◌∙◌, ap, subst, false≢true}
+use Rattle.law_moves.proofs.Vocabulary.{is_empty, Leg, Message, OnLeg}
+use Rattle.law_role_client.proofs.Vocabulary.{ClientRole, is_in}
 use Rattle.law_role_client_rows.specs.InTurn.Turns.{Turn, behind, behind_all, first_turn, Stands, StandFrom}
 
 behind_more : (t : Turn) (log : List OnLeg) (one : OnLeg)

@@ -1,34 +1,13 @@
 -- a client writes in turn, whatever moves it makes
-use Rattle.std.proofs.Common.{◌≡◌, ℕ, ◌+◌, ◌==◌, nat_le, true, false, List, [], ◌∷◌, ◌++◌, length, Ok, Err, refl, sym, ◌∙◌}
-use Rattle.std.proofs.lemmas.Bool.{false≢true}
-use Rattle.std.specs.declared.result.Result.{Result}
-use Rattle.law_order.proofs.ByNumber.{by_test}
-use Rattle.rh_pdu.specs.Checking.{checked, pdu_fault}
-use Rattle.rh_pdu.specs.declared.fault.PduFault.{PduFault}
-use Rattle.rh_rts.specs.declared.command.Cookie.{Cookie}
-use Rattle.rh_http.specs.declared.config.ClientConfig.{ClientConfig}
-use Rattle.rh_line.specs.Lines.{after_take}
-use Rattle.rh_line.specs.Queue.{total, queue_bytes}
-use Rattle.rh_line.specs.declared.leg.LegKind.{LegKind}
-use Rattle.rh_line.specs.declared.leg.LegKind.TheVariants.{ClientOut, OutServer, ClientIn, InServer}
-use Rattle.rh_shell.specs.declared.end_role.GiveRefused.TheVariants.{Closing, Full}
-use Rattle.rh_shell.specs.Rules.{Pdu, Packet}
-use Rattle.rh_client.specs.declared.state.ClientRole.{ClientRole}
-use Rattle.rh_client.specs.Channels.{in_up, out_up}
-use Rattle.rh_client.specs.State.{first, is_writing, is_in_successor, is_current}
-use Rattle.rh_client.specs.Opening.{with_next, up_by}
-use Rattle.rh_client.specs.Ending.{Given, give, give_pdu, drawn_by}
-use Rattle.rh_client.specs.Time.{ping_by}
-use Rattle.rh_client.specs.Client.{acts, pdu_by, packet_by}
-use Rattle.rh_client.specs.Client.{rules as client_rules}
-use Rattle.law_moves.specs.Moves.{OnLeg, EndMove}
-use Rattle.law_moves.proofs.Passages.Logs.{StepsKeep, ActsKeep, end_moves_keep}
-use Rattle.law_role_client.specs.Order.{client_moved, client_started}
-use Rattle.law_role_client_rows.specs.InTurn.Turns.{WritesInTurn}
+use Rattle.law_order.proofs.Vocabulary.{◌≡◌, ℕ, ◌+◌, ◌==◌, nat_le, true, false, List, [], ◌∷◌, ◌++◌, length, Ok, Err, refl, sym, ◌∙◌, false≢true, Result}
+use Rattle.law_moves.proofs.Vocabulary.{by_test, checked, pdu_fault, PduFault, Cookie, ClientConfig, after_take, total, queue_bytes, LegKind, ClientOut, OutServer, ClientIn, InServer, Closing, Full, Pdu, Packet, OnLeg, EndMove}
+use Rattle.law_moves.proofs.Lemmas.{StepsKeep, ActsKeep, end_moves_keep}
+use Rattle.law_role_client.proofs.Vocabulary.{ClientRole, in_up, out_up, first, is_writing, is_in_successor, is_current, with_next, up_by, Given, give, give_pdu, drawn_by, ping_by, acts, pdu_by, packet_by, rules as client_rules, client_moved, client_started}
 use Rattle.law_role_client_rows.proofs.InTurn.Facts.{view, Holds, starts}
 use Rattle.law_role_client_rows.proofs.InTurn.Changes.{So, recycle_so, passed_so}
 use Rattle.law_role_client_rows.proofs.InTurn.Rows.{row_so, pdu_so, packet_so}
 use Rattle.law_role_client_rows.proofs.InTurn.Putting.{puts}
+use Rattle.law_role_client_rows.specs.InTurn.Turns.{WritesInTurn}
 
 module _ (put : List OnLeg) (s : ClientRole) (h : So put s) where
   up_so : (n : ℕ) (cookie : Cookie) (kind : LegKind) → So put (up_by s n cookie kind)

@@ -1,11 +1,7 @@
 -- no leg of a client begins by a Ping
-use Rattle.std.proofs.Common.{List, [], ◌∷◌, subst}
-use Rattle.rh_sig.specs.declared.named.Named.{Named}
-use Rattle.rh_sig.specs.declared.named.Named.TheVariants.{Ping}
-use Rattle.rh_shell.specs.Rules.{Message, Text, Pdu, Packet}
-use Rattle.rh_client.specs.State.{ci, co}
-use Rattle.law_moves.specs.Moves.{OnLeg}
-use Rattle.law_moves.specs.Wires.{of_leg}
+use Rattle.law_order.proofs.Vocabulary.{List, [], ◌∷◌, subst}
+use Rattle.law_moves.proofs.Vocabulary.{Named, Ping, Message, Text, Pdu, Packet, OnLeg, of_leg}
+use Rattle.law_role_client.proofs.Vocabulary.{ci, co}
 use Rattle.law_role_client_rows.specs.Putting.{IsPacket}
 use Rattle.law_role_client_rows.specs.InTurn.Asking.{AsksIn, AsksOut, IsNoAsk, IsText, AsksOnce, AsksOnceOnEach}
 use Rattle.law_role_client_rows.specs.InTurn.Pings.{HasNoPingFirst, BeginsWithoutPing}

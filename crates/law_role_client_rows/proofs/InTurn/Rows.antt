@@ -1,39 +1,15 @@
 -- what comes leaves a client's turn alone
-use Rattle.std.proofs.Common.{◌≡◌, ℕ, ◌==◌, nat_lt, Bool, true, false, ◌&&◌, ◌||◌, not, if◌then◌else◌, List, Some, None, Ok, Err, refl, ap, ◌∙◌}
 use Rattle.std.specs.Option.{is_some}
-use Rattle.std.specs.declared.option.Option.{Option}
-use Rattle.law_order.proofs.ByNumber.{by_test}
-use Rattle.rh_rts.specs.declared.command.Cookie.{Cookie}
-use Rattle.rh_sig.specs.declared.named.Named.{Named}
+use Rattle.law_order.proofs.Vocabulary.{◌≡◌, ℕ, ◌==◌, nat_lt, Bool, true, false, ◌&&◌, ◌||◌, not, if◌then◌else◌, List, Some, None, Ok, Err, refl, ap, ◌∙◌, Option}
 use Rattle.rh_sig.specs.declared.named.Named.TheVariants as named
-use Rattle.rh_line.specs.Lines.{channel_of, after_end, after_finish}
-use Rattle.rh_line.specs.declared.leg.LegKind.{LegKind}
-use Rattle.rh_line.specs.declared.leg.LegKind.TheVariants.{ClientOut, OutServer, ClientIn, InServer}
-use Rattle.rh_line.specs.declared.which.Which.{Which}
-use Rattle.rh_shell.specs.declared.answers.Count.{Count}
 use Rattle.rh_shell.specs.declared.answers.Phase.TheVariants as phase
-use Rattle.rh_shell.specs.Hearing.{is_zero}
-use Rattle.rh_client.specs.declared.channels.TheConstants.{LAST_NUMBER}
-use Rattle.rh_client.specs.declared.replacement.Replacement.{Replacement}
-use Rattle.rh_client.specs.declared.replacement.Replacement.TheVariants.{NoneUnderWay, In, Out}
-use Rattle.rh_client.specs.declared.replacement.InStage.{InStage}
 use Rattle.rh_client.specs.declared.replacement.InStage.TheVariants as in_stage
-use Rattle.rh_client.specs.declared.replacement.OutStage.{OutStage}
 use Rattle.rh_client.specs.declared.replacement.OutStage.TheVariants as out_stage
-use Rattle.rh_client.specs.declared.replacement.Waits.{Waits}
 use Rattle.rh_client.specs.declared.replacement.Waits.TheVariants as waits
-use Rattle.rh_client.specs.declared.state.ClientRole.{ClientRole}
-use Rattle.rh_client.specs.Channels.{is_put, is_asked, is_named, told_in}
-use Rattle.rh_client.specs.Replacements.{is_in, has_out, with_out}
-use Rattle.rh_client.specs.State.{Done, taken, unexpected, is_open, is_opening, is_over, is_current, is_out_successor, settled}
-use Rattle.rh_client.specs.Opening.{on_conn_a3, on_conn_c2}
-use Rattle.rh_client.specs.Acknowledging.{pdu_channel, pdu_on, acked, ack_row, ack_named, on_ack_to}
-use Rattle.rh_client.specs.InReplacement.{answer_at, answer_by, answered, on_in_r1_a4, on_in_r2_a4}
-use Rattle.rh_client.specs.OutReplacement.{a2_by, on_out_r1_a2, a6_at, a6_by, on_out_r1_a6, passed, a10_at, a10_by, on_out_r1_a10}
-use Rattle.rh_client.specs.Ending.{end_channel, end_on, on_end_b2}
-use Rattle.rh_client.specs.Client.{pdu_by, on_packet, packet_by}
-use Rattle.law_moves.specs.Moves.{OnLeg}
-use Rattle.law_moves.proofs.Passages.Logs.{RowKeeps}
+use Rattle.law_moves.proofs.Vocabulary.{by_test, Cookie, Named, channel_of, after_end, after_finish, LegKind, ClientOut, OutServer, ClientIn, InServer, Which, Count, is_zero, OnLeg}
+use Rattle.law_moves.proofs.Lemmas.{RowKeeps}
+use Rattle.law_role_client.proofs.Vocabulary.{LAST_NUMBER, Replacement, NoneUnderWay, In, Out, InStage, OutStage, Waits, ClientRole, is_put, is_asked, is_named, told_in, is_in, has_out, with_out, Done, taken, unexpected, is_open, is_opening, is_over, is_current, is_out_successor, settled, on_conn_a3, on_conn_c2, pdu_channel, pdu_on, acked, ack_row, ack_named, on_ack_to, answer_at, answer_by, answered, on_in_r1_a4, on_in_r2_a4, a2_by, on_out_r1_a2, a6_at, a6_by, on_out_r1_a6}
+use Rattle.law_role_client.proofs.Vocabulary.{passed, a10_at, a10_by, on_out_r1_a10, end_channel, end_on, on_end_b2, pdu_by, on_packet, packet_by}
 use Rattle.law_role_client_rows.proofs.InTurn.Facts.{Holds, idles}
 use Rattle.law_role_client_rows.proofs.InTurn.Changes.{So, begin_out_so, passed_so}
 

@@ -1,22 +1,10 @@
 -- what follows, for the messages of a ci leg, of where each message of a log stands
-use Rattle.std.proofs.Common.{◌≡◌, ◌⊎◌, ℕ, suc, ◌<◌, ◌≤◌, ◌&&◌, ◌==◌, true, false, true≢false, List, [], ◌∷◌, ◌++◌, arith, inl, inr, refl, sym, ◌∙◌, subst}
-use Rattle.std.proofs.lemmas.Bool.{false≢true}
-use Rattle.law_order.proofs.ByNumber.{by_test, same_number}
-use Rattle.rh_sig.specs.declared.named.Named.{Named}
-use Rattle.rh_sig.specs.declared.named.Named.TheVariants.{ConnA1, ConnB1, InR1A1, InR1A5, OutR1A3, OutR1A7, OutR2C1, EndA1, AckTo, KeepAlive, Ping}
-use Rattle.rh_line.specs.declared.leg.Leg.{Leg}
-use Rattle.rh_line.specs.declared.leg.LegKind.{LegKind}
-use Rattle.rh_line.specs.declared.leg.LegKind.TheVariants.{ClientOut}
-use Rattle.rh_shell.specs.Rules.{Message, Text, Pdu, Packet}
-use Rattle.rh_shell.specs.Shells.{kind_number, same_leg}
-use Rattle.rh_client.specs.State.{ci}
-use Rattle.law_moves.specs.Moves.{OnLeg}
-use Rattle.law_moves.specs.Wires.{of_leg}
-use Rattle.law_moves.specs.Passages.Passing.{Has}
-use Rattle.law_role_client_rows.proofs.InTurn.Lists.{nothing, head_of, tail_of, each_at, split, split_more}
+use Rattle.law_order.proofs.Vocabulary.{◌≡◌, ◌⊎◌, ℕ, suc, ◌<◌, ◌≤◌, ◌&&◌, ◌==◌, true, false, true≢false, List, [], ◌∷◌, ◌++◌, arith, inl, inr, refl, sym, ◌∙◌, subst, false≢true}
+use Rattle.law_moves.proofs.Vocabulary.{by_test, same_number, Named, ConnA1, ConnB1, InR1A1, InR1A5, OutR1A3, OutR1A7, OutR2C1, EndA1, AckTo, Ping, Leg, LegKind, ClientOut, Message, Text, Pdu, Packet, kind_number, same_leg, OnLeg, of_leg, Has}
+use Rattle.law_role_client.proofs.Vocabulary.{ci}
+use Rattle.law_role_client_rows.proofs.InTurn.Lists.{nothing, head_of, tail_of}
 use Rattle.law_role_client_rows.specs.InTurn.Turns.{Turn, behind, IsNear, PacketStands, Stands, StandFrom, WritesInTurn, first_turn}
-use Rattle.law_role_client_rows.specs.InTurn.Ends.{IsNoPdu, HasNoPdu, IsNoEnd, HasNoEnd, EndsByInR1A5, EndsOnce, EndsAll, FollowNoEnd}
-use Rattle.law_role_client_rows.specs.InTurn.Asking.{PutsNoKeepAlive}
+use Rattle.law_role_client_rows.specs.InTurn.Ends.{IsNoPdu, HasNoPdu, IsNoEnd, HasNoEnd, EndsByInR1A5, EndsOnce, EndsAll}
 
 -- ---- on which leg
 
@@ -230,42 +218,3 @@ module _ (n m : ℕ) (less : n < m) where
 
 pub ends_all : (put : List OnLeg) → WritesInTurn put → EndsAll put
 ends_all put h n m less has = ended_all n m less first_turn put h has
-
--- ---- by what stands before a message
-
-pub follow_no_end : (put : List OnLeg) → WritesInTurn put → FollowNoEnd put
-follow_no_end put h = record {
-  any = λ n before later m successor e has.
-      let there = split (InR1A5 successor) before has in
-      let none = ends_by_in_r1_a5 put h n there.before (there.later ++ m ∷ later) successor
-      (split_more (InR1A5 successor) (of_leg (ci n) put) before (m ∷ later) there e) in
-      nothing there.later later m (sym none);
-  pdu = λ n before later bytes e has.
-      let there = split EndA1 before has in
-      let so = ends_once put h n there.before (there.later ++ Pdu bytes ∷ later)
-      (split_more EndA1 (of_leg (ci n) put) before (Pdu bytes ∷ later) there e) in
-      each_at IsNoPdu there.later later (Pdu bytes) so.0;
-  end_a1 = λ n before later e has.
-      let there = split EndA1 before has in
-      let so = ends_once put h n there.before (there.later ++ Packet EndA1 ∷ later)
-      (split_more EndA1 (of_leg (ci n) put) before (Packet EndA1 ∷ later) there e) in
-      each_at IsNoEnd there.later later (Packet EndA1) so.1;
-}
-
--- ---- KeepAlive
-
-no_keep_alives : (t : Turn) (log : List OnLeg) (leg : Leg) (keepalive : ℕ) → StandFrom t log
-    → Has (KeepAlive keepalive) (of_leg leg log) → ⊥
-no_keep_alives t [] leg keepalive h has = has
-no_keep_alives t ((on, m) ∷ log) leg keepalive h has =
-    let later = no_keep_alives (behind t m) log leg keepalive h.1 in
-    by_test (λ (ms : List Message). Has (KeepAlive keepalive) ms → ⊥) (same_leg on leg)
-    (m ∷ of_leg leg log) (of_leg leg log) (λ here is. by later is) (λ other is. later is) has
-  where
-    by : (Has (KeepAlive keepalive) (of_leg leg log) → ⊥)
-        → Has (KeepAlive keepalive) (m ∷ of_leg leg log) → ⊥
-    by later (inl is) = subst (λ (x : Message). Stands t (on, x)) is h.0
-    by later (inr rest) = later rest
-
-pub puts_no_keep_alive : (put : List OnLeg) → WritesInTurn put → PutsNoKeepAlive put
-puts_no_keep_alive put h leg keepalive has = no_keep_alives first_turn put leg keepalive h has

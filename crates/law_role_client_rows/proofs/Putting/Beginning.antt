@@ -1,38 +1,16 @@
 -- what each leg of a client begins with, and the next message of a leg
-use Rattle.std.proofs.Common.{◌≡◌, ℕ, suc, ◌==◌, ◌&&◌, true, false, if◌then◌else◌, List, [], ◌∷◌, ◌++◌, Some, None, inl, inr, refl, sym, ap, subst}
-use Rattle.std.proofs.lemmas.Bool.{false≢true, and_parts}
-use Rattle.rh_keep.specs.Meters.{may_put}
-use Rattle.law_order.proofs.ByNumber.{by_test, same_number}
-use Rattle.rh_rts.specs.declared.command.Cookie.{Cookie}
+use Rattle.law_order.proofs.Vocabulary.{◌≡◌, ℕ, suc, ◌==◌, ◌&&◌, true, false, if◌then◌else◌, List, [], ◌∷◌, ◌++◌, Some, None, inl, inr, refl, sym, ap, subst, false≢true, and_parts}
 use Rattle.rh_sig.specs.declared.named.Named.TheVariants as named
-use Rattle.rh_sig.specs.declared.ranges.TheConstants.{PROTOCOL_VERSION}
-use Rattle.rh_sig.specs.declared.lengths.TheConstants.{CONN_B1_LEN, IN_R1_A1_LEN}
-use Rattle.rh_sig.specs.declared.lengths.TheConstants.{PING_LEN}
-use Rattle.rh_http.specs.declared.config.ClientConfig.{ClientConfig}
-use Rattle.rh_http.specs.Texts.{in_request, out_request}
-use Rattle.rh_line.specs.declared.leg.Leg.{Leg}
-use Rattle.rh_line.specs.declared.leg.LegKind.{LegKind}
-use Rattle.rh_line.specs.declared.leg.LegKind.TheVariants.{ClientOut, OutServer, ClientIn, InServer}
-use Rattle.rh_shell.specs.Rules.{Message, Text, Packet}
-use Rattle.rh_client.specs.declared.channels.Opening.{Opening}
-use Rattle.rh_client.specs.declared.channels.Opening.TheVariants.{NotUp, Request, First, Second, Put}
-use Rattle.rh_client.specs.declared.lengths.TheConstants.{CONN_A1_LEN, OUT_R1_A3_C1_LEN}
-use Rattle.rh_client.specs.declared.replacement.Replacement.{Replacement}
-use Rattle.rh_client.specs.declared.replacement.Replacement.TheVariants.{NoneUnderWay, In, Out}
-use Rattle.rh_client.specs.declared.state.ClientRole.{ClientRole}
-use Rattle.rh_client.specs.Channels.{metered}
-use Rattle.rh_client.specs.Replacements.{is_none, is_in, is_out}
-use Rattle.rh_client.specs.State.{ci, co, is_writing, is_in_successor, is_current, is_out_successor}
-use Rattle.rh_client.specs.Putting.{Pick, conn_a1, conn_b1, in_r1_a1, out_r1_a3, begun_in, without_ping, put_conn_b1, put_in_r1_a1, put_current, put_out_successor, put_out, put_successor_ping, put_writing, put_in_successor, put_in, settled_pick, put_by}
-use Rattle.law_moves.specs.Moves.{OnLeg}
-use Rattle.law_moves.specs.Wires.{of_leg}
-use Rattle.law_moves.proofs.Passages.Messages.{all_append}
-use Rattle.law_role_client_rows.specs.Putting.{Direction, in_way, out_way, IsBehind, HasOpened}
+use Rattle.law_moves.proofs.Vocabulary.{may_put, by_test, same_number, Cookie, PROTOCOL_VERSION, CONN_B1_LEN, IN_R1_A1_LEN, PING_LEN, ClientConfig, in_request, out_request, Leg, LegKind, ClientOut, OutServer, ClientIn, InServer, Message, Text, Packet, OnLeg, of_leg}
+use Rattle.law_moves.proofs.Lemmas.{all_append}
+use Rattle.law_role_client.proofs.Vocabulary.{Opening, NotUp, Request, First, Second, Put, CONN_A1_LEN, OUT_R1_A3_C1_LEN, Replacement, NoneUnderWay, In, Out, ClientRole, metered, is_none, is_in, is_out, ci, co, is_writing, is_in_successor, is_current, is_out_successor, Pick, conn_a1, conn_b1, in_r1_a1, out_r1_a3, begun_in, without_ping, put_conn_b1, put_in_r1_a1, put_current, put_out_successor, put_out, put_successor_ping, put_writing, put_in_successor, put_in, settled_pick}
+use Rattle.law_role_client.proofs.Vocabulary.{put_by}
 use Rattle.law_role_client_rows.proofs.Putting.Fronts.{first_is_more}
 use Rattle.law_role_client_rows.proofs.Putting.Openings.{text_now, first_now, text_next, first_next, second_next, more_next}
 use Rattle.law_role_client_rows.proofs.Putting.Facts.{in_put, out_put}
 use Rattle.law_role_client_rows.proofs.Putting.Changes.{Holds, settled_kept}
 use Rattle.law_role_client_rows.proofs.Putting.Writing.{Puts, next_put}
+use Rattle.law_role_client_rows.specs.Putting.{Direction, in_way, out_way, IsBehind, HasOpened}
 
 busy_in : (r : Replacement) → is_in r ≡ true → is_none r ≡ false
 busy_in NoneUnderWay e = absurd (false≢true e)

@@ -1,33 +1,14 @@
 -- what is under way at a client changes
-use Rattle.std.proofs.Common.{◌≡◌, ◌+◌, nat_lt, Bool, true, false, true≢false, ◌&&◌, List, Ok, Err, refl, sym, ◌∙◌, subst}
-use Rattle.std.proofs.lemmas.Bool.{false≢true, and_parts}
-use Rattle.std.specs.declared.result.Result.{Result}
-use Rattle.rh_keep.specs.Meters.{wanted}
-use Rattle.law_order.proofs.ByNumber.{by_test}
-use Rattle.rh_rts.specs.declared.command.Cookie.{Cookie}
-use Rattle.rh_http.specs.declared.config.ClientConfig.{ClientConfig}
-use Rattle.rh_line.specs.declared.leg.Leg.{Leg}
+use Rattle.law_order.proofs.Vocabulary.{◌≡◌, ◌+◌, nat_lt, Bool, true, false, true≢false, ◌&&◌, List, Ok, Err, refl, sym, ◌∙◌, subst, false≢true, and_parts, Result}
 use Rattle.rh_shell.specs.declared.answers.Phase.TheVariants as phase
-use Rattle.rh_shell.specs.declared.end_role.RecycleRefused.{RecycleRefused}
-use Rattle.rh_shell.specs.declared.end_role.RecycleRefused.TheVariants.{Last}
-use Rattle.rh_client.specs.declared.channels.TheConstants.{LAST_NUMBER}
-use Rattle.rh_client.specs.declared.replacement.Replacement.{Replacement}
-use Rattle.rh_client.specs.declared.replacement.Replacement.TheVariants.{NoneUnderWay, In, Out}
 use Rattle.rh_client.specs.declared.replacement.InStage.TheVariants as in_stage
-use Rattle.rh_client.specs.declared.replacement.OutStage.{OutStage}
 use Rattle.rh_client.specs.declared.replacement.OutStage.TheVariants as out_stage
-use Rattle.rh_client.specs.declared.replacement.Waits.{Waits}
 use Rattle.rh_client.specs.declared.replacement.Waits.TheVariants as waits
-use Rattle.rh_client.specs.declared.state.ClientRole.{ClientRole}
-use Rattle.rh_client.specs.Channels.{unopened_in, unopened_out}
-use Rattle.rh_client.specs.State.{is_open, is_over, begin_in, begin_out, after_in, after_out}
-use Rattle.rh_client.specs.InReplacement.{wish_by, wants_successor, wished, recycle_by, handed_over}
-use Rattle.rh_client.specs.OutReplacement.{succeeded, ended_or, pass_at, pass_by, passed}
-use Rattle.rh_client.specs.Putting.{settled_or_wished}
-use Rattle.law_moves.specs.Moves.{OnLeg}
-use Rattle.law_role_client_rows.specs.Putting.{in_way, out_way, HasOpened}
+use Rattle.law_moves.proofs.Vocabulary.{wanted, by_test, Cookie, ClientConfig, Leg, RecycleRefused, Last, OnLeg}
+use Rattle.law_role_client.proofs.Vocabulary.{LAST_NUMBER, Replacement, NoneUnderWay, In, Out, OutStage, Waits, ClientRole, unopened_in, unopened_out, is_open, is_over, begin_in, begin_out, after_in, after_out, wish_by, wants_successor, wished, recycle_by, handed_over, succeeded, ended_or, pass_at, pass_by, passed, settled_or_wished}
 use Rattle.law_role_client_rows.proofs.Putting.Channels.{begins, succeeds}
 use Rattle.law_role_client_rows.proofs.Putting.Facts.{Kept}
+use Rattle.law_role_client_rows.specs.Putting.{in_way, out_way, HasOpened}
 
 -- with another replacement, or none
 abbrev pub turned : ClientRole → Replacement → ClientRole

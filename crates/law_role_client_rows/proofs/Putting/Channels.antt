@@ -1,25 +1,15 @@
 -- the channels of a direction, by what was put on their legs: a channel in use and its successor
-use Rattle.std.proofs.Common.{◌≡◌, ◌≢◌, ◌⊎◌, ℕ, suc, ◌+◌, ◌<◌, nat_eq, Bool, true, false, true≢false, ◌&&◌, ◌||◌, not, List, [], ◌∷◌, ◌++◌, arith, inl, inr, refl, sym, ap, ◌∙◌, subst}
-use Rattle.std.proofs.lemmas.Bool.{false≢true, and_parts}
-use Rattle.law_order.proofs.ByNumber.{same_number, other_number, test_same, test_other}
-use Rattle.rh_rts.specs.declared.command.Cookie.{Cookie}
-use Rattle.rh_line.specs.declared.leg.Leg.{Leg}
-use Rattle.rh_shell.specs.Rules.{Message}
-use Rattle.rh_shell.specs.Shells.{kind_number, same_leg}
-use Rattle.rh_client.specs.declared.channels.Opening.{Opening}
-use Rattle.rh_client.specs.declared.channels.Opening.TheVariants.{NotUp, Request, First, Second, Put}
-use Rattle.rh_client.specs.Channels.{no_cookie, is_up, is_asked}
-use Rattle.law_moves.specs.Moves.{OnLeg}
-use Rattle.law_moves.specs.Wires.{of_leg}
-use Rattle.law_role_client_rows.proofs.Putting.Fronts.{leg_here, leg_other, HasNone, IsAt, is_none, none_is_so}
+use Rattle.law_order.proofs.Vocabulary.{◌≡◌, ◌≢◌, ◌⊎◌, ℕ, suc, ◌+◌, ◌<◌, nat_eq, Bool, true, false, true≢false, ◌&&◌, ◌||◌, not, List, [], ◌∷◌, ◌++◌, arith, inl, inr, refl, sym, ap, ◌∙◌, subst, false≢true, and_parts}
+use Rattle.law_moves.proofs.Vocabulary.{same_number, other_number, test_same, test_other, Cookie, Leg, Message, kind_number, same_leg, OnLeg, of_leg}
+use Rattle.law_moves.proofs.Lemmas.{other_more as leg_other}
+use Rattle.law_role_client.proofs.Vocabulary.{Opening, NotUp, Request, First, Second, Put, no_cookie, is_up, is_asked}
+use Rattle.law_role_client.proofs.Sending.Laws.{not_so, wanted_parts}
+use Rattle.law_role_client.proofs.Sending.Facts.{SeenOut as Channel}
+use Rattle.law_role_client.proofs.Sending.Logs.{leg_here}
+use Rattle.law_role_client_rows.proofs.Putting.Fronts.{HasNone, IsAt, is_none, none_is_so}
 use Rattle.law_role_client_rows.specs.Putting.{Direction, leg_of, IsChannel}
 
 -- ---- what is known of a channel
-
-pub record Channel : Type 0 where
-  pub number : ℕ
-  pub cookie : Cookie
-  pub opening : Opening
 
 abbrev pub unopened : ℕ → Channel
 unopened number = record { number = number; cookie = no_cookie; opening = NotUp }
@@ -28,14 +18,6 @@ unopened number = record { number = number; cookie = no_cookie; opening = NotUp 
 abbrev pub last : Bool → ℕ → ℕ
 last true n = suc n
 last false n = n
-
--- a channel whose first packet was put is up
-pub asked_up : (opening : Opening) → is_asked opening ≡ true → is_up opening ≡ true
-asked_up NotUp e = absurd (false≢true e)
-asked_up Request e = refl
-asked_up First e = refl
-asked_up Second e = refl
-asked_up Put e = refl
 
 pub down_none : (opening : Opening) (ms : List Message) → is_up opening ≡ false → IsAt opening ms
     → HasNone ms
@@ -51,17 +33,6 @@ down_unasked Request e = refl
 down_unasked First e = refl
 down_unasked Second e = e
 down_unasked Put e = e
-
--- one of two legs is wanted
-wanted_parts : (a b c d : Bool) → ((a && b) || (c && d)) ≡ true
-    → ((a ≡ true) × (b ≡ true)) ⊎ ((c ≡ true) × (d ≡ true))
-wanted_parts true true c d e = inl (refl, refl)
-wanted_parts true false c d e = inr (and_parts c d e)
-wanted_parts false b c d e = inr (and_parts c d e)
-
-not_so : (b : Bool) → not b ≡ true → b ≡ false
-not_so true e = absurd (false≢true e)
-not_so false e = refl
 
 module _ (way : Direction) (Comes : Leg → Cookie → Type 0) (Early : Leg → Type 0) where
   abbrev Is : ℕ → List Message → Type 0

@@ -1,59 +1,28 @@
 -- what a client knows of its channels, by what came and what it put
-use Rattle.std.proofs.Common.{◌≡◌, ℕ, suc, Bool, true, false, List, [], ◌∷◌, ◌++◌, refl, sym, ap, ◌∙◌, subst}
-use Rattle.std.proofs.lemmas.List.{append-nil}
-use Rattle.rh_rts.specs.declared.command.Cookie.{Cookie}
-use Rattle.rh_sig.specs.declared.named.Named.TheVariants.{ConnC2, OutR1A7}
-use Rattle.rh_http.specs.declared.config.ClientConfig.{ClientConfig}
-use Rattle.rh_line.specs.declared.leg.Leg.{Leg}
-use Rattle.rh_line.specs.declared.leg.LegKind.TheVariants.{ClientIn}
-use Rattle.rh_shell.specs.Rules.{Message, Packet}
-use Rattle.rh_client.specs.declared.channels.InChannel.{InChannel}
-use Rattle.rh_client.specs.declared.channels.OutChannel.{OutChannel}
-use Rattle.rh_client.specs.declared.replacement.Replacement.{Replacement}
-use Rattle.rh_client.specs.declared.replacement.Replacement.TheVariants.{NoneUnderWay, In, Out}
-use Rattle.rh_client.specs.declared.replacement.InStage.{InStage}
+use Rattle.law_order.proofs.Vocabulary.{◌≡◌, ℕ, suc, Bool, true, false, List, [], ◌∷◌, ◌++◌, refl, sym, ap, ◌∙◌, subst, append-nil}
 use Rattle.rh_client.specs.declared.replacement.InStage.TheVariants as in_stage
-use Rattle.rh_client.specs.declared.replacement.OutStage.{OutStage}
-use Rattle.rh_client.specs.declared.replacement.OutStage.TheVariants as out_stage
-use Rattle.rh_client.specs.declared.state.ClientRole.{ClientRole}
-use Rattle.rh_client.specs.Replacements.{is_none, is_in, is_out}
-use Rattle.rh_client.specs.State.{is_open, ci, co}
-use Rattle.rh_client.specs.Acknowledging.{is_switched_by}
-use Rattle.law_moves.specs.Moves.{OnLeg}
-use Rattle.law_moves.specs.Wires.{of_leg}
-use Rattle.law_moves.specs.Passages.Passing.{Has, of_kind}
-use Rattle.law_moves.proofs.Passages.Messages.{leg_more, kind_more, has_more, has_last}
+use Rattle.law_moves.proofs.Vocabulary.{Cookie, ConnC2, OutR1A7, ClientConfig, Leg, ClientIn, Message, Packet, OnLeg, of_leg, Has, of_kind}
+use Rattle.law_moves.proofs.Lemmas.{leg_more, kind_more, has_more, has_last}
+use Rattle.law_role_client.proofs.Vocabulary.{InChannel, Replacement, NoneUnderWay, In, Out, InStage, ClientRole, is_none, is_in, is_out, is_open, ci, co, is_switched_by}
+use Rattle.law_role_client.proofs.Receiving.Replaced.{is_answered as out_answered}
+use Rattle.law_role_client.proofs.Sending.Facts.{seen_out, SeenOut as Channel}
+use Rattle.law_role_client.proofs.Sending.Logs.{leg_here}
+use Rattle.law_role_client_rows.proofs.Putting.Channels.{AreSo, puts_elsewhere, last}
 use Rattle.law_role_client_rows.specs.Putting.{in_way, out_way, HasOpened, SwitchesFrom}
-use Rattle.law_role_client_rows.proofs.Putting.Fronts.{leg_here}
-use Rattle.law_role_client_rows.proofs.Putting.Channels.{Channel, AreSo, puts_elsewhere, last}
 
 -- ---- what the facts are about
 
 abbrev pub seen_in : InChannel → Channel
 seen_in c = record { number = c.number; cookie = c.cookie; opening = c.opening }
 
-abbrev pub seen_out : OutChannel → Channel
-seen_out c = record { number = c.number; cookie = c.cookie; opening = c.opening }
-
 abbrev is_answered_in : InStage → Bool
 is_answered_in in_stage.Asked = false
 is_answered_in in_stage.Answered = true
-
-abbrev is_answered_out : OutStage → Bool
-is_answered_out out_stage.Asked = false
-is_answered_out out_stage.Answered = true
-is_answered_out out_stage.Switched = true
-is_answered_out out_stage.Finished = true
 
 abbrev in_answered : Replacement → Bool
 in_answered NoneUnderWay = false
 in_answered (In stage out_waits) = is_answered_in stage
 in_answered (Out stage waiting) = false
-
-abbrev out_answered : Replacement → Bool
-out_answered NoneUnderWay = false
-out_answered (In stage out_waits) = false
-out_answered (Out stage waiting) = is_answered_out stage
 
 pub record View : Type 0 where
   pub config : ClientConfig

@@ -1,33 +1,8 @@
 -- the messages of a channel, and one more
-use Rattle.std.proofs.Common.{◌≡◌, ℕ, zero, suc, Bool, true, false, if◌then◌else◌, List, [], ◌∷◌, ◌++◌, refl, sym, ap, ◌∙◌, subst}
-use Rattle.std.proofs.lemmas.List.{append-nil}
-use Rattle.rh_rts.specs.declared.command.Cookie.{Cookie}
-use Rattle.rh_sig.specs.declared.named.Named.{Named}
-use Rattle.rh_line.specs.declared.leg.Leg.{Leg}
-use Rattle.rh_shell.specs.Rules.{Message, Text, Packet}
-use Rattle.rh_shell.specs.Shells.{same_leg}
-use Rattle.rh_client.specs.declared.channels.Opening.{Opening}
-use Rattle.rh_client.specs.declared.channels.Opening.TheVariants.{NotUp, Request, First, Second, Put}
-use Rattle.law_moves.specs.Moves.{OnLeg}
-use Rattle.law_moves.specs.Wires.{of_leg}
-use Rattle.law_moves.proofs.Passages.Messages.{leg_more}
+use Rattle.law_order.proofs.Vocabulary.{◌≡◌, ℕ, zero, suc, List, [], ◌∷◌, ◌++◌, refl, sym, subst}
+use Rattle.law_moves.proofs.Vocabulary.{Cookie, Named, Leg, Message, Text, Packet}
+use Rattle.law_role_client.proofs.Vocabulary.{Opening, NotUp, Request, First, Second, Put}
 use Rattle.law_role_client_rows.specs.Putting.{Direction, Begins, IsBegun, IsChannel}
-
--- ---- a message more in a log
-
-leg_by : (leg : Leg) (log : List OnLeg) (one : OnLeg) (b : Bool) → same_leg one.0 leg ≡ b
-    → of_leg leg (log ++ one ∷ []) ≡ of_leg leg log ++ (if b then one.1 ∷ [] else [])
-leg_by leg log one b e =
-    leg_more leg log one
-    ∙ ap (λ (t : Bool). of_leg leg log ++ (if t then one.1 ∷ [] else [])) e
-
-pub leg_here : (leg : Leg) (log : List OnLeg) (one : OnLeg) → same_leg one.0 leg ≡ true
-    → of_leg leg (log ++ one ∷ []) ≡ of_leg leg log ++ one.1 ∷ []
-leg_here leg log one e = leg_by leg log one true e
-
-pub leg_other : (leg : Leg) (log : List OnLeg) (one : OnLeg) → same_leg one.0 leg ≡ false
-    → of_leg leg (log ++ one ∷ []) ≡ of_leg leg log
-leg_other leg log one e = leg_by leg log one false e ∙ append-nil (of_leg leg log)
 
 -- ---- how much was put, by how far a channel is
 

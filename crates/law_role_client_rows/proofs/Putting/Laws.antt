@@ -1,40 +1,15 @@
 -- what a client puts on its channels, whatever happens
-use Rattle.std.proofs.Common.{◌≡◌, ◌⊎◌, ℕ, ◌+◌, ◌==◌, nat_le, true, true≢false, List, [], ◌∷◌, ◌++◌, append_assoc, length, Some, None, Ok, Err, inl, inr, refl, sym, ap, ◌∙◌, subst}
-use Rattle.std.proofs.lemmas.Bool.{false≢true}
-use Rattle.std.specs.declared.option.Option.{Option}
-use Rattle.std.specs.declared.result.Result.{Result}
-use Rattle.law_order.proofs.ByNumber.{by_test}
-use Rattle.rh_pdu.specs.Checking.{checked, pdu_fault}
-use Rattle.rh_pdu.specs.declared.fault.PduFault.{PduFault}
-use Rattle.rh_rts.specs.declared.command.Cookie.{Cookie}
-use Rattle.rh_http.specs.declared.config.ClientConfig.{ClientConfig}
-use Rattle.rh_line.specs.Queue.{total, queue_bytes}
-use Rattle.rh_line.specs.declared.leg.Leg.{Leg}
-use Rattle.rh_line.specs.declared.leg.LegKind.{LegKind}
-use Rattle.rh_line.specs.declared.leg.LegKind.TheVariants.{ClientOut, OutServer, ClientIn, InServer}
-use Rattle.rh_shell.specs.declared.end_role.GiveRefused.TheVariants.{Closing, Full}
-use Rattle.rh_shell.specs.declared.end_role.RecycleRefused.TheVariants.{Last}
-use Rattle.rh_shell.specs.Rules.{Rules, Acts, Message}
-use Rattle.rh_client.specs.declared.state.ClientRole.{ClientRole}
-use Rattle.rh_client.specs.Channels.{in_up, out_up}
-use Rattle.rh_client.specs.State.{first, is_open, is_writing, is_in_successor, is_current, ci, co}
-use Rattle.rh_client.specs.Opening.{wants_by, with_next, up_by}
-use Rattle.rh_client.specs.Ending.{Given, give, give_pdu, drawn_by}
-use Rattle.rh_client.specs.Time.{ping_by}
-use Rattle.rh_client.specs.Client.{acts}
-use Rattle.rh_client.specs.Client.{rules as client_rules}
-use Rattle.law_moves.specs.Moves.{OnLeg, Up, Puts, Passage, put_by, EndMove, Moves, Recycles, EndPassage, MayEndMove, AreAllowedAtEnd, end_moved, all_end_moved}
-use Rattle.law_moves.specs.Wires.{of_leg}
-use Rattle.law_moves.proofs.Passages.Logs.{PutKeeps}
-use Rattle.law_moves.specs.Passages.Rising.{HasComeUp}
-use Rattle.law_role_client.specs.Order.{AreAllowedMoves, client_moved, client_started}
+use Rattle.law_order.proofs.Vocabulary.{◌≡◌, ◌⊎◌, ℕ, ◌+◌, ◌==◌, nat_le, true, true≢false, List, [], ◌∷◌, ◌++◌, append_assoc, length, Some, None, Ok, Err, inl, inr, refl, sym, ap, ◌∙◌, subst, false≢true, Option, Result}
+use Rattle.law_moves.proofs.Vocabulary.{by_test, checked, pdu_fault, PduFault, Cookie, ClientConfig, total, queue_bytes, Leg, LegKind, ClientOut, OutServer, ClientIn, InServer, Closing, Full, Last, Rules, Acts, Message, OnLeg, Up, Puts, Passage, put_by, EndMove, Moves, Recycles, EndPassage, MayEndMove, AreAllowedAtEnd, end_moved, all_end_moved, of_leg, HasComeUp}
+use Rattle.law_moves.proofs.Lemmas.{PutKeeps}
+use Rattle.law_role_client.proofs.Vocabulary.{ClientRole, in_up, out_up, first, is_open, is_writing, is_in_successor, is_current, ci, co, wants_by, with_next, up_by, Given, give, give_pdu, drawn_by, ping_by, acts, rules as client_rules, AreAllowedMoves, client_moved, client_started}
 use Rattle.law_role_client.proofs.Sending.Steps.{StepsKeep, end_moves_keep}
-use Rattle.law_role_client_rows.specs.Putting.{in_way, out_way, HasOpened, OpenedBefore, OpensInChannels, OpensOutChannels, SwitchesInOrder}
 use Rattle.law_role_client_rows.proofs.Putting.Channels.{starts, ups}
 use Rattle.law_role_client_rows.proofs.Putting.Facts.{with_ins, with_outs}
 use Rattle.law_role_client_rows.proofs.Putting.Changes.{Holds, recycle_kept, passed_kept}
 use Rattle.law_role_client_rows.proofs.Putting.Beginning.{MayBeEarly, put_kept}
 use Rattle.law_role_client_rows.proofs.Putting.Rows.{pdu_kept, packet_kept}
+use Rattle.law_role_client_rows.specs.Putting.{in_way, out_way, HasOpened, OpenedBefore, OpensInChannels, OpensOutChannels, SwitchesInOrder}
 
 -- ---- what else happens
 

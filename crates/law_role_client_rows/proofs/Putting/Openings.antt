@@ -1,17 +1,10 @@
 -- what is put on a channel in use, and on its successor, as far as they are
-use Rattle.std.proofs.Common.{◌≡◌, ◌⊎◌, ℕ, suc, Bool, true, false, true≢false, List, [], ◌∷◌, ◌++◌, arith, inl, inr, refl, sym, ap, ◌∙◌, subst}
-use Rattle.std.proofs.lemmas.Bool.{false≢true}
-use Rattle.rh_rts.specs.declared.command.Cookie.{Cookie}
-use Rattle.rh_sig.specs.declared.named.Named.{Named}
-use Rattle.rh_line.specs.declared.leg.Leg.{Leg}
-use Rattle.rh_shell.specs.Rules.{Message, Text, Packet}
-use Rattle.rh_client.specs.declared.channels.Opening.{Opening}
-use Rattle.rh_client.specs.declared.channels.Opening.TheVariants.{Request, First, Second, Put}
-use Rattle.rh_client.specs.Channels.{is_up, is_asked}
-use Rattle.law_moves.specs.Moves.{OnLeg}
-use Rattle.law_moves.specs.Wires.{of_leg}
+use Rattle.law_order.proofs.Vocabulary.{◌≡◌, ◌⊎◌, ℕ, suc, Bool, true, false, true≢false, List, [], ◌∷◌, ◌++◌, arith, inl, inr, refl, sym, ap, ◌∙◌, subst, false≢true}
+use Rattle.law_moves.proofs.Vocabulary.{Cookie, Named, Leg, Message, Text, Packet, OnLeg, of_leg}
+use Rattle.law_role_client.proofs.Vocabulary.{Opening, Request, First, Second, Put, is_up, is_asked}
+use Rattle.law_role_client.proofs.Sending.Facts.{SeenOut as Channel}
 use Rattle.law_role_client_rows.proofs.Putting.Fronts.{HasFirst, IsAt, text_more, first_more, second_more, rest_more, first_is_more, none_is}
-use Rattle.law_role_client_rows.proofs.Putting.Channels.{Channel, AreSo, puts_now, puts_next, down_none, down_unasked}
+use Rattle.law_role_client_rows.proofs.Putting.Channels.{AreSo, puts_now, puts_next, down_none, down_unasked}
 use Rattle.law_role_client_rows.specs.Putting.{Direction, leg_of}
 
 module _ (way : Direction) (Comes : Leg → Cookie → Type 0) (Early : Leg → Type 0)

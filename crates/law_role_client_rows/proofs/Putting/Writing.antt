@@ -1,41 +1,19 @@
 -- what a client puts on the writing channel, behind what that begins with
-use Rattle.std.proofs.Common.{◌≡◌, ℕ, suc, ◌&&◌, Bool, List, [], ◌∷◌, ◌++◌, Some, None, refl, subst}
-use Rattle.std.specs.declared.option.Option.{Option}
-use Rattle.rh_window.specs.declared.recv_window.Ack.{Ack}
-use Rattle.rh_keep.specs.Meters.{may_put, fits}
-use Rattle.law_order.proofs.ByNumber.{by_test}
-use Rattle.rh_rts.specs.declared.command.Cookie.{Cookie}
+use Rattle.law_order.proofs.Vocabulary.{◌≡◌, ℕ, suc, ◌&&◌, Bool, List, [], ◌∷◌, ◌++◌, Some, None, refl, subst, Option}
 use Rattle.rh_sig.specs.declared.named.Named.TheVariants as named
-use Rattle.rh_sig.specs.declared.lengths.TheConstants.{IN_R1_A5_LEN}
-use Rattle.rh_sig.specs.declared.lengths.TheConstants.{OUT_R1_A7_LEN, END_A1_LEN, ACK_TO_LEN}
-use Rattle.rh_sig.specs.declared.lengths.TheConstants.{PING_LEN}
-use Rattle.rh_http.specs.declared.config.ClientConfig.{ClientConfig}
-use Rattle.rh_line.specs.Lines.{after_told}
-use Rattle.rh_line.specs.Queue.{front_length}
-use Rattle.rh_line.specs.declared.leg.Leg.{Leg}
-use Rattle.rh_line.specs.declared.which.Which.{Which}
-use Rattle.rh_line.specs.declared.which.Which.TheVariants.{Current, Next}
-use Rattle.rh_shell.specs.NearEnds.{first_of}
-use Rattle.rh_shell.specs.Rules.{Message, Pdu, Packet}
-use Rattle.rh_client.specs.declared.channels.Opening.TheVariants.{Put}
-use Rattle.rh_client.specs.declared.replacement.Replacement.{Replacement}
-use Rattle.rh_client.specs.declared.replacement.Replacement.TheVariants.{NoneUnderWay, In, Out}
+use Rattle.rh_client.specs.Putting.{pdu_by}
 use Rattle.rh_client.specs.declared.replacement.InStage.TheVariants as in_stage
 use Rattle.rh_client.specs.declared.replacement.OutStage.TheVariants as out_stage
-use Rattle.rh_client.specs.declared.state.ClientRole.{ClientRole}
-use Rattle.rh_client.specs.Channels.{metered}
-use Rattle.rh_client.specs.State.{ci, co}
-use Rattle.rh_client.specs.Acknowledging.{ack_due, cookie_of}
-use Rattle.rh_client.specs.InReplacement.{handed_over}
-use Rattle.rh_client.specs.Putting.{Pick, with_end_put, without_ping, due_by, put_due, ack_by, put_ack_of, put_ack, lets_pdu, pdu_by, put_pdu, is_end_due, put_end, put_ping, put_next, or_else}
-use Rattle.law_moves.specs.Moves.{OnLeg}
-use Rattle.law_moves.proofs.Passages.Logs.{PutKeeps}
-use Rattle.law_moves.proofs.Passages.Messages.{all_append}
-use Rattle.law_role_client_rows.specs.Putting.{in_way, out_way, IsBehind}
-use Rattle.law_role_client_rows.proofs.Putting.Channels.{Channel, asked_up, puts_elsewhere}
+use Rattle.law_moves.proofs.Vocabulary.{Ack, may_put, fits, by_test, Cookie, IN_R1_A5_LEN, OUT_R1_A7_LEN, END_A1_LEN, ACK_TO_LEN, PING_LEN, ClientConfig, after_told, front_length, Leg, Which, Current, Next, first_of, Message, Pdu, Packet, OnLeg}
+use Rattle.law_moves.proofs.Lemmas.{PutKeeps, all_append}
+use Rattle.law_role_client.proofs.Vocabulary.{Put, Replacement, NoneUnderWay, In, Out, ClientRole, metered, ci, co, ack_due, cookie_of, handed_over, Pick, with_end_put, without_ping, due_by, put_due, ack_by, put_ack_of, put_ack, lets_pdu, put_pdu, is_end_due, put_end, put_ping, put_next, or_else}
+use Rattle.law_role_client.proofs.Sending.Facts.{SeenOut as Channel}
+use Rattle.law_role_client.proofs.Receiving.Rows.{asked_up}
+use Rattle.law_role_client_rows.proofs.Putting.Channels.{puts_elsewhere}
 use Rattle.law_role_client_rows.proofs.Putting.Openings.{more_now, next_comes}
 use Rattle.law_role_client_rows.proofs.Putting.Facts.{AreIns, IsPlain, switch_more, in_put}
 use Rattle.law_role_client_rows.proofs.Putting.Changes.{Holds, turned, at, handed_kept}
+use Rattle.law_role_client_rows.specs.Putting.{in_way, out_way, IsBehind}
 
 module _ (config : ClientConfig) (Comes : Leg → Cookie → Type 0) (Early : Leg → Type 0) where
   abbrev pub Puts : Leg → List OnLeg → List OnLeg → Pick → Type 0

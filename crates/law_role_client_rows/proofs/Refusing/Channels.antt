@@ -1,34 +1,14 @@
 -- what a client keeps of the first channel's timeout, and of a successor's place in its line
-use Rattle.std.proofs.Common.{◌≡◌, ◌<◌, ℕ, ◌+◌, Bool, true, false, true≢false, ◌&&◌, nat_lt, List, [], ◌∷◌, Ok, Err, arith, refl, sym, ◌∙◌, subst}
-use Rattle.std.proofs.lemmas.Bool.{and_parts}
 use Rattle.std.specs.Option.{is_some}
-use Rattle.std.specs.declared.option.Option.{Option}
-use Rattle.std.specs.declared.result.Result.{Result}
-use Rattle.law_order.proofs.ByNumber.{by_test}
-use Rattle.rh_line.specs.Lines.{Line, is_empty, released, settled as settled_line, moved_on}
+use Rattle.law_order.proofs.Vocabulary.{◌≡◌, ◌<◌, ℕ, ◌+◌, Bool, true, false, true≢false, ◌&&◌, nat_lt, List, [], ◌∷◌, Ok, Err, arith, refl, sym, ◌∙◌, subst, and_parts, Option, Result}
 use Rattle.rh_line.specs.Lines as lines
-use Rattle.rh_shell.specs.declared.answers.Phase.{Phase}
 use Rattle.rh_shell.specs.declared.answers.Phase.TheVariants as phase
-use Rattle.rh_shell.specs.declared.end_role.RecycleRefused.{RecycleRefused}
-use Rattle.rh_shell.specs.declared.end_role.RecycleRefused.TheVariants.{Last}
-use Rattle.rh_client.specs.declared.channels.TheConstants.{LAST_NUMBER}
-use Rattle.rh_client.specs.declared.replacement.Replacement.{Replacement}
-use Rattle.rh_client.specs.declared.replacement.Replacement.TheVariants.{NoneUnderWay, In, Out}
 use Rattle.rh_client.specs.declared.replacement.InStage.TheVariants as in_stage
-use Rattle.rh_client.specs.declared.replacement.OutStage.{OutStage}
 use Rattle.rh_client.specs.declared.replacement.OutStage.TheVariants as out_stage
-use Rattle.rh_client.specs.declared.replacement.Waits.{Waits}
 use Rattle.rh_client.specs.declared.replacement.Waits.TheVariants as waits
-use Rattle.rh_client.specs.declared.state.ClientRole.{ClientRole}
-use Rattle.rh_client.specs.Channels.{is_up, unopened_in, unopened_out}
-use Rattle.rh_client.specs.Replacements.{is_none, is_out, is_finished, with_in}
-use Rattle.rh_client.specs.State.{is_opening, is_open, is_over, co, settled, begin_in, begin_out, after_in, after_out}
-use Rattle.rh_client.specs.InReplacement.{recycle_by, wish_by, wished, wants_successor}
-use Rattle.rh_client.specs.OutReplacement.{succeeded, ended_or, pass_by, passed}
-use Rattle.rh_client.specs.Putting.{settled_or_wished}
-use Rattle.law_moves.specs.Moves.{OnLeg}
-use Rattle.law_moves.specs.Wires.{of_leg}
-use Rattle.law_moves.specs.Passages.Passing.{count_of}
+use Rattle.law_moves.proofs.Vocabulary.{by_test, Line, is_empty, released, settled as settled_line, moved_on, Phase, RecycleRefused, Last, OnLeg, of_leg, count_of}
+use Rattle.law_role_client.proofs.Vocabulary.{LAST_NUMBER, Replacement, NoneUnderWay, In, Out, OutStage, Waits, ClientRole, is_up, unopened_in, unopened_out, is_none, is_out, is_finished, with_in, is_opening, is_open, is_over, co, settled, begin_in, begin_out, after_in, after_out, recycle_by, wish_by, wished, wants_successor, succeeded, ended_or, pass_by, passed, settled_or_wished}
+use Rattle.law_role_client.proofs.Sending.Puts.{open_is as open_past}
 use Rattle.law_role_client_rows.specs.Refusing.{is_conn_a3}
 
 -- ---- what is read
@@ -82,11 +62,6 @@ pub record Channels (v : Seen) (came : List OnLeg) : Type 0 where
   pub successor : is_out v.replacement ≡ true → 0 < v.successor
 
 -- ---- phases
-
-pub open_past : (f : Phase) → is_open f ≡ true → is_opening f ≡ false
-open_past phase.Opening e = absurd (cc)
-open_past phase.Open e = refl
-open_past phase.Ended e = absurd (cc)
 
 pub past : (b n : Bool) → (b ≡ true → n ≡ true) → n ≡ false → b ≡ false
 past true n so e = absurd (true≢false (sym (so refl) ∙ e))

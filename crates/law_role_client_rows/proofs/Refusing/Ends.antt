@@ -1,47 +1,17 @@
 -- why a client refuses what its line doesn't take, and what opens it
-use Rattle.std.proofs.Common.{◌≡◌, ◌⊎◌, ◌<◌, inl, inr, ℕ, suc, ◌+◌, ◌==◌, nat_eq, Bool, true, false, true≢false, not, ◌&&◌, ◌||◌, if◌then◌else◌, List, [], ◌∷◌, ◌++◌, length, Some, None, Ok, Err, arith, rules, refl, sym, ap, ◌∙◌, subst}
-use Rattle.std.proofs.lemmas.Bool.{and_parts}
-use Rattle.std.proofs.lemmas.Bool.Decides.{nat_tests}
 use Rattle.std.specs.Option.{is_some}
-use Rattle.std.specs.declared.option.Option.{Option}
-use Rattle.std.specs.declared.result.Result.{Result}
-use Rattle.rh_window.specs.declared.fault.WindowExceeded.{WindowExceeded}
 use Rattle.rh_window.specs.Receiving as windows
-use Rattle.law_order.specs.Items.{Item, has_end}
-use Rattle.law_order.proofs.ByNumber.{by_test, same_number, other_number}
-use Rattle.rh_sig.specs.declared.named.Named.{Named}
+use Rattle.law_order.proofs.Vocabulary.{◌≡◌, ◌⊎◌, ◌<◌, inl, inr, ℕ, suc, ◌+◌, ◌==◌, nat_eq, Bool, true, false, true≢false, not, ◌&&◌, ◌||◌, if◌then◌else◌, List, [], ◌∷◌, ◌++◌, length, Some, None, Ok, Err, arith, rules, refl, sym, ap, ◌∙◌, subst, and_parts, nat_tests, Option, Result, Item, has_end}
 use Rattle.rh_sig.specs.declared.named.Named.TheVariants as named
-use Rattle.rh_line.specs.Lines.{by_window}
 use Rattle.rh_line.specs.declared.line_fault.LineFault.TheVariants as line_fault
-use Rattle.rh_line.specs.declared.leg.LegKind.TheVariants.{ClientOut}
-use Rattle.rh_line.specs.declared.which.Which.{Which}
-use Rattle.rh_line.specs.declared.which.Which.TheVariants.{Current, Next}
-use Rattle.rh_shell.specs.declared.answers.Count.{Count}
 use Rattle.rh_shell.specs.declared.answers.Count.TheVariants as count
 use Rattle.rh_shell.specs.declared.answers.Refused.TheVariants as refused
-use Rattle.rh_shell.specs.Hearing.{is_zero}
-use Rattle.rh_shell.specs.Rules.{Message, Text, Pdu, Packet}
-use Rattle.rh_shell.specs.Shells.{is_of, kind_number}
-use Rattle.rh_client.specs.declared.replacement.Replacement.{Replacement}
-use Rattle.rh_client.specs.declared.replacement.Replacement.TheVariants.{NoneUnderWay, In, Out}
 use Rattle.rh_client.specs.declared.replacement.OutStage.TheVariants as out_stage
-use Rattle.rh_client.specs.declared.state.ClientRole.{ClientRole}
-use Rattle.rh_client.specs.Channels.{is_up}
-use Rattle.rh_client.specs.Replacements.{is_out}
-use Rattle.rh_client.specs.State.{unexpected, is_open, is_opening, is_current, is_out_successor, co}
-use Rattle.rh_client.specs.Opening.{on_conn_a3, on_conn_c2}
-use Rattle.rh_client.specs.Acknowledging.{pdu_on, pdu_channel, is_switched, is_switched_by, admit_row}
-use Rattle.rh_client.specs.Ending.{on_end_b2, end_on, end_channel}
-use Rattle.law_moves.specs.Moves.{OnLeg, Passage}
-use Rattle.law_moves.specs.Wires.{of_leg}
-use Rattle.law_moves.specs.Passages.Passing.{Has, count_of}
-use Rattle.law_moves.specs.Passages.Counted.{Tells}
-use Rattle.law_moves.specs.Passages.Counted.{packets}
-use Rattle.law_role_client.specs.Order.{down_items, down_mark, came_log, log_of}
-use Rattle.law_role_client.specs.Counted.Replacing.{OutIsAt, OutFollows, out_switched, out_finished}
-use Rattle.law_role_client_rows.specs.Refusing.{is_conn_a3, UnexpectedPduBy, UnexpectedOn}
+use Rattle.law_moves.proofs.Vocabulary.{WindowExceeded, by_test, same_number, other_number, Named, by_window, ClientOut, Which, Current, Next, Count, is_zero, Message, Text, Pdu, Packet, is_of, kind_number, OnLeg, Passage, of_leg, Has, count_of, Tells, packets}
+use Rattle.law_role_client.proofs.Vocabulary.{Replacement, NoneUnderWay, In, Out, ClientRole, is_up, is_out, unexpected, is_open, is_opening, is_current, is_out_successor, co, on_conn_a3, on_conn_c2, pdu_on, pdu_channel, is_switched, is_switched_by, admit_row, on_end_b2, end_on, end_channel, down_items, down_mark, came_log, log_of, OutIsAt, OutFollows, out_switched, out_finished}
 use Rattle.law_role_client_rows.proofs.Refusing.Channels.{IsNext}
 use Rattle.law_role_client_rows.proofs.Refusing.Rows.{IsRefused, refused_by, not_both, not_open, Stands, Facts}
+use Rattle.law_role_client_rows.specs.Refusing.{is_conn_a3, UnexpectedPduBy, UnexpectedOn}
 
 -- ---- END/B2 that came
 
@@ -56,7 +26,7 @@ mark_end m items = search rules
 end_is : (m : Named) → is_end_b2 m ≡ true → m ≡ named.EndB2
 end_is m e = search rules
 
-either_true : (a b : Bool) → a || b ≡ true → (a ≡ true) ⊎ (b ≡ true)
+pub either_true : (a b : Bool) → a || b ≡ true → (a ≡ true) ⊎ (b ≡ true)
 either_true true b e = inl refl
 either_true false b e = inr e
 

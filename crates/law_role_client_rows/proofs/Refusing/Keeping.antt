@@ -1,50 +1,20 @@
 -- each allowed step of a client keeps these facts: what comes, and its legs
-use Rattle.std.proofs.Common.{◌≡◌, ◌<◌, ℕ, ◌==◌, Bool, true, false, true≢false, not, ◌&&◌, ◌||◌, nat_lt, if◌then◌else◌, List, [], ◌∷◌, ◌++◌, Some, None, Ok, Err, arith, rules, refl, sym, ap, ◌∙◌, subst}
-use Rattle.std.proofs.lemmas.Bool.{and_parts}
 use Rattle.std.specs.Option.{is_some}
-use Rattle.std.specs.declared.option.Option.{Option}
-use Rattle.law_order.proofs.ByNumber.{by_test}
-use Rattle.rh_rts.specs.declared.command.Cookie.{Cookie}
-use Rattle.rh_sig.specs.declared.named.Named.{Named}
+use Rattle.law_order.proofs.Vocabulary.{◌≡◌, ◌<◌, ℕ, ◌==◌, Bool, true, false, true≢false, not, ◌&&◌, ◌||◌, nat_lt, if◌then◌else◌, List, [], ◌∷◌, ◌++◌, Some, None, Ok, Err, arith, rules, refl, sym, ap, ◌∙◌, subst, and_parts, Option}
 use Rattle.rh_sig.specs.declared.named.Named.TheVariants as named
-use Rattle.rh_line.specs.Lines.{Line, admit_verdict, after_admit, after_end, after_finish, after_open_next}
-use Rattle.rh_line.specs.declared.leg.Leg.{Leg}
-use Rattle.rh_line.specs.declared.leg.LegKind.{LegKind}
-use Rattle.rh_line.specs.declared.leg.LegKind.TheVariants.{ClientOut, OutServer, ClientIn, InServer}
-use Rattle.rh_line.specs.declared.which.Which.{Which}
-use Rattle.rh_line.specs.declared.which.Which.TheVariants.{Current, Next}
-use Rattle.rh_shell.specs.declared.answers.Count.{Count}
 use Rattle.rh_shell.specs.declared.answers.Phase.TheVariants as phase
-use Rattle.rh_shell.specs.Hearing.{is_zero}
-use Rattle.rh_shell.specs.Rules.{Row, Message, Text, Pdu, Packet}
-use Rattle.rh_shell.specs.Shells.{same_leg}
-use Rattle.rh_client.specs.declared.channels.Opening.{Opening}
-use Rattle.rh_client.specs.declared.channels.Opening.TheVariants.{NotUp, Request, First, Second, Put}
-use Rattle.rh_client.specs.declared.channels.TheConstants.{LAST_NUMBER}
-use Rattle.rh_client.specs.declared.replacement.Replacement.{Replacement}
-use Rattle.rh_client.specs.declared.replacement.Replacement.TheVariants.{NoneUnderWay, In, Out}
 use Rattle.rh_client.specs.declared.replacement.InStage.TheVariants as in_stage
 use Rattle.rh_client.specs.declared.replacement.OutStage.TheVariants as out_stage
 use Rattle.rh_client.specs.declared.replacement.Waits.TheVariants as waits
-use Rattle.rh_client.specs.declared.state.ClientRole.{ClientRole}
-use Rattle.rh_client.specs.Channels.{is_up, is_put, is_asked, is_named, told_in, out_up}
-use Rattle.rh_client.specs.Replacements.{is_none, has_out, with_out}
-use Rattle.rh_client.specs.State.{Done, taken, unexpected, settled, is_open, is_opening, is_current, is_out_successor, co}
-use Rattle.rh_client.specs.Opening.{up_by, on_conn_a3, on_conn_c2, with_next}
-use Rattle.rh_client.specs.Acknowledging.{pdu_on, pdu_channel, admit_row, on_ack_to, ack_named, acked, ack_row}
-use Rattle.rh_client.specs.InReplacement.{answer_by}
-use Rattle.rh_client.specs.OutReplacement.{passed, a2_by, a6_by, a10_by, on_out_r1_a2, on_out_r1_a6}
-use Rattle.rh_client.specs.Ending.{end_on, end_channel}
 use Rattle.rh_client.specs.Client as client
-use Rattle.rh_client.specs.Client.{on_packet, packet_by}
-use Rattle.law_moves.specs.Moves.{OnLeg}
-use Rattle.law_moves.specs.Wires.{of_leg}
-use Rattle.law_moves.specs.Passages.Passing.{count_of}
-use Rattle.law_moves.proofs.Passages.Logs.{Fact, RowKeeps}
-use Rattle.law_moves.proofs.Passages.Messages.{count_append, leg_more}
+use Rattle.law_moves.proofs.Vocabulary.{by_test, Cookie, Named, Line, admit_verdict, after_admit, after_end, after_finish, after_open_next, Leg, LegKind, ClientOut, OutServer, ClientIn, InServer, Which, Current, Next, Count, is_zero, Row, Message, Text, Pdu, Packet, same_leg, OnLeg, of_leg, count_of}
+use Rattle.law_moves.proofs.Lemmas.{Fact, RowKeeps, count_append, leg_more}
+use Rattle.law_role_client.proofs.Vocabulary.{Opening, NotUp, Request, First, Second, Put, LAST_NUMBER, Replacement, NoneUnderWay, In, Out, ClientRole, is_up, is_put, is_asked, is_named, told_in, out_up, is_none, has_out, with_out, Done, taken, unexpected, settled, is_open, is_opening, is_current, is_out_successor, co, up_by, on_conn_a3, on_conn_c2, with_next, pdu_on, pdu_channel, admit_row, on_ack_to, ack_named, acked, ack_row, answer_by, passed, a2_by, a6_by, a10_by}
+use Rattle.law_role_client.proofs.Vocabulary.{on_out_r1_a2, on_out_r1_a6, end_on, end_channel, on_packet, packet_by}
 use Rattle.law_role_client.proofs.Counted.Standing.{passes}
+use Rattle.law_role_client.proofs.Sending.Puts.{open_is as open_past}
+use Rattle.law_role_client_rows.proofs.Refusing.Channels.{Seen, sees_by, sees, IsNext, Channels, past, Keeps, same, at, turned, begin_out_keeps, waits_else, settled_keeps, settles}
 use Rattle.law_role_client_rows.specs.Refusing.{is_conn_a3}
-use Rattle.law_role_client_rows.proofs.Refusing.Channels.{Seen, sees_by, sees, IsNext, Channels, open_past, past, Keeps, same, at, turned, begin_out_keeps, waits_else, settled_keeps, settles}
 
 abbrev pub Holds : Fact ClientRole
 Holds s came put = Keeps came s

@@ -1,39 +1,13 @@
 -- each allowed step of a client keeps these facts: what it puts, and the calls of its end
-use Rattle.std.proofs.Common.{◌≡◌, ℕ, false, ◌&&◌, if◌then◌else◌, List, Some, None, arith, rules, refl, ap, subst}
-use Rattle.std.specs.Prelude.{IfSome}
-use Rattle.std.specs.declared.option.Option.{Option}
-use Rattle.rh_window.specs.declared.recv_window.Ack.{Ack}
-use Rattle.rh_keep.specs.Meters.{may_put, fits}
-use Rattle.law_order.proofs.ByNumber.{by_test}
+use Rattle.law_order.proofs.Vocabulary.{◌≡◌, ℕ, false, ◌&&◌, if◌then◌else◌, List, Some, None, arith, rules, refl, ap, subst, IfSome, Option}
 use Rattle.rh_sig.specs.declared.named.Named.TheVariants as named
-use Rattle.rh_sig.specs.declared.lengths.TheConstants.{CONN_B1_LEN, IN_R1_A1_LEN, IN_R1_A5_LEN, OUT_R1_A7_LEN, END_A1_LEN, ACK_TO_LEN, PING_LEN}
-use Rattle.rh_http.specs.declared.config.ClientConfig.{ClientConfig}
-use Rattle.rh_line.specs.Lines.{after_told}
-use Rattle.rh_line.specs.Queue.{front_length}
-use Rattle.rh_line.specs.declared.leg.Leg.{Leg}
-use Rattle.rh_line.specs.declared.leg.LegKind.{LegKind}
-use Rattle.rh_line.specs.declared.leg.LegKind.TheVariants.{ClientOut, OutServer, ClientIn, InServer}
-use Rattle.rh_line.specs.declared.which.Which.{Which}
-use Rattle.rh_line.specs.declared.which.Which.TheVariants.{Current, Next}
-use Rattle.rh_shell.specs.Rules.{Message, Packet}
-use Rattle.rh_client.specs.declared.channels.Opening.{Opening}
-use Rattle.rh_client.specs.declared.channels.Opening.TheVariants.{NotUp, Request, First, Second, Put}
-use Rattle.rh_client.specs.declared.replacement.Replacement.{Replacement}
-use Rattle.rh_client.specs.declared.replacement.Replacement.TheVariants.{NoneUnderWay, In, Out}
 use Rattle.rh_client.specs.declared.replacement.InStage.TheVariants as in_stage
 use Rattle.rh_client.specs.declared.replacement.OutStage.TheVariants as out_stage
-use Rattle.rh_client.specs.declared.state.ClientRole.{ClientRole}
-use Rattle.rh_client.specs.Channels.{is_up, unopened_in, metered}
-use Rattle.rh_client.specs.State.{first, is_opening, is_writing, is_in_successor, is_current, is_out_successor}
-use Rattle.rh_client.specs.Acknowledging.{ack_due, cookie_of}
-use Rattle.rh_client.specs.InReplacement.{handed_over}
-use Rattle.rh_client.specs.Ending.{give, drawn, drawn_by}
-use Rattle.rh_client.specs.Time.{ping, ping_by}
 use Rattle.rh_client.specs.Putting as putting
-use Rattle.rh_client.specs.Putting.{Pick, or_else, put_conn_b1, put_in_r1_a1, put_current, put_out_successor, put_out, put_in_r1_a5, put_out_r1_a7, due_by, put_due, ack_by, put_ack_of, put_ack, put_pdu, put_end, put_ping, put_successor_ping, put_next, put_writing, put_in_successor, put_in, put_by, settled_or_wished, settled_pick}
-use Rattle.rh_client.specs.Client.{acts, rules as client_rules}
-use Rattle.law_moves.specs.Moves.{OnLeg, EndMove, end_started, all_end_moved, AreAllowedAtEnd}
-use Rattle.law_moves.proofs.Passages.Logs.{PutKeeps}
+use Rattle.law_moves.proofs.Vocabulary.{Ack, may_put, fits, by_test, CONN_B1_LEN, IN_R1_A1_LEN, IN_R1_A5_LEN, OUT_R1_A7_LEN, END_A1_LEN, ACK_TO_LEN, PING_LEN, ClientConfig, after_told, front_length, Leg, LegKind, ClientOut, OutServer, ClientIn, InServer, Which, Current, Next, Message, Packet, OnLeg, EndMove, end_started, all_end_moved, AreAllowedAtEnd}
+use Rattle.law_moves.proofs.Lemmas.{PutKeeps}
+use Rattle.law_role_client.proofs.Vocabulary.{Opening, NotUp, Request, First, Second, Put, Replacement, NoneUnderWay, In, Out, ClientRole, is_up, unopened_in, metered, first, is_opening, is_writing, is_in_successor, is_current, is_out_successor, ack_due, cookie_of, handed_over, give, drawn, drawn_by, ping, ping_by, Pick, or_else, put_conn_b1, put_in_r1_a1, put_current, put_out_successor, put_out, due_by, put_due, ack_by, put_ack_of, put_ack, put_pdu, put_end, put_ping}
+use Rattle.law_role_client.proofs.Vocabulary.{put_successor_ping, put_next, put_writing, put_in_successor, put_in, put_by, settled_pick, acts, rules as client_rules}
 use Rattle.law_role_client.proofs.Counted.Allowed.{AllowedKeep, allowed_moves_keep}
 use Rattle.law_role_client_rows.proofs.Refusing.Channels.{sees, Channels, past, Keeps, same, at, turned, after_in_keeps, recycle_keeps, settled_or_wished_keeps, take_keeps}
 use Rattle.law_role_client_rows.proofs.Refusing.Keeping.{Holds, pdu_by_keeps, packet_by_keeps, up_keeps}

@@ -1,35 +1,16 @@
 -- why each row of a client refuses
-use Rattle.std.proofs.Common.{◌≡◌, ◌⊎◌, ◌<◌, ◌≤◌, inl, inr, ℕ, ◌+◌, ◌==◌, Bool, true, false, true≢false, not, ◌&&◌, ◌||◌, nat_lt, if◌then◌else◌, List, Ok, Err, arith, refl, sym, ap, ◌∙◌}
-use Rattle.std.proofs.lemmas.Bool.Decides.{nat_tests}
-use Rattle.std.specs.declared.result.Result.{Result}
-use Rattle.rh_window.specs.declared.fault.BadAck.{BadAck}
-use Rattle.law_order.specs.Taking.{TakerLaw}
-use Rattle.law_order.proofs.ByNumber.{same_number, other_number}
-use Rattle.rh_rts.specs.declared.command.Cookie.{Cookie}
+use Rattle.law_order.proofs.Vocabulary.{◌≡◌, ◌⊎◌, ◌<◌, ◌≤◌, inl, inr, ℕ, ◌+◌, ◌==◌, Bool, true, false, true≢false, not, ◌&&◌, ◌||◌, nat_lt, if◌then◌else◌, List, Ok, Err, arith, refl, sym, ap, ◌∙◌, nat_tests, Result, TakerLaw}
 use Rattle.rh_sig.specs.declared.named.Named.TheVariants as named
-use Rattle.rh_shell.specs.declared.answers.Phase.{Phase}
 use Rattle.rh_shell.specs.declared.answers.Phase.TheVariants as phase
 use Rattle.rh_shell.specs.declared.answers.Refused.TheVariants as refused
-use Rattle.rh_shell.specs.NearEnds.{is_ended}
-use Rattle.rh_client.specs.declared.channels.TheConstants.{LAST_NUMBER}
-use Rattle.rh_client.specs.declared.replacement.Replacement.{Replacement}
-use Rattle.rh_client.specs.declared.replacement.Replacement.TheVariants.{NoneUnderWay, In, Out}
 use Rattle.rh_client.specs.declared.replacement.InStage.TheVariants as in_stage
 use Rattle.rh_client.specs.declared.replacement.OutStage.TheVariants as out_stage
-use Rattle.rh_client.specs.declared.state.ClientRole.{ClientRole}
-use Rattle.rh_client.specs.Channels.{is_up, is_put, is_asked, is_named}
-use Rattle.rh_client.specs.Replacements.{is_out, is_finished, has_out}
-use Rattle.rh_client.specs.State.{Done, unexpected, is_open, is_opening, is_current, is_out_successor}
-use Rattle.rh_client.specs.Acknowledging.{on_ack_to, ack_named, acked, ack_row_by}
-use Rattle.rh_client.specs.InReplacement.{answer_by}
-use Rattle.rh_client.specs.OutReplacement.{a2_by, a6_by, a10_by, on_out_r1_a2, on_out_r1_a6}
-use Rattle.law_moves.specs.Moves.{Passage}
-use Rattle.law_role_client.specs.Order.{taker_of, has_leg, came_log}
-use Rattle.law_role_client.specs.Counted.Counting.{once_if}
-use Rattle.law_role_client.specs.Counted.Opening.{opened, OpensOnce}
-use Rattle.law_role_client.specs.Counted.Replacing.{InIsAt, OutIsAt, ReplacesIns, ReplacesOuts, AsksWhereWanted, is_to_ask, out_waits, in_asked, in_answered, in_handed_over, out_wanted, out_asked, out_answered, out_finished}
-use Rattle.law_role_client_rows.specs.Refusing.{UnexpectedOn}
+use Rattle.law_moves.proofs.Vocabulary.{BadAck, same_number, other_number, Cookie, Phase, is_ended, Passage}
+use Rattle.law_role_client.proofs.Vocabulary.{LAST_NUMBER, Replacement, NoneUnderWay, In, Out, ClientRole, is_up, is_put, is_asked, is_named, is_out, is_finished, has_out, Done, unexpected, is_open, is_opening, is_current, is_out_successor, on_ack_to, ack_named, acked, ack_row_by, answer_by, a2_by, a6_by, a10_by, on_out_r1_a2, on_out_r1_a6, taker_of, has_leg, came_log, once_if, opened, OpensOnce, InIsAt, OutIsAt, ReplacesIns, ReplacesOuts, AsksWhereWanted, is_to_ask}
+use Rattle.law_role_client.proofs.Vocabulary.{out_waits, in_asked, in_answered, in_handed_over, out_wanted, out_asked, out_answered, out_finished}
+use Rattle.law_role_client.proofs.Counted.Rows.{not_false}
 use Rattle.law_role_client_rows.proofs.Refusing.Channels.{Channels, IsNext, sees}
+use Rattle.law_role_client_rows.specs.Refusing.{UnexpectedOn}
 
 abbrev pub IsRefused : Done → Type 0
 IsRefused x = x.1 ≡ Err refused.Unexpected
@@ -161,10 +142,6 @@ a2_why p n current false waits wanted is number at = inl (omega (arith, wanted))
 a2_why p n current true true wanted is number at = inl (omega (arith, wanted))
 a2_why p n current true false wanted is number at =
     inr (omega (arith, is, number, at), omega (arith, wanted), is)
-
-not_false : (b : Bool) → not b ≡ false → b ≡ true
-not_false true e = refl
-not_false false e = absurd (cc)
 
 -- on the current channel, while it is replaced
 a2_current : (p : Passage ClientRole) (n : ℕ) (r : Replacement) → OutIsAt p r → is_out r ≡ true

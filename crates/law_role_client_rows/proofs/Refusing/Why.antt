@@ -1,48 +1,21 @@
 -- why a client refuses what comes
-use Rattle.std.proofs.Common.{◌≡◌, ℕ, ◌==◌, Bool, true, false, true≢false, not, ◌&&◌, ◌||◌, nat_lt, if◌then◌else◌, List, Ok, Err, rules, refl, sym, ap, ◌∙◌}
-use Rattle.std.proofs.lemmas.Bool.{and_parts}
-use Rattle.std.specs.declared.result.Result.{Result}
-use Rattle.rh_window.specs.Sending.{ack_verdict}
-use Rattle.rh_window.specs.declared.fault.BadAck.{BadAck}
-use Rattle.rh_rts.specs.declared.command.Cookie.{Cookie}
-use Rattle.rh_sig.specs.declared.named.Named.{Named}
+use Rattle.law_order.proofs.Vocabulary.{◌≡◌, ℕ, ◌==◌, Bool, true, false, true≢false, not, ◌&&◌, ◌||◌, nat_lt, if◌then◌else◌, List, Ok, Err, rules, refl, sym, ap, ◌∙◌, and_parts, Result}
 use Rattle.rh_sig.specs.declared.named.Named.TheVariants as named
-use Rattle.rh_http.specs.declared.config.ClientConfig.{ClientConfig}
-use Rattle.rh_line.specs.declared.leg.Leg.{Leg}
-use Rattle.rh_line.specs.declared.leg.LegKind.{LegKind}
-use Rattle.rh_line.specs.declared.leg.LegKind.TheVariants.{ClientOut, OutServer, ClientIn, InServer}
-use Rattle.rh_shell.specs.declared.answers.Count.{Count}
 use Rattle.rh_shell.specs.declared.answers.Refused.TheVariants as refused
-use Rattle.rh_shell.specs.NearEnds.{is_ended}
-use Rattle.rh_shell.specs.Rules.{Row}
-use Rattle.rh_client.specs.declared.state.ClientRole.{ClientRole}
-use Rattle.rh_client.specs.declared.channels.InChannel.{InChannel}
-use Rattle.rh_client.specs.Channels.{is_up, is_named}
-use Rattle.rh_client.specs.Replacements.{is_finished}
-use Rattle.rh_client.specs.State.{Done, taken, first, unexpected, is_open, is_current, is_out_successor, co}
-use Rattle.rh_client.specs.Acknowledging.{on_ack_to, ack_named, ack_row, ack_row_by}
-use Rattle.rh_client.specs.Opening.{was_up_by}
-use Rattle.rh_client.specs.Ending.{is_done_by}
-use Rattle.rh_client.specs.Client.{acts, rules as client_rules, on_packet, packet_by, pdu_by}
-use Rattle.law_moves.specs.Moves.{Passage, EndMove, end_started, all_end_moved, AreAllowedAtEnd, is_in_use}
-use Rattle.law_moves.specs.Wires.{of_leg}
-use Rattle.law_moves.specs.Passages.Counted.{Tells}
-use Rattle.law_moves.specs.Passages.Counted.{packets}
+use Rattle.law_moves.proofs.Vocabulary.{ack_verdict, BadAck, Cookie, Named, ClientConfig, Leg, LegKind, ClientOut, OutServer, ClientIn, InServer, Count, is_ended, Row, Passage, EndMove, end_started, all_end_moved, AreAllowedAtEnd, is_in_use, of_leg, Tells, packets}
+use Rattle.law_role_client.proofs.Vocabulary.{ClientRole, InChannel, is_up, is_named, is_finished, Done, taken, first, unexpected, is_open, is_current, is_out_successor, co, on_ack_to, ack_named, ack_row, ack_row_by, was_up_by, is_done_by, acts, rules as client_rules, on_packet, packet_by, pdu_by}
 use Rattle.law_role_client.proofs.TakesInOrder.{takes_in_order}
 use Rattle.law_role_client.proofs.Counted.InCounts.{replaces_ins}
 use Rattle.law_role_client.proofs.Counted.OutCounts.{replaces_outs}
 use Rattle.law_role_client.proofs.Counted.Wishes.{asks_where_wanted}
 use Rattle.law_role_client.proofs.Counted.Opens.{opens_once}
-use Rattle.law_role_client_rows.specs.Refusing.{UnexpectedPduBy, UnexpectedOn, UnexpectedBy, Refuses}
+use Rattle.law_role_client.proofs.Sending.Laws.{not_so as not_true}
 use Rattle.law_role_client_rows.proofs.Refusing.Rows.{IsRefused, refused_by, Stands, stands_by, on_one, Facts, ack_refused, answer_refused, a2_refused, a6_refused, a10_refused}
 use Rattle.law_role_client_rows.proofs.Refusing.Ends.{end_refused, pdu_refused, a3_refused, c2_refused}
 use Rattle.law_role_client_rows.proofs.Refusing.Putting.{client_channels}
+use Rattle.law_role_client_rows.specs.Refusing.{UnexpectedPduBy, UnexpectedOn, UnexpectedBy, Refuses}
 
 -- ---- legs in use
-
-not_true : (b : Bool) → not b ≡ true → b ≡ false
-not_true true e = absurd (cc)
-not_true false e = refl
 
 at_work : (s : ClientRole) (leg : Leg) → is_in_use client_rules s leg ≡ true
     → is_ended s.phase ≡ false

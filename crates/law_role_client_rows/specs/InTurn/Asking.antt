@@ -1,18 +1,14 @@
 -- what the IN and OUT channels of a client begin with: one packet that asks, before all others
 -- (MS-RPCH 2.2.4; successors are this profile's)
-use Rattle.std.specs.Prelude.{ℕ, suc, ◌≡◌, ◌≤◌, ◌⊎◌, ◌++◌, List, [], ◌∷◌}
+use Rattle.std.specs.Prelude.{ℕ, ◌≡◌, ◌≤◌, List, [], ◌∷◌}
 use Rattle.std.specs.List.{AllByRecursion}
 use Rattle.rh_sig.specs.declared.named.Named.{Named}
-use Rattle.rh_sig.specs.declared.named.Named.TheVariants.{ConnA1, ConnB1, InR1A1, OutR1A3, OutR2C1, KeepAlive}
-use Rattle.rh_line.specs.declared.leg.Leg.{Leg}
+use Rattle.rh_sig.specs.declared.named.Named.TheVariants.{ConnA1, ConnB1, InR1A1, OutR1A3, KeepAlive}
 use Rattle.rh_shell.specs.Rules.{Message, Text, Pdu, Packet}
 use Rattle.rh_client.specs.State.{ci, co}
-use Rattle.law_moves.specs.Moves.{OnLeg, EndMove}
+use Rattle.law_moves.specs.Moves.{OnLeg}
 use Rattle.law_moves.specs.Wires.{of_leg}
-use Rattle.law_moves.specs.Passages.Counted.{packets}
-use Rattle.law_moves.specs.Passages.Passing.{Has, HasOne}
-use Rattle.law_moves.specs.Passages.Rising.{HasComeUp}
-use Rattle.law_role_client_rows.specs.Putting.{IsPacket, IsBehindPacket}
+use Rattle.law_role_client_rows.specs.Putting.{IsPacket}
 
 -- ---- packets that ask
 
@@ -57,31 +53,8 @@ AsksOnce Asks IsLater (text ∷ []) = IsText text
 AsksOnce Asks IsLater (text ∷ first ∷ later) =
     IsText text × IsPacket Asks first × AllByRecursion IsLater later
 
--- each packet asks, with no packet before it, or is one of these, behind a packet that asks; and so
--- is each RPC PDU
-pub record AsksFirst (Asks IsLater : Named → Type 0) (messages : List Message) : Type 0 where
-  pub packet : (before later : List Message) (named : Named)
-      → messages ≡ before ++ Packet named ∷ later
-      → (Asks named × (packets before ≡ 0)) ⊎ (IsLater named × HasOne Asks before)
-  pub pdu : (before later : List Message) (bytes : List ℕ)
-      → messages ≡ before ++ Pdu bytes ∷ later → HasOne Asks before
-
 -- ---- the laws, of all that was put
 
 pub record AsksOnceOnEach (put : List OnLeg) : Type 0 where
   pub ins : (n : ℕ) → AsksOnce (AsksIn n) IsNoAsk (of_leg (ci n) put)
   pub outs : (n : ℕ) → AsksOnce (AsksOut n) IsNoAsk (of_leg (co n) put)
-
--- behind the packet that asks stand those that may stand there on an IN channel, and OUT_R2/C1 on
--- an OUT channel
-pub record AsksFirstOnEach (moves : List EndMove) (put : List OnLeg) : Type 0 where
-  pub ins : (n : ℕ)
-      → AsksFirst (AsksIn n) (IsBehindPacket (λ cookie. HasComeUp moves (ci (suc n)) cookie))
-      (of_leg (ci n) put)
-  pub outs : (n : ℕ)
-      → AsksFirst (AsksOut n) (λ named. named ≡ OutR2C1) (of_leg (co n) put)
-
--- KeepAlive stands on no leg
-abbrev pub PutsNoKeepAlive : List OnLeg → Type 0
-PutsNoKeepAlive put =
-    (leg : Leg) (keepalive : ℕ) → Has (KeepAlive keepalive) (of_leg leg put) → ⊥

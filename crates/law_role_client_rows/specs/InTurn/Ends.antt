@@ -47,13 +47,3 @@ EndsOnce put =
 abbrev pub EndsAll : List OnLeg → Type 0
 EndsAll put =
     (n m : ℕ) → n < m → Has EndA1 (of_leg (ci n) put) → HasNoPdu (of_leg (ci m) put)
-
--- the same by what stands before a message of a ci leg: no IN_R1/A5; before an RPC PDU, and before
--- END/A1, no END/A1 either
-pub record FollowNoEnd (put : List OnLeg) : Type 0 where
-  pub any : (n : ℕ) (before later : List Message) (message : Message) (successor : Cookie)
-      → of_leg (ci n) put ≡ before ++ message ∷ later → Has (InR1A5 successor) before → ⊥
-  pub pdu : (n : ℕ) (before later : List Message) (bytes : List ℕ)
-      → of_leg (ci n) put ≡ before ++ Pdu bytes ∷ later → Has EndA1 before → ⊥
-  pub end_a1 : (n : ℕ) (before later : List Message)
-      → of_leg (ci n) put ≡ before ++ Packet EndA1 ∷ later → Has EndA1 before → ⊥

@@ -5,7 +5,7 @@ ghost use Rattle.std.specs.Prelude.{List};
 ghost use Rattle.rh_http.specs.declared.config.ClientConfig.{ClientConfig};
 ghost use Rattle.law_moves.specs.Moves.{EndMove};
 ghost use Rattle.law_role_client.specs.Order.{AreAllowedMoves, client_moved};
-ghost use Rattle.law_role_client_rows.specs.InTurn.Asking.{AsksFirstOnEach, AsksOnceOnEach};
+ghost use Rattle.law_role_client_rows.specs.InTurn.Asking.{AsksOnceOnEach};
 
 use crate::puts::{a_client_opens_in_channels_in_order, a_client_opens_out_channels_in_order};
 
@@ -16,17 +16,6 @@ use crate::puts::{a_client_opens_in_channels_in_order, a_client_opens_out_channe
 pub fn a_client_asks_once()
     ensures { (config : ClientConfig) (moves : List EndMove) → AreAllowedMoves config moves
         → AsksOnceOnEach (client_moved config moves).passage.put }
-{
-    a_client_opens_in_channels_in_order();
-    a_client_opens_out_channels_in_order();
-}
-
-/// Whatever happens to a client: each packet that it put on a leg is the one that asks, with no
-/// packet before it there, or one that may stand behind that, which was put before; and each RPC
-/// PDU stands behind it (MS-RPCH 2.2.4; successors are this profile's).
-pub fn a_client_asks_first()
-    ensures { (config : ClientConfig) (moves : List EndMove) → AreAllowedMoves config moves
-        → AsksFirstOnEach moves (client_moved config moves).passage.put }
 {
     a_client_opens_in_channels_in_order();
     a_client_opens_out_channels_in_order();

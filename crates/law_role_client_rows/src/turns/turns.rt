@@ -5,8 +5,7 @@ ghost use Rattle.std.specs.Prelude.{List};
 ghost use Rattle.rh_http.specs.declared.config.ClientConfig.{ClientConfig};
 ghost use Rattle.law_moves.specs.Moves.{EndMove};
 ghost use Rattle.law_role_client.specs.Order.{client_moved};
-ghost use Rattle.law_role_client_rows.specs.InTurn.Asking.{PutsNoKeepAlive};
-ghost use Rattle.law_role_client_rows.specs.InTurn.Ends.{EndsAll, EndsByInR1A5, EndsOnce, FollowNoEnd};
+ghost use Rattle.law_role_client_rows.specs.InTurn.Ends.{EndsAll, EndsByInR1A5, EndsOnce};
 ghost use Rattle.law_role_client_rows.specs.InTurn.Turns.{WritesInTurn};
 
 /// Whatever moves a client makes, allowed or not: RPC PDUs, CONN/B1, IN_R1/A5, OUT_R1/A7, END/A1
@@ -36,23 +35,6 @@ pub fn no_pdu_follows_end()
         → EndsOnce (client_moved config moves).passage.put }
     ensures all { (config : ClientConfig) (moves : List EndMove)
         → EndsAll (client_moved config moves).passage.put }
-{
-    a_client_writes_in_turn();
-}
-
-/// Whatever moves a client makes: before a message that it puts on a ci leg stands no IN_R1/A5
-/// there, and before an RPC PDU or END/A1 no END/A1 (profile).
-pub fn no_message_follows_an_end()
-    ensures { (config : ClientConfig) (moves : List EndMove)
-        → FollowNoEnd (client_moved config moves).passage.put }
-{
-    a_client_writes_in_turn();
-}
-
-/// Whatever moves a client makes: it puts no KeepAlive (profile).
-pub fn a_client_puts_no_keep_alive()
-    ensures { (config : ClientConfig) (moves : List EndMove)
-        → PutsNoKeepAlive (client_moved config moves).passage.put }
 {
     a_client_writes_in_turn();
 }

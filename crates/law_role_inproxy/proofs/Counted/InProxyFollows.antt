@@ -1,42 +1,12 @@
 -- the handover of an in proxy passes by IN_R1/A6, and IN_R1/B1 ends its work
-use Rattle.std.proofs.Common.{◌≡◌, ◌⊎◌, ℕ, ◌≤◌, ◌==◌, ◌&&◌, true, false, true≢false, inl, inr, if◌then◌else◌, List, [], ◌∷◌, Some, None, Ok, Err, refl, sym, ap, ◌∙◌, arith, rules}
-use Rattle.std.specs.Prelude.{IfSome}
-use Rattle.std.specs.declared.option.Option.{Option}
-use Rattle.rh_window.specs.declared.recv_window.Ack.{Ack}
-use Rattle.law_order.proofs.ByNumber.{by_test}
-use Rattle.rh_rts.specs.declared.command.Cookie.{Cookie}
-use Rattle.rh_sig.specs.declared.named.Named.{Named}
+use Rattle.law_order.proofs.Vocabulary.{◌≡◌, ◌⊎◌, ℕ, ◌≤◌, ◌==◌, ◌&&◌, true, false, true≢false, inl, inr, if◌then◌else◌, List, [], ◌∷◌, Some, None, Ok, Err, refl, sym, ap, ◌∙◌, arith, rules, IfSome, Option}
 use Rattle.rh_sig.specs.declared.named.Named.TheVariants as named
-use Rattle.rh_line.specs.declared.leg.Leg.{Leg}
-use Rattle.rh_line.specs.declared.which.Which.{Which}
-use Rattle.rh_line.specs.declared.which.Which.TheVariants.{Current, Next}
 use Rattle.rh_line.specs.Lines as line
-use Rattle.rh_shell.specs.declared.answers.Count.{Count}
-use Rattle.rh_shell.specs.declared.due.Due.{Due}
-use Rattle.rh_shell.specs.Rules.{Message}
-use Rattle.rh_inproxy.specs.declared.state.ClientLeg.{ClientLeg}
-use Rattle.rh_inproxy.specs.declared.state.Handover.{Handover}
-use Rattle.rh_inproxy.specs.declared.state.Handover.TheVariants.{Before, Came, Passed}
-use Rattle.rh_inproxy.specs.declared.state.InProxyConfig.{InProxyConfig}
-use Rattle.rh_inproxy.specs.declared.state.Joining.{Joining}
-use Rattle.rh_inproxy.specs.declared.state.Opening.{Opening}
-use Rattle.rh_inproxy.specs.declared.state.Successor.{Successor}
 use Rattle.rh_inproxy.specs.declared.state.Successor.TheVariants as successors
-use Rattle.rh_inproxy.specs.declared.state.Work.{Work}
 use Rattle.rh_inproxy.specs.declared.state.Work.TheVariants as works
-use Rattle.rh_inproxy.specs.Answers.{Done, Pick, or_else, unexpected}
-use Rattle.rh_inproxy.specs.State.{InProxy, channel_of, has_a5, is_client_leg, is_server_leg}
-use Rattle.rh_inproxy.specs.Opening.{up, drawn, drawn_by, first_by, put_first, echo_by, put_echo, is_absent, on_conn_b1, on_conn_b3}
-use Rattle.rh_inproxy.specs.Acknowledging.{on_ack, on_ack_to, ack_due, ack_by, current_ack, next_ack, put_acks}
-use Rattle.rh_inproxy.specs.Ending.{is_newest, is_over, mark, on_end_a1, put_end, settled, settled_pick}
-use Rattle.rh_inproxy.specs.OutReplacement.{on_out_r1_a7}
-use Rattle.rh_inproxy.specs.InReplacement.{has_passed, on_in_r1_a1, on_in_r1_a5, on_in_r1_b2, finish_by, hand_over, told_by, put_in_r2_a2, mark_by, put_in_r1_a6}
-use Rattle.rh_inproxy.specs.Passing.{next_pdu, put_pdu}
-use Rattle.rh_inproxy.specs.Time.{ping, on_keep_alive, put_ping}
-use Rattle.rh_inproxy.specs.Putting.{next, waiting_by, put_waiting, put_control, put_early, put_stream, put_behind, put_mark}
-use Rattle.rh_inproxy.specs.Machine.{pdu, packet, on_channel, on_channel_by, on_ci, on_is}
-use Rattle.law_moves.specs.Passages.Passing.{count_of}
-use Rattle.law_moves.specs.PacketKinds.{is_in_r1_a6, is_in_r1_b1}
+use Rattle.law_moves.proofs.Vocabulary.{Ack, by_test, Cookie, Named, Leg, Which, Current, Next, Count, Due, Message, count_of, is_in_r1_a6, is_in_r1_b1}
+use Rattle.law_role_inproxy.proofs.Vocabulary.{ClientLeg, Handover, Before, Came, Passed, InProxyConfig, Joining, Opening, Successor, Work, Done, Pick, or_else, unexpected, InProxy, channel_of, has_a5, is_client_leg, is_server_leg, up, drawn, drawn_by, first_by, put_first, echo_by, put_echo, is_absent, on_conn_b1, on_conn_b3, on_ack, on_ack_to, ack_due, ack_by, current_ack, next_ack, put_acks, is_newest, is_over, mark, on_end_a1, put_end, settled, settled_pick, on_out_r1_a7}
+use Rattle.law_role_inproxy.proofs.Vocabulary.{has_passed, on_in_r1_a1, on_in_r1_a5, on_in_r1_b2, finish_by, hand_over, told_by, put_in_r2_a2, mark_by, put_in_r1_a6, next_pdu, put_pdu, ping, on_keep_alive, put_ping, next, waiting_by, put_waiting, put_control, put_early, put_stream, put_behind, put_mark, pdu, packet, on_channel, on_channel_by, on_ci, on_is}
 
 -- what the facts are about
 pub record Seen : Type 0 where

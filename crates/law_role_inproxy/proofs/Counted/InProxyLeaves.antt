@@ -1,38 +1,9 @@
 -- an in proxy takes IN_R1/B1 at most as often as it put IN_R1/A6
-use Rattle.std.proofs.Common.{◌≡◌, ◌⊎◌, ℕ, ◌≤◌, Bool, true, false, not, inl, inr, if◌then◌else◌, List, [], ◌∷◌, ◌++◌, Some, None, Ok, Err, refl, sym, ap, ◌∙◌, subst, arith}
-use Rattle.std.proofs.lemmas.Bool.{and_parts}
-use Rattle.std.specs.Prelude.{nat_le}
-use Rattle.std.specs.declared.result.Result.{Result}
-use Rattle.law_order.proofs.ByNumber.{by_test}
-use Rattle.rh_sig.specs.declared.named.Named.{Named}
-use Rattle.rh_http.specs.declared.fault.HttpFault.{HttpFault}
-use Rattle.rh_http.specs.Heads.Verdicts.{Asked, request_verdict}
-use Rattle.rh_line.specs.declared.leg.Leg.{Leg}
-use Rattle.rh_shell.specs.declared.answers.HeadRefused.{HeadRefused}
-use Rattle.rh_shell.specs.declared.answers.HeadTaken.{HeadTaken}
-use Rattle.rh_shell.specs.Rules.{Pdu, Packet}
-use Rattle.rh_shell.specs.Shells.{one_if}
-use Rattle.rh_shell.specs.NearEnds.{is_ended}
-use Rattle.rh_inproxy.specs.declared.opening.TheConstants.{ECHO_LENGTH}
-use Rattle.rh_inproxy.specs.declared.state.InProxyConfig.{InProxyConfig}
-use Rattle.rh_inproxy.specs.declared.state.Work.{Work}
+use Rattle.law_order.proofs.Vocabulary.{◌≡◌, ◌⊎◌, ℕ, ◌≤◌, Bool, true, false, not, inl, inr, if◌then◌else◌, List, [], ◌∷◌, ◌++◌, Some, None, Ok, Err, refl, sym, ap, ◌∙◌, subst, arith, and_parts, nat_le, Result}
 use Rattle.rh_inproxy.specs.declared.state.Work.TheVariants as works
-use Rattle.rh_inproxy.specs.Answers.{Done, Pick}
-use Rattle.rh_inproxy.specs.State.{InProxy, first, is_client_leg, is_server_leg}
-use Rattle.rh_inproxy.specs.Opening.{up, head, drawn, put_echo, head_by, phase_by}
-use Rattle.rh_inproxy.specs.Ending.{mark, settled_pick}
-use Rattle.rh_inproxy.specs.InReplacement.{has_passed}
-use Rattle.rh_inproxy.specs.Time.{ping}
-use Rattle.rh_inproxy.specs.Putting.{put as put_of, next}
-use Rattle.rh_inproxy.specs.Machine.{pdu, packet}
-use Rattle.rh_inproxy.specs.Machine.{rules as proxy_rules}
-use Rattle.law_moves.specs.Moves.{OnLeg, Move, Up, HeadCame, PduCame, PacketCame, Puts, IsDrawn, Marks, Pings, MayMove, AreAllowed, Passage, is_at_work, is_in_use, started, moved, all_moved, taken_by, put_by}
-use Rattle.law_moves.specs.Wires.{of_leg}
-use Rattle.law_moves.specs.Passages.Passing.{count_of}
-use Rattle.law_moves.proofs.Passages.Messages.{count_append}
-use Rattle.law_moves.specs.PacketKinds.{is_in_r1_a6, is_in_r1_b1}
-use Rattle.law_moves.proofs.PacketKinds.Counts.{leg_is, here_more, leg_rises, leg_at_most, one_counts}
-use Rattle.law_role_inproxy.specs.Counted.{is_leg}
+use Rattle.law_moves.proofs.Vocabulary.{by_test, Named, HttpFault, Asked, request_verdict, Leg, HeadRefused, HeadTaken, Pdu, Packet, one_if, is_ended, OnLeg, Move, Up, HeadCame, PduCame, PacketCame, Puts, IsDrawn, Marks, Pings, MayMove, AreAllowed, Passage, is_at_work, is_in_use, started, moved, all_moved, taken_by, put_by, of_leg, count_of, is_in_r1_a6, is_in_r1_b1}
+use Rattle.law_moves.proofs.Lemmas.{count_append, leg_is, here_more, leg_rises, leg_at_most, one_counts}
+use Rattle.law_role_inproxy.proofs.Vocabulary.{ECHO_LENGTH, InProxyConfig, Work, Done, Pick, InProxy, first, is_client_leg, is_server_leg, up, head, drawn, put_echo, head_by, phase_by, mark, settled_pick, has_passed, ping, put as put_of, next, pdu, packet, rules as proxy_rules, is_leg}
 use Rattle.law_role_inproxy.proofs.Counted.InProxyFollows.{Same, Follows, done, same_follows, same_up, same_pdu, same_ping, drawn_follows, mark_follows, Leaves, packet_leaves, IsPut, Stays, settled_puts, echo_stays, server_puts}
 
 -- ---- moves

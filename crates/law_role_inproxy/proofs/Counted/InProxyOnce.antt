@@ -1,52 +1,12 @@
 -- an in proxy opens once: to its client, and to the server
-use Rattle.std.proofs.Common.{◌≡◌, ℕ, ◌+◌, ◌≤◌, ◌==◌, ◌&&◌, true, not, if◌then◌else◌, List, [], ◌∷◌, Some, None, Ok, Err, refl, ap, ◌∙◌, arith, rules}
-use Rattle.std.proofs.lemmas.Bool.{and_parts}
-use Rattle.std.specs.Prelude.{IfSome}
-use Rattle.std.specs.declared.option.Option.{Option}
-use Rattle.rh_window.specs.declared.recv_window.Ack.{Ack}
-use Rattle.law_order.proofs.ByNumber.{by_test}
-use Rattle.rh_rts.specs.declared.command.Cookie.{Cookie}
-use Rattle.rh_sig.specs.declared.named.Named.{Named}
+use Rattle.law_order.proofs.Vocabulary.{◌≡◌, ℕ, ◌+◌, ◌≤◌, ◌==◌, ◌&&◌, true, not, if◌then◌else◌, List, [], ◌∷◌, Some, None, Ok, Err, refl, ap, ◌∙◌, arith, rules, and_parts, IfSome, Option}
 use Rattle.rh_sig.specs.declared.named.Named.TheVariants as named
-use Rattle.rh_line.specs.declared.leg.Leg.{Leg}
-use Rattle.rh_line.specs.declared.leg.LegKind.TheVariants.{ClientIn}
-use Rattle.rh_line.specs.declared.which.Which.{Which}
-use Rattle.rh_line.specs.declared.which.Which.TheVariants.{Current, Next}
-use Rattle.rh_shell.specs.declared.answers.Count.{Count}
-use Rattle.rh_shell.specs.Rules.{Message, Pdu, Packet}
-use Rattle.rh_shell.specs.Shells.{one_if}
-use Rattle.rh_shell.specs.declared.due.Due.{Due}
-use Rattle.rh_inproxy.specs.declared.state.Edge.{Edge}
-use Rattle.rh_inproxy.specs.declared.state.InProxyConfig.{InProxyConfig}
-use Rattle.rh_inproxy.specs.declared.state.Opener.{Opener}
-use Rattle.rh_inproxy.specs.declared.state.Opening.{Opening}
 use Rattle.rh_inproxy.specs.declared.state.Opening.TheVariants as openings
-use Rattle.rh_inproxy.specs.Answers.{Done, Pick, or_else, unexpected}
-use Rattle.rh_inproxy.specs.State.{InProxy, first, channel_of, has_opened, is_client_leg, is_server_leg}
-use Rattle.rh_inproxy.specs.Opening.{up, may_accept, accepted, wants, connected, head, drawn, is_unknown, is_first, awaits_packet, is_connection, is_replacement, opener_of, on_conn_b1, with_edge}
-use Rattle.rh_inproxy.specs.Acknowledging.{on_ack, on_ack_to}
-use Rattle.rh_inproxy.specs.Ending.{is_newest, mark, on_end_a1, settled}
-use Rattle.rh_inproxy.specs.OutReplacement.{on_out_r1_a7}
-use Rattle.rh_inproxy.specs.InReplacement.{on_in_r1_a1, on_in_r1_a5, on_later_in_r1_a1, on_in_r1_b1}
-use Rattle.rh_inproxy.specs.declared.state.Successor.{Successor}
 use Rattle.rh_inproxy.specs.declared.state.Successor.TheVariants as successors
-use Rattle.rh_inproxy.specs.Opening.{first_by, put_first, put_echo}
-use Rattle.rh_inproxy.specs.Acknowledging.{ack_due, ack_by, current_ack, next_ack, put_acks}
-use Rattle.rh_inproxy.specs.Ending.{put_end, settled_pick}
-use Rattle.rh_inproxy.specs.InReplacement.{told_by, put_in_r2_a2, put_in_r1_a6}
-use Rattle.rh_inproxy.specs.Passing.{next_pdu, put_pdu}
-use Rattle.rh_inproxy.specs.Time.{put_ping}
-use Rattle.rh_inproxy.specs.Putting.{put as put_of, next, waiting_by, put_waiting, put_control, put_early, put_stream, put_behind, put_mark}
-use Rattle.rh_inproxy.specs.Time.{ping, on_keep_alive}
-use Rattle.rh_inproxy.specs.Machine.{pdu, packet, on_channel, on_channel_by, on_ci, on_is}
-use Rattle.rh_inproxy.specs.Machine.{rules as proxy_rules}
-use Rattle.law_moves.specs.Moves.{OnLeg, Move, started, all_moved}
-use Rattle.law_moves.specs.Wires.{of_leg}
-use Rattle.law_moves.specs.Passages.Passing.{count_of, of_kind}
-use Rattle.law_moves.proofs.Passages.Logs.{RowKeeps, PutKeeps, StepsKeep, moves_keep}
-use Rattle.law_moves.specs.PacketKinds.{is_conn_b1, opens_server}
-use Rattle.law_moves.proofs.PacketKinds.Counts.{leg_at_most, kind_at_most}
-use Rattle.law_role_inproxy.specs.Counted.{is_leg}
+use Rattle.law_moves.proofs.Vocabulary.{Ack, by_test, Cookie, Named, Leg, ClientIn, Which, Current, Next, Count, Message, Pdu, Packet, one_if, Due, OnLeg, Move, started, all_moved, of_leg, count_of, of_kind, is_conn_b1, opens_server}
+use Rattle.law_moves.proofs.Lemmas.{RowKeeps, PutKeeps, StepsKeep, moves_keep, leg_at_most, kind_at_most}
+use Rattle.law_role_inproxy.proofs.Vocabulary.{Edge, InProxyConfig, Opener, Opening, Done, Pick, or_else, unexpected, InProxy, first, channel_of, has_opened, is_client_leg, is_server_leg, up, may_accept, accepted, wants, connected, head, drawn, is_unknown, is_first, awaits_packet, is_connection, is_replacement, opener_of, on_conn_b1, with_edge, on_ack, on_ack_to, is_newest, mark, on_end_a1, settled, on_out_r1_a7, on_in_r1_a1, on_in_r1_a5, on_later_in_r1_a1, on_in_r1_b1}
+use Rattle.law_role_inproxy.proofs.Vocabulary.{Successor, first_by, put_first, put_echo, ack_due, ack_by, current_ack, next_ack, put_acks, put_end, settled_pick, told_by, put_in_r2_a2, put_in_r1_a6, next_pdu, put_pdu, put_ping, put as put_of, next, waiting_by, put_waiting, put_control, put_early, put_stream, put_behind, put_mark, ping, on_keep_alive, pdu, packet, on_channel, on_channel_by, on_ci, on_is, rules as proxy_rules, is_leg}
 
 -- what the facts are about
 record Seen : Type 0 where

@@ -1,32 +1,11 @@
 -- what in an in proxy is owed for what came
-use Rattle.std.proofs.Common.{◌≡◌, ℕ, ◌+◌, ◌≤◌, Bool, true, false, if◌then◌else◌, List, refl, ◌∙◌, rules}
-use Rattle.std.specs.Prelude.{replicate}
-use Rattle.law_order.proofs.ByNumber.{by_test}
-use Rattle.rh_rts.specs.declared.command.Cookie.{Cookie}
+use Rattle.law_order.proofs.Vocabulary.{◌≡◌, ℕ, ◌+◌, ◌≤◌, Bool, true, false, if◌then◌else◌, List, refl, ◌∙◌, rules, replicate}
 use Rattle.rh_rts.specs.declared.command.Address4or16.{Address4or16}
-use Rattle.rh_rts.specs.declared.command.Address4or16.TheVariants.{V4}
-use Rattle.rh_sig.specs.declared.named.Named.{Named}
 use Rattle.rh_sig.specs.declared.named.Named.TheVariants as named
-use Rattle.rh_line.specs.declared.leg.Leg.{Leg}
-use Rattle.rh_line.specs.declared.which.Which.{Which}
-use Rattle.rh_shell.specs.declared.answers.Count.{Count}
-use Rattle.rh_shell.specs.Shells.{one_if}
 use Rattle.rh_shell.specs.Waiting as waiting
-use Rattle.rh_inproxy.specs.declared.state.Entry.{Entry}
-use Rattle.rh_inproxy.specs.declared.state.Entry.TheVariants.{Connects, Replaces}
-use Rattle.rh_inproxy.specs.declared.state.Handover.{Handover}
-use Rattle.rh_inproxy.specs.declared.state.InProxyConfig.{InProxyConfig}
-use Rattle.rh_inproxy.specs.declared.state.Opener.{Opener}
-use Rattle.rh_inproxy.specs.declared.state.Opening.{Opening}
-use Rattle.rh_inproxy.specs.declared.state.Successor.{Successor}
-use Rattle.rh_inproxy.specs.State.{InProxy}
-use Rattle.rh_inproxy.specs.Opening.{head, drawn, announcement, on_conn_b3}
-use Rattle.rh_inproxy.specs.Acknowledging.{on_ack}
-use Rattle.rh_inproxy.specs.Ending.{is_newest, mark, on_end_a1, settled}
-use Rattle.rh_inproxy.specs.InReplacement.{on_in_r1_b1, on_in_r1_b2}
-use Rattle.rh_inproxy.specs.Time.{on_keep_alive, ping}
-use Rattle.rh_inproxy.specs.Machine.{pdu, on_is}
-use Rattle.law_moves.proofs.PacketKinds.Waits.{IsNoAck}
+use Rattle.law_moves.proofs.Vocabulary.{by_test, Cookie, V4, Named, Leg, Which, Count, one_if}
+use Rattle.law_moves.proofs.Lemmas.{IsNoAck}
+use Rattle.law_role_inproxy.proofs.Vocabulary.{Entry, Connects, Replaces, Handover, InProxyConfig, Opener, Opening, Successor, InProxy, head, drawn, announcement, on_conn_b3, on_ack, is_newest, mark, on_end_a1, settled, on_in_r1_b1, on_in_r1_b2, on_keep_alive, ping, pdu, on_is}
 
 -- what the facts are about
 pub record Seen : Type 0 where

@@ -1,53 +1,17 @@
 -- an in proxy puts no more packets of a kind than came for them
-use Rattle.std.proofs.Common.{◌≡◌, ℕ, ◌+◌, ◌≤◌, ◌==◌, Bool, true, false, ◌&&◌, not, if◌then◌else◌, List, [], ◌∷◌, ◌++◌, length, Some, None, Ok, Err, refl, ap, arith, rules}
-use Rattle.std.specs.Prelude.{replicate}
-use Rattle.std.specs.declared.option.Option.{Option}
-use Rattle.rh_window.specs.Sending.{may_send}
-use Rattle.rh_window.specs.declared.recv_window.Ack.{Ack}
-use Rattle.law_order.proofs.ByNumber.{by_test}
-use Rattle.rh_rts.specs.declared.command.Cookie.{Cookie}
-use Rattle.rh_rts.specs.declared.command.Address4or16.TheVariants.{V4}
-use Rattle.rh_sig.specs.declared.named.Named.{Named}
+use Rattle.law_order.proofs.Vocabulary.{◌≡◌, ℕ, ◌+◌, ◌≤◌, ◌==◌, Bool, true, false, ◌&&◌, not, if◌then◌else◌, List, [], ◌∷◌, ◌++◌, length, Some, None, Ok, Err, refl, ap, arith, rules, replicate, Option}
 use Rattle.rh_sig.specs.declared.named.Named.TheVariants as named
 use Rattle.rh_line.specs.Lines as line
-use Rattle.rh_line.specs.declared.leg.Leg.{Leg}
-use Rattle.rh_line.specs.declared.leg.LegKind.TheVariants.{ClientIn}
-use Rattle.rh_line.specs.declared.which.Which.{Which}
-use Rattle.rh_line.specs.declared.which.Which.TheVariants.{Current, Next}
-use Rattle.rh_shell.specs.declared.answers.Count.{Count}
 use Rattle.rh_shell.specs.declared.answers.Refused.TheVariants as refused
-use Rattle.rh_shell.specs.declared.due.Due.{Due}
-use Rattle.rh_shell.specs.Rules.{Packet}
-use Rattle.rh_shell.specs.Shells.{one_if}
 use Rattle.rh_shell.specs.Waiting as waiting
-use Rattle.rh_inproxy.specs.declared.state.Entry.TheVariants.{Connects}
-use Rattle.rh_inproxy.specs.declared.state.Handover.{Handover}
-use Rattle.rh_inproxy.specs.declared.state.Handover.TheVariants.{Before, Came, Passed}
-use Rattle.rh_inproxy.specs.declared.state.InProxyConfig.{InProxyConfig}
-use Rattle.rh_inproxy.specs.declared.state.Joining.TheVariants.{TellsServer, Told, Follows}
-use Rattle.rh_inproxy.specs.declared.state.Opener.{Opener}
-use Rattle.rh_inproxy.specs.declared.state.Opening.{Opening}
 use Rattle.rh_inproxy.specs.declared.state.Opening.TheVariants as openings
-use Rattle.rh_inproxy.specs.declared.state.Successor.{Successor}
 use Rattle.rh_inproxy.specs.declared.state.Successor.TheVariants as successors
-use Rattle.rh_inproxy.specs.Answers.{Done, Pick, or_else, taken, refuse, unexpected}
-use Rattle.rh_inproxy.specs.State.{InProxy, first, channel_of, has_a5, has_come, hands_over, is_client_leg, is_server_leg, same_cookie, follows, followed}
-use Rattle.rh_inproxy.specs.Opening.{up, may_accept, accepted, wants, connected, head, drawn, announcement, first_by, put_first, put_echo, opener_of, opener, opened, kept_for, is_absent, is_first, on_conn_b1, on_first_in_r1_a1}
-use Rattle.rh_inproxy.specs.Acknowledging.{forward_by, forwarded, ack_due, ack_by, current_ack, next_ack, put_acks}
-use Rattle.rh_inproxy.specs.Ending.{mark, on_end_a1, put_end, settled_pick}
-use Rattle.rh_inproxy.specs.InReplacement.{is_newcomer, joined, join, on_later_in_r1_a1, on_in_r1_a1, on_in_r1_a5, finished, finish_by, handed_over, hand_over, told_by, one_less, put_in_r2_a2, mark_by, put_in_r1_a6}
-use Rattle.rh_inproxy.specs.Passing.{next_pdu, put_pdu}
-use Rattle.rh_inproxy.specs.Putting.{put as put_of, next, waiting_by, put_waiting, put_control, put_early, put_stream, put_behind, put_mark}
-use Rattle.rh_inproxy.specs.Time.{on_keep_alive, ping, put_ping}
-use Rattle.rh_inproxy.specs.Machine.{pdu, packet, on_channel, on_channel_by, on_ci, on_is}
-use Rattle.rh_inproxy.specs.Machine.{rules as proxy_rules}
-use Rattle.law_moves.specs.Moves.{OnLeg, Move, started, all_moved}
-use Rattle.law_moves.specs.Wires.{of_leg}
-use Rattle.law_moves.specs.Passages.Passing.{count_of, of_kind}
-use Rattle.law_moves.proofs.PacketKinds.Counts.{one_counts, kind_rises, kind_here}
-use Rattle.law_moves.proofs.PacketKinds.Waits.{IsSame, waits, forwarded_waits, refused_waits}
+use Rattle.law_moves.proofs.Vocabulary.{may_send, Ack, by_test, Cookie, V4, Named, Leg, ClientIn, Which, Current, Next, Count, Due, Packet, one_if, OnLeg, Move, started, all_moved, of_leg, count_of, of_kind}
+use Rattle.law_moves.proofs.Lemmas.{one_counts, kind_rises, kind_here, IsSame, waits, forwarded_waits, refused_waits, StepsPay, moves_pay, any_rise}
 use Rattle.law_moves.proofs.PacketKinds.Pays as pays
-use Rattle.law_moves.proofs.PacketKinds.Pays.{StepsPay, moves_pay, any_rise}
+use Rattle.law_role_inproxy.proofs.Vocabulary.{Connects, Handover, Before, Came, Passed, InProxyConfig, TellsServer, Told, Follows, Opener, Opening, Successor, Done, Pick, or_else, taken, refuse, unexpected, InProxy, first, channel_of, has_a5, has_come, hands_over, is_client_leg, is_server_leg, same_cookie, follows, followed, up, may_accept, accepted, wants, connected, head, drawn, announcement, first_by, put_first, put_echo, opener_of, opener, opened, kept_for, is_absent}
+use Rattle.law_role_inproxy.proofs.Vocabulary.{is_first, on_conn_b1, on_first_in_r1_a1, forward_by, forwarded, ack_due, ack_by, current_ack, next_ack, put_acks, mark, on_end_a1, put_end, settled_pick, is_newcomer, joined, join, on_later_in_r1_a1, on_in_r1_a1, on_in_r1_a5, finished, finish_by, handed_over, hand_over, told_by, one_less, put_in_r2_a2, mark_by, put_in_r1_a6, next_pdu, put_pdu, put as put_of, next, waiting_by, put_waiting, put_control, put_early, put_stream}
+use Rattle.law_role_inproxy.proofs.Vocabulary.{put_behind, put_mark, on_keep_alive, ping, put_ping, pdu, packet, on_channel, on_channel_by, on_ci, on_is, rules as proxy_rules}
 use Rattle.law_role_inproxy.proofs.Counted.InProxyOwes.{Seen, seen, Same, announced, same_head, same_pdu, same_is, same_keep_alive, same_end, same_drawn, same_settled, same_mark, same_ping, is_announced, Leads}
 
 module _ (came put : Named → Bool) (base : ℕ) (leads : Leads came put base) where

@@ -1,36 +1,17 @@
 -- behind IN_R1/A6 an in proxy puts only Pings; so each message stands in its order
-use Rattle.std.proofs.Common.{◌≡◌, ℕ, ◌&&◌, ◌||◌, Bool, true, false, true≢false, not, List, [], ◌∷◌, ◌++◌, Some, None, refl, sym, ap, ◌∙◌, subst}
-use Rattle.std.specs.declared.option.Option.{Option}
-use Rattle.rh_window.specs.declared.recv_window.Ack.{Ack}
-use Rattle.law_order.proofs.ByNumber.{by_test}
+use Rattle.law_order.proofs.Vocabulary.{◌≡◌, ℕ, ◌&&◌, ◌||◌, Bool, true, false, true≢false, not, List, [], ◌∷◌, ◌++◌, Some, None, refl, sym, ap, ◌∙◌, subst, Option}
 use Rattle.rh_sig.specs.declared.named.Named.TheVariants as named
 use Rattle.rh_line.specs.Lines as line
-use Rattle.rh_line.specs.declared.which.Which.TheVariants.{Current}
-use Rattle.rh_shell.specs.declared.due.Due.{Due}
-use Rattle.rh_shell.specs.Rules.{Message, Packet}
-use Rattle.rh_inproxy.specs.declared.state.Handover.{Handover}
 use Rattle.rh_inproxy.specs.declared.state.Handover.TheVariants as handovers
-use Rattle.rh_inproxy.specs.declared.state.InProxyConfig.{InProxyConfig}
-use Rattle.rh_inproxy.specs.declared.state.Opening.{Opening}
-use Rattle.rh_inproxy.specs.declared.state.Opening.TheVariants.{AwaitsClient, AwaitsPacket, WantsServer, Announces, Announced}
-use Rattle.rh_inproxy.specs.declared.state.Successor.{Successor}
-use Rattle.rh_inproxy.specs.declared.state.Successor.TheVariants.{Absent, Up, Joined}
-use Rattle.rh_inproxy.specs.Acknowledging.{ack_by, current_ack, next_ack, put_acks}
-use Rattle.rh_inproxy.specs.Answers.{Pick, or_else}
-use Rattle.rh_inproxy.specs.Ending.{is_announced, put_end, settled, settled_pick}
-use Rattle.rh_inproxy.specs.InReplacement.{told_by as tells_by, put_in_r2_a2, mark_by, put_in_r1_a6}
-use Rattle.rh_inproxy.specs.Opening.{first_by, put_first, has_server, is_absent}
-use Rattle.rh_inproxy.specs.Passing.{next_pdu, put_pdu}
-use Rattle.rh_inproxy.specs.Putting.{next, waiting_by, put_waiting, put_control, put_early, put_stream, put_behind, put_mark}
-use Rattle.rh_inproxy.specs.State.{InProxy, has_a5, has_come, hands_over}
-use Rattle.rh_inproxy.specs.Time.{put_ping}
-use Rattle.law_moves.specs.Moves.{OnLeg}
+use Rattle.law_moves.proofs.Vocabulary.{Ack, by_test, neither, Current, Due, Message, Packet, OnLeg}
+use Rattle.law_role_inproxy.proofs.Vocabulary.{Handover, InProxyConfig, Opening, AwaitsClient, AwaitsPacket, WantsServer, Announces, Announced, Successor, Absent, Up, Joined, ack_by, current_ack, next_ack, put_acks, Pick, or_else, is_announced, put_end, settled, settled_pick, told_by as tells_by, put_in_r2_a2, mark_by, put_in_r1_a6, first_by, put_first, has_server, is_absent, next_pdu, put_pdu, next, waiting_by, put_waiting, put_control, put_early, put_stream, put_behind}
+use Rattle.law_role_inproxy.proofs.Vocabulary.{put_mark, InProxy, has_a5, has_come, hands_over, put_ping}
 use Rattle.law_role_inproxy.proofs.Putting.Fronts.{ping_more}
 use Rattle.law_role_inproxy.proofs.Putting.Sounds.{seen, IsLeaving, IsQuiet, told, told_by, last, same_moves}
-use Rattle.law_role_inproxy.proofs.Putting.Tests.{neither, same_settled}
-use Rattle.law_role_inproxy.proofs.Putting.Stands as stands
-use Rattle.law_role_inproxy.proofs.Putting.Stands.{behind, IsAt, Stands, still, first_goes}
+use Rattle.law_role_inproxy.proofs.Putting.Tests.{same_settled}
+use Rattle.law_role_inproxy.proofs.Putting.Stands.{Stands, still, first_goes}
 use Rattle.law_role_inproxy.proofs.Putting.Goes.{unmarked_goes}
+use Rattle.law_role_inproxy.proofs.Putting.Stands as stands
 
 first_two : (a b c : Bool) → a && b && c ≡ true → a && b ≡ true
 first_two false b c e = absurd cc

@@ -1,16 +1,9 @@
 -- behind END/A2 an in proxy puts neither an RPC PDU nor END/A2
-use Rattle.std.proofs.Common.{ℕ, ◌==◌, Bool, true, false, if◌then◌else◌, List, [], ◌∷◌, ◌++◌, sym, subst}
-use Rattle.std.specs.List.{AllByRecursion}
-use Rattle.law_order.specs.Items.{Item, Piece, Stop, Handover, IsBehindEnd, IsChannel}
+use Rattle.law_order.proofs.Vocabulary.{ℕ, ◌==◌, Bool, true, false, if◌then◌else◌, List, [], ◌∷◌, ◌++◌, sym, subst, AllByRecursion, Item, IsBehindEnd, IsChannel}
 use Rattle.rh_sig.specs.declared.named.Named.TheVariants as named
-use Rattle.rh_line.specs.declared.leg.LegKind.{LegKind}
-use Rattle.rh_line.specs.declared.leg.LegKind.TheVariants.{ClientOut, OutServer, ClientIn, InServer}
-use Rattle.rh_shell.specs.Rules.{Message, Text, Pdu, Packet}
-use Rattle.law_moves.specs.Moves.{OnLeg}
-use Rattle.law_moves.specs.Wires.{of_leg}
-use Rattle.law_role_inproxy.specs.Order.{item_put, put_items}
+use Rattle.law_moves.proofs.Vocabulary.{behind_channel, LegKind, ClientOut, OutServer, ClientIn, InServer, Message, Text, Pdu, Packet, OnLeg, of_leg}
+use Rattle.law_role_inproxy.proofs.Vocabulary.{item_put, put_items, MayFollowEnd, EndsLast}
 use Rattle.law_role_inproxy.specs.Putting.Puts.{is_leg}
-use Rattle.law_role_inproxy.specs.Putting.Standing.{MayFollowEnd, EndsLast}
 
 -- ---- a message, and the items behind it
 
@@ -22,12 +15,6 @@ behind_one (Pdu pdu) items h = absurd h
 behind_one (Packet named.EndA2) items h = absurd h
 behind_one (Packet (named.InR1A6 successor)) items h = (tt, subst IsBehindEnd (sym h) tt)
 behind_one (Packet packet) items h = (tt, h)
-
-behind_channel : (items : List Item) → IsBehindEnd items → IsChannel items
-behind_channel [] h = tt
-behind_channel (Piece pdu ∷ items) h = absurd h
-behind_channel (Stop ∷ items) h = absurd h
-behind_channel (Handover ∷ items) h = h
 
 channel_rest : (m : Message) (items : List Item) → IsChannel (item_put m ++ items)
     → IsChannel items

@@ -1,28 +1,8 @@
 -- before the first packet an in proxy takes nothing else on a ci leg
-use Rattle.std.proofs.Common.{◌≡◌, ℕ, ◌==◌, ◌&&◌, ◌++◌, true, false, true≢false, List, [], ◌∷◌, Some, None, Ok, Err, refl, sym, ◌∙◌, subst}
-use Rattle.std.proofs.lemmas.Bool.{and_parts}
-use Rattle.std.specs.declared.option.Option.{Option}
-use Rattle.law_order.proofs.ByNumber.{by_test}
-use Rattle.rh_rts.specs.declared.command.Cookie.{Cookie}
-use Rattle.rh_sig.specs.declared.named.Named.{Named}
+use Rattle.law_order.proofs.Vocabulary.{◌≡◌, ℕ, ◌==◌, ◌&&◌, ◌++◌, true, false, true≢false, List, [], ◌∷◌, Some, None, Ok, Err, refl, sym, ◌∙◌, subst, and_parts, Option}
 use Rattle.rh_sig.specs.declared.named.Named.TheVariants as named
-use Rattle.rh_line.specs.declared.which.Which.{Which}
-use Rattle.rh_line.specs.declared.which.Which.TheVariants.{Current}
-use Rattle.rh_shell.specs.Rules.{Message}
-use Rattle.rh_inproxy.specs.declared.state.ClientLeg.{ClientLeg}
-use Rattle.rh_inproxy.specs.declared.state.Entry.TheVariants.{Connects}
-use Rattle.rh_inproxy.specs.declared.state.InProxyConfig.{InProxyConfig}
-use Rattle.rh_inproxy.specs.declared.state.Opening.{Opening}
-use Rattle.rh_inproxy.specs.declared.state.Opening.TheVariants.{AwaitsClient, AwaitsPacket, WantsServer, Announces, Announced}
-use Rattle.rh_inproxy.specs.declared.state.Successor.{Successor}
-use Rattle.rh_inproxy.specs.declared.state.Successor.TheVariants.{Absent, Up, Joined}
-use Rattle.rh_inproxy.specs.Answers.{Done, unexpected}
-use Rattle.rh_inproxy.specs.Ending.{is_announced}
-use Rattle.rh_inproxy.specs.InReplacement.{on_later_in_r1_a1}
-use Rattle.rh_inproxy.specs.Opening.{is_absent, is_first, opened, opener, opener_of, kept_for, on_first_in_r1_a1}
-use Rattle.rh_inproxy.specs.Machine.{pdu_by, on_channel_by, on_ci}
-use Rattle.rh_inproxy.specs.State.{InProxy, channel_of, has_opened, next_of}
-use Rattle.law_moves.specs.Moves.{OnLeg}
+use Rattle.law_moves.proofs.Vocabulary.{by_test, Cookie, Named, Which, Current, Message, OnLeg}
+use Rattle.law_role_inproxy.proofs.Vocabulary.{ClientLeg, Connects, InProxyConfig, Opening, AwaitsClient, AwaitsPacket, WantsServer, Announces, Announced, Successor, Absent, Up, Joined, Done, unexpected, is_announced, on_later_in_r1_a1, is_absent, is_first, opened, opener, opener_of, kept_for, on_first_in_r1_a1, pdu_by, on_channel_by, on_ci, InProxy, channel_of, has_opened, next_of}
 use Rattle.law_role_inproxy.proofs.Putting.Sounds.{IsOpening}
 use Rattle.law_role_inproxy.proofs.Putting.Stands.{IsAt}
 

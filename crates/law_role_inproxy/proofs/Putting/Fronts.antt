@@ -1,15 +1,10 @@
 -- what stands on the is leg, and one message more
-use Rattle.std.proofs.Common.{◌≡◌, ℕ, suc, List, [], ◌∷◌, ◌++◌, Some, None, inl, inr, refl, sym, ap, subst}
-use Rattle.std.specs.declared.option.Option.{Option}
-use Rattle.rh_sig.specs.declared.named.Named.{Named}
+use Rattle.law_order.proofs.Vocabulary.{◌≡◌, ℕ, suc, List, [], ◌∷◌, ◌++◌, Some, None, inl, inr, refl, sym, ap, subst, Option}
 use Rattle.rh_sig.specs.declared.named.Named.TheVariants as named
-use Rattle.rh_shell.specs.Rules.{Message, Text, Pdu, Packet}
-use Rattle.rh_inproxy.specs.declared.state.InProxyConfig.{InProxyConfig}
-use Rattle.law_moves.specs.Moves.{OnLeg}
-use Rattle.law_moves.specs.Wires.{of_leg}
-use Rattle.law_moves.specs.Passages.Passing.{BeginsIn, HasOne}
-use Rattle.law_moves.proofs.Passages.Messages.{all_append, leg_more, one_more_so}
-use Rattle.law_role_inproxy.specs.Putting.Puts.{ci, CameOn, CameFirst, IsFront, Acknowledges, Joins, Leaves, Switches, Connects, Replaces, IsFirst, IsPlainPacket, IsPlain, IsPing, HasPdu, IsRest, IsStream}
+use Rattle.law_moves.proofs.Vocabulary.{Named, Message, Text, Pdu, Packet, OnLeg, of_leg, BeginsIn, HasOne}
+use Rattle.law_moves.proofs.Lemmas.{all_append, leg_more, one_more_so}
+use Rattle.law_role_inproxy.proofs.Vocabulary.{InProxyConfig, ci, CameOn, CameFirst, IsFront, Acknowledges, Joins, Leaves, Switches, IsFirst, IsPlainPacket, IsPlain, IsPing, HasPdu, IsRest, IsStream}
+use Rattle.law_role_inproxy.specs.Putting.Puts.{Connects, Replaces}
 
 -- the last ci leg that the server was told, until IN_R1/A6
 abbrev pub reached : ℕ → List Message → Option ℕ
@@ -75,7 +70,7 @@ first_stays_first Is n came one h =
     subst (IsFront Is) (sym (leg_more (ci n) came one))
     (front_more Is (of_leg (ci n) came) (of_leg (ci n) (one ∷ [])) h)
 
-pdu_more : (pdu : List ℕ) (a b : List Message) → HasPdu pdu a → HasPdu pdu (a ++ b)
+pub pdu_more : (pdu : List ℕ) (a b : List Message) → HasPdu pdu a → HasPdu pdu (a ++ b)
 pdu_more pdu [] b h = absurd h
 pdu_more pdu (m ∷ a) b (inl is) = inl is
 pdu_more pdu (m ∷ a) b (inr rest) = inr (pdu_more pdu a b rest)

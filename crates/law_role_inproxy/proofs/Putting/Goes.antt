@@ -1,51 +1,21 @@
 -- before IN_R1/A6 each message that an in proxy puts on its is leg stands there in its order
-use Rattle.std.proofs.Common.{◌≡◌, ℕ, suc, ◌-◌, ◌≤◌, ◌==◌, ◌&&◌, Bool, true, false, not, if◌then◌else◌, List, [], ◌∷◌, ◌++◌, length, Some, None, inl, refl, sym, ap, ◌∙◌, subst, arith}
-use Rattle.std.proofs.lemmas.Bool.{and_parts}
-use Rattle.std.specs.declared.option.Option.{Option}
-use Rattle.rh_window.specs.Sending.{may_send, after_sent}
-use Rattle.rh_window.specs.Sides.{Sender}
-use Rattle.rh_window.specs.declared.recv_window.Ack.{Ack}
-use Rattle.law_order.proofs.ByNumber.{by_test}
-use Rattle.rh_rts.specs.declared.command.Cookie.{Cookie}
+use Rattle.law_order.proofs.Vocabulary.{◌≡◌, ℕ, suc, ◌-◌, ◌≤◌, ◌==◌, ◌&&◌, Bool, true, false, not, if◌then◌else◌, List, [], ◌∷◌, ◌++◌, length, Some, None, inl, refl, sym, ap, ◌∙◌, subst, arith, and_parts, Option}
 use Rattle.rh_sig.specs.declared.named.Named.TheVariants as named
 use Rattle.rh_line.specs.Lines as line
-use Rattle.rh_line.specs.declared.which.Which.{Which}
-use Rattle.rh_line.specs.declared.which.Which.TheVariants.{Current, Next}
-use Rattle.rh_shell.specs.declared.due.Due.{Due}
-use Rattle.rh_shell.specs.Rules.{Message, Pdu, Packet}
 use Rattle.rh_shell.specs.Waiting as waiting
-use Rattle.rh_inproxy.specs.declared.state.ClientLeg.{ClientLeg}
-use Rattle.rh_inproxy.specs.declared.state.Handover.{Handover}
 use Rattle.rh_inproxy.specs.declared.state.Handover.TheVariants as handovers
-use Rattle.rh_inproxy.specs.declared.state.InProxyConfig.{InProxyConfig}
-use Rattle.rh_inproxy.specs.declared.state.Joining.TheVariants.{TellsServer, Told, Follows}
-use Rattle.rh_inproxy.specs.declared.state.Opening.{Opening}
-use Rattle.rh_inproxy.specs.declared.state.Opening.TheVariants.{AwaitsClient, AwaitsPacket, WantsServer, Announces, Announced}
-use Rattle.rh_inproxy.specs.declared.state.Successor.{Successor}
-use Rattle.rh_inproxy.specs.declared.state.Successor.TheVariants.{Absent, Up, Joined}
-use Rattle.rh_inproxy.specs.Acknowledging.{ack_due, ack_by, current_ack, next_ack, put_acks}
-use Rattle.rh_inproxy.specs.Answers.{Pick, or_else}
-use Rattle.rh_inproxy.specs.Ending.{is_announced, put_end}
-use Rattle.rh_inproxy.specs.InReplacement.{told_by as tells_by, one_less, put_in_r2_a2, mark_by, put_in_r1_a6}
-use Rattle.rh_inproxy.specs.Opening.{put_first, is_absent}
-use Rattle.rh_inproxy.specs.Passing.{next_pdu, passed, put_pdu}
-use Rattle.rh_inproxy.specs.Putting.{next, waiting_by, put_waiting, put_control, put_early, put_stream, put_behind, put_mark}
-use Rattle.rh_inproxy.specs.State.{InProxy, followed}
-use Rattle.rh_inproxy.specs.Time.{put_ping}
-use Rattle.law_moves.specs.Moves.{OnLeg}
-use Rattle.law_moves.specs.Passages.Passing.{BeginsIn}
-use Rattle.law_role_inproxy.specs.Putting.Puts.{Came, IsPlain}
+use Rattle.law_moves.proofs.Vocabulary.{may_send, after_sent, Sender, Ack, by_test, Cookie, Which, Current, Next, Due, Message, Pdu, Packet, OnLeg, BeginsIn}
+use Rattle.law_role_inproxy.proofs.Vocabulary.{ClientLeg, Handover, InProxyConfig, TellsServer, Told, Follows, Opening, AwaitsClient, AwaitsPacket, WantsServer, Announces, Announced, Successor, Absent, Up, Joined, ack_due, ack_by, current_ack, next_ack, put_acks, Pick, or_else, is_announced, put_end, told_by as tells_by, one_less, put_in_r2_a2, mark_by, put_in_r1_a6, put_first, is_absent, next_pdu, passed, put_pdu, next, waiting_by, put_waiting, put_control, put_early}
+use Rattle.law_role_inproxy.proofs.Vocabulary.{put_stream, put_behind, put_mark, InProxy, followed, put_ping, IsPlain}
 use Rattle.law_role_inproxy.proofs.Putting.Fronts.{plain_first, more_at}
 use Rattle.law_role_inproxy.proofs.Putting.Sounds.{seen, Same, Sound, Moves, IsOpening, HasBegun, IsLeaving, IsQuiet, Held, Waits, told, told_by, last, begins, same_moves, moves_on, settles}
 use Rattle.law_role_inproxy.proofs.Putting.Tests.{joined_any, finishing}
+use Rattle.law_role_inproxy.proofs.Putting.Stands.{Stands}
+use Rattle.law_role_inproxy.proofs.OrderKeeps.{nothing_there}
 use Rattle.law_role_inproxy.proofs.Putting.Stands as stands
-use Rattle.law_role_inproxy.proofs.Putting.Stands.{behind, IsAt, Stands, still, first_goes}
+use Rattle.law_role_inproxy.specs.Putting.Puts.{Came}
 
 -- ---- tests
-
-nothing_there : (pdus : List (List ℕ)) → line.is_empty pdus ≡ true → pdus ≡ []
-nothing_there [] e = refl
-nothing_there (pdu ∷ pdus) e = absurd cc
 
 no_end_due : (ended end_put empty : Bool) → empty ≡ true → ended && not end_put && empty ≡ false
     → ended && not end_put ≡ false
@@ -54,15 +24,15 @@ no_end_due true true empty e f = refl
 no_end_due true false true e f = absurd cc
 no_end_due true false false e f = absurd cc
 
-no_other : (a b : Pick) → or_else a b ≡ None → (a ≡ None) × (b ≡ None)
+pub no_other : (a b : Pick) → or_else a b ≡ None → (a ≡ None) × (b ≡ None)
 no_other None b e = (refl, e)
 no_other (Some pick) b e = absurd cc
 
-none_waits : (s : InProxy) (dues : List Due) → waiting_by s dues ≡ None → dues ≡ []
+pub none_waits : (s : InProxy) (dues : List Due) → waiting_by s dues ≡ None → dues ≡ []
 none_waits s [] e = refl
 none_waits s (due ∷ dues) e = absurd cc
 
-none_so : {X : Type 0} (b : Bool) (x : X) → (if b then Some x else None) ≡ None → b ≡ false
+pub none_so : {X : Type 0} (b : Bool) (x : X) → (if b then Some x else None) ≡ None → b ≡ false
 none_so true x e = absurd cc
 none_so false x e = refl
 

@@ -1,32 +1,10 @@
 -- what an in proxy puts on its is leg, whatever happens
-use Rattle.std.proofs.Common.{◌≡◌, ℕ, ◌==◌, Bool, true, false, true≢false, if◌then◌else◌, List, [], ◌∷◌, ◌++◌, Some, None, Ok, Err, refl, sym, ap, ◌∙◌, subst}
-use Rattle.std.proofs.lemmas.Bool.{and_parts}
-use Rattle.std.proofs.lemmas.List.{append-nil}
-use Rattle.law_order.proofs.ByNumber.{by_test, same_number, test_same}
-use Rattle.rh_sig.specs.declared.named.Named.{Named}
-use Rattle.rh_line.specs.declared.leg.Leg.{Leg}
-use Rattle.rh_line.specs.declared.leg.LegKind.{LegKind}
-use Rattle.rh_line.specs.declared.leg.LegKind.TheVariants.{ClientOut, OutServer, ClientIn, InServer}
-use Rattle.rh_shell.specs.Rules.{Message, Text, Pdu, Packet}
-use Rattle.rh_shell.specs.Shells.{same_leg}
-use Rattle.rh_inproxy.specs.declared.state.InProxyConfig.{InProxyConfig}
-use Rattle.rh_inproxy.specs.declared.state.Work.{Work}
+use Rattle.law_order.proofs.Vocabulary.{◌≡◌, ℕ, ◌==◌, Bool, true, false, true≢false, if◌then◌else◌, List, [], ◌∷◌, ◌++◌, Some, None, Ok, Err, refl, sym, ap, ◌∙◌, subst, and_parts, append-nil}
 use Rattle.rh_inproxy.specs.declared.state.Work.TheVariants as works
-use Rattle.rh_inproxy.specs.Answers.{Done, Pick, unexpected}
-use Rattle.rh_inproxy.specs.Ending.{mark, settled_pick}
-use Rattle.rh_inproxy.specs.Opening.{up, head, drawn, was_up, echo_by, echo_answer, has_server, is_absent}
-use Rattle.rh_inproxy.specs.Putting.{next}
 use Rattle.rh_inproxy.specs.Putting as putting
-use Rattle.rh_inproxy.specs.State.{InProxy, channel_of, first, has_opened, is_client_leg, is_server_leg}
-use Rattle.rh_inproxy.specs.Time.{ping}
-use Rattle.rh_inproxy.specs.Machine.{pdu, pdu_by, packet, on_ci, on_is}
-use Rattle.rh_inproxy.specs.Machine.{rules as proxy_rules}
-use Rattle.law_moves.specs.Moves.{OnLeg, Move, Up, HeadCame, PduCame, PacketCame, Puts, IsDrawn, Marks, Pings, Passage, started, moved, all_moved, taken_by, put_by}
-use Rattle.law_moves.specs.Wires.{of_leg}
-use Rattle.law_moves.specs.Passages.Passing.{HasOne}
-use Rattle.law_moves.proofs.Passages.Logs.{PutKeeps}
-use Rattle.law_moves.proofs.Passages.Messages.{leg_more, last_one_so}
-use Rattle.law_role_inproxy.specs.Putting.Puts.{ci, is_leg, CameFirst, CameOn, HasPdu, IsFront, IsPutUp, ArePutUp, PutsInOrder}
+use Rattle.law_moves.proofs.Vocabulary.{by_test, same_number, test_same, Named, Leg, LegKind, ClientOut, OutServer, ClientIn, InServer, Message, Text, Pdu, Packet, same_leg, OnLeg, Move, Up, HeadCame, PduCame, PacketCame, Puts, IsDrawn, Marks, Pings, Passage, started, moved, all_moved, taken_by, put_by, of_leg, HasOne}
+use Rattle.law_moves.proofs.Lemmas.{PutKeeps, leg_more, last_one_so}
+use Rattle.law_role_inproxy.proofs.Vocabulary.{InProxyConfig, Work, Done, Pick, unexpected, mark, settled_pick, up, head, drawn, was_up, echo_by, echo_answer, has_server, is_absent, next, InProxy, channel_of, first, has_opened, is_client_leg, is_server_leg, ping, pdu, pdu_by, packet, on_ci, on_is, rules as proxy_rules, ci, CameFirst, CameOn, HasPdu, IsFront, IsPutUp, ArePutUp, PutsInOrder}
 use Rattle.law_role_inproxy.proofs.Putting.Fronts.{last_pdu, stream_stays}
 use Rattle.law_role_inproxy.proofs.Putting.Sounds.{seen, Moves, sound_stays, same_moves}
 use Rattle.law_role_inproxy.proofs.Putting.Ups.{up_moves, head_moves, drawn_moves, mark_moves, ping_moves}
@@ -34,6 +12,7 @@ use Rattle.law_role_inproxy.proofs.Putting.Rows.{Row, pdu_row, packet_row}
 use Rattle.law_role_inproxy.proofs.Putting.Stands.{Stands, Goes, still}
 use Rattle.law_role_inproxy.proofs.Putting.Behind.{server_goes}
 use Rattle.law_role_inproxy.proofs.Putting.Fresh.{Takes, new_alone, new_nothing, pdu_takes, ci_takes}
+use Rattle.law_role_inproxy.specs.Putting.Puts.{is_leg}
 
 -- ---- a message more
 
@@ -43,7 +22,7 @@ more_by leg log one b e =
     leg_more leg log one
     ∙ ap (λ (t : Bool). of_leg leg log ++ (if t then one.1 ∷ [] else [])) e
 
-here_came : (n : ℕ) (kind : LegKind) (log : List OnLeg) (m : Named)
+pub here_came : (n : ℕ) (kind : LegKind) (log : List OnLeg) (m : Named)
     → is_client_leg (record { kind = kind; number = n }) ≡ true → (Is : Named → Type 0) → Is m
     → CameOn n Is (log ++ (record { kind = kind; number = n }, Packet m) ∷ [])
 here_came n ClientIn log m e Is is =
@@ -75,7 +54,7 @@ other_leg n k ClientOut e = refl
 other_leg n k OutServer e = refl
 other_leg n k InServer e = refl
 
-pdu_came : (n : ℕ) (kind : LegKind) (log : List OnLeg) (pdu : List ℕ)
+pub pdu_came : (n : ℕ) (kind : LegKind) (log : List OnLeg) (pdu : List ℕ)
     → is_client_leg (record { kind = kind; number = n }) ≡ true
     → HasPdu pdu (of_leg (ci n) (log ++ (record { kind = kind; number = n }, Pdu pdu) ∷ []))
 pdu_came n ClientIn log pdu e =

@@ -1,18 +1,7 @@
 -- what is so of each message that an in proxy may put, kind by kind, is so of the one that it puts
-use Rattle.std.proofs.Common.{ℕ, if◌then◌else◌, Some, None}
-use Rattle.std.specs.Prelude.{IfSome}
-use Rattle.law_order.proofs.ByNumber.{by_test}
-use Rattle.rh_line.specs.declared.leg.Leg.{Leg}
-use Rattle.rh_shell.specs.Rules.{Message}
-use Rattle.rh_inproxy.specs.Acknowledging.{current_ack, next_ack, put_acks}
-use Rattle.rh_inproxy.specs.Answers.{Pick, or_else}
-use Rattle.rh_inproxy.specs.Ending.{put_end, settled, settled_pick}
-use Rattle.rh_inproxy.specs.InReplacement.{put_in_r1_a6, put_in_r2_a2}
-use Rattle.rh_inproxy.specs.Opening.{put_echo, put_first}
-use Rattle.rh_inproxy.specs.Passing.{put_pdu}
-use Rattle.rh_inproxy.specs.Putting.{put as put_of, next, put_behind, put_control, put_early, put_mark, put_stream, put_waiting}
-use Rattle.rh_inproxy.specs.State.{InProxy, is_client_leg, is_server_leg}
-use Rattle.rh_inproxy.specs.Time.{put_ping}
+use Rattle.law_order.proofs.Vocabulary.{ℕ, if◌then◌else◌, Some, None, IfSome}
+use Rattle.law_moves.proofs.Vocabulary.{by_test, Leg, Message}
+use Rattle.law_role_inproxy.proofs.Vocabulary.{current_ack, next_ack, put_acks, Pick, or_else, put_end, settled, settled_pick, put_in_r1_a6, put_in_r2_a2, put_echo, put_first, put_pdu, put as put_of, next, put_behind, put_control, put_early, put_mark, put_stream, put_waiting, InProxy, is_client_leg, is_server_leg, put_ping}
 
 module _ (P : InProxy × Message → Type 0) where
   abbrev pub So : Pick → Type 0

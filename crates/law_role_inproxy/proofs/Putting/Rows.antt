@@ -1,57 +1,21 @@
 -- what comes to an in proxy changes nothing on its is leg, and is known
-use Rattle.std.proofs.Common.{◌≡◌, ℕ, suc, ◌==◌, ◌&&◌, ◌||◌, Bool, true, false, not, if◌then◌else◌, List, [], ◌∷◌, ◌++◌, length, Some, None, Ok, Err, inr, refl, sym, ap, ◌∙◌, subst}
-use Rattle.std.proofs.lemmas.Bool.{and_parts}
-use Rattle.std.specs.declared.option.Option.{Option}
-use Rattle.std.specs.Prelude.{is_ok}
-use Rattle.std.specs.declared.result.Result.{Result}
 use Rattle.rh_window.specs.Receiving as windows
-use Rattle.law_order.proofs.ByNumber.{by_test, same_number}
-use Rattle.rh_rts.specs.declared.command.Cookie.{Cookie}
-use Rattle.rh_sig.specs.declared.named.Named.{Named}
+use Rattle.law_order.proofs.Vocabulary.{◌≡◌, ℕ, suc, ◌==◌, ◌&&◌, ◌||◌, Bool, true, false, not, if◌then◌else◌, List, [], ◌∷◌, ◌++◌, length, Some, None, Ok, Err, inr, refl, sym, ap, ◌∙◌, subst, and_parts, Option, is_ok, Result}
 use Rattle.rh_sig.specs.declared.named.Named.TheVariants as named
 use Rattle.rh_line.specs.Lines as line
-use Rattle.rh_line.specs.Lines.{Incoming}
-use Rattle.rh_line.specs.declared.line_fault.LineFault.{LineFault}
-use Rattle.rh_line.specs.declared.line_fault.LineFault.TheVariants.{Window, Over}
-use Rattle.rh_line.specs.declared.leg.Leg.{Leg}
-use Rattle.rh_line.specs.declared.which.Which.{Which}
-use Rattle.rh_line.specs.declared.which.Which.TheVariants.{Current, Next}
-use Rattle.rh_shell.specs.declared.answers.Count.{Count}
-use Rattle.rh_shell.specs.declared.answers.Refused.{Refused}
 use Rattle.rh_shell.specs.declared.answers.Refused.TheVariants as refused
-use Rattle.rh_shell.specs.declared.due.Due.{Due}
-use Rattle.rh_shell.specs.declared.due.Origin.TheVariants.{Forwarded}
 use Rattle.rh_shell.specs.Waiting as waiting
 use Rattle.rh_inproxy.specs.Passing as passing
 use Rattle.rh_inproxy.specs.Machine as machine
-use Rattle.rh_inproxy.specs.declared.state.ClientLeg.{ClientLeg}
 use Rattle.rh_inproxy.specs.declared.state.Handover.TheVariants as handovers
-use Rattle.rh_inproxy.specs.declared.state.InProxyConfig.{InProxyConfig}
-use Rattle.rh_inproxy.specs.declared.state.Joining.TheVariants.{TellsServer, Told, Follows}
-use Rattle.rh_inproxy.specs.declared.state.Opener.{Opener}
-use Rattle.rh_inproxy.specs.declared.state.Opening.{Opening}
-use Rattle.rh_inproxy.specs.declared.state.Opening.TheVariants.{AwaitsClient, AwaitsPacket, WantsServer, Announces, Announced}
-use Rattle.rh_inproxy.specs.declared.state.Successor.{Successor}
-use Rattle.rh_inproxy.specs.declared.state.Successor.TheVariants.{Absent, Up, Joined}
-use Rattle.rh_inproxy.specs.Answers.{Done, taken, refuse, unexpected}
-use Rattle.rh_inproxy.specs.Acknowledging.{forward_by, forwarded}
-use Rattle.rh_inproxy.specs.Ending.{is_announced, has_later, on_end_a1}
-use Rattle.rh_inproxy.specs.InReplacement.{is_newcomer, joined, join, on_later_in_r1_a1, on_in_r1_a5, finished, finish_by, handed_over, hand_over}
-use Rattle.rh_inproxy.specs.Opening.{is_first, awaits_packet, opened, opener, opener_of, kept_for, leg_of, on_first_in_r1_a1}
-use Rattle.rh_inproxy.specs.State.{InProxy, channel_of, has_a5, has_come, has_opened, hands_over, is_client_leg, is_joined, is_server_leg, next_of, same_cookie}
-use Rattle.rh_inproxy.specs.Time.{on_keep_alive}
-use Rattle.rh_inproxy.specs.Machine.{pdu, packet, on_channel, on_channel_by, on_ci, on_is}
-use Rattle.rh_inproxy.specs.declared.opening.TheConstants.{KEEPALIVE}
-use Rattle.rh_inproxy.specs.declared.state.Entry.TheVariants.{Connects, Replaces}
-use Rattle.law_moves.specs.Wires.{of_leg}
-use Rattle.law_moves.proofs.Passages.Messages.{all_append}
-use Rattle.law_moves.specs.Moves.{OnLeg}
-use Rattle.law_moves.specs.Passages.Passing.{BeginsIn}
-use Rattle.law_role_inproxy.specs.Putting.Puts as puts
-use Rattle.law_role_inproxy.specs.Putting.Puts.{CameOn, CameFirst, HasPdu, Joins, Leaves, Switches, Acknowledges, IsPlainPacket}
-use Rattle.law_role_inproxy.proofs.Putting.Waiting as waits
+use Rattle.law_moves.proofs.Vocabulary.{by_test, same_number, neither, Cookie, Named, Incoming, LineFault, Window, Over, Leg, Which, Current, Next, Count, Refused, Due, Forwarded, of_leg, OnLeg, BeginsIn}
+use Rattle.law_moves.proofs.Lemmas.{all_append}
+use Rattle.law_role_inproxy.proofs.Vocabulary.{ClientLeg, InProxyConfig, TellsServer, Told, Follows, Opener, Opening, AwaitsClient, AwaitsPacket, WantsServer, Announces, Announced, Successor, Absent, Up, Joined, Done, taken, refuse, unexpected, forward_by, forwarded, is_announced, has_later, on_end_a1, is_newcomer, joined, join, on_later_in_r1_a1, on_in_r1_a5, finished, finish_by, handed_over, hand_over, is_first, awaits_packet, opened, opener, opener_of, kept_for, leg_of}
+use Rattle.law_role_inproxy.proofs.Vocabulary.{on_first_in_r1_a1, InProxy, channel_of, has_a5, has_come, has_opened, hands_over, is_client_leg, is_joined, is_server_leg, next_of, same_cookie, on_keep_alive, pdu, packet, on_channel, on_channel_by, on_ci, on_is, KEEPALIVE, Connects, Replaces, CameOn, CameFirst, HasPdu, Joins, Leaves, Switches, Acknowledges, IsPlainPacket}
 use Rattle.law_role_inproxy.proofs.Putting.Sounds.{seen, Same, Sound, Moves, IsOpener, IsOpening, IsLeaving, IsNext, IsQuiet, told_by, same_moves, moves_on, settles}
-use Rattle.law_role_inproxy.proofs.Putting.Tests.{same_keep_alive, same_is, not_so, awaits_is, opened_any, joining, finishing, joined_any, leaving_next, uncome, unpassed, neither, none_of, same_told, untold}
+use Rattle.law_role_inproxy.proofs.Putting.Tests.{same_keep_alive, same_is, not_so, awaits_is, opened_any, joining, finishing, joined_any, leaving_next, uncome, unpassed, none_of, same_told, untold}
+use Rattle.law_role_inproxy.proofs.Putting.Waiting as waits
+use Rattle.law_role_inproxy.specs.Putting.Puts as puts
 
 -- ---- rows
 

@@ -1,35 +1,12 @@
 -- an in proxy puts an RPC PDU on its is leg only where the server told its window there
-use Rattle.std.proofs.Common.{◌⊎◌, ℕ, ◌+◌, ◌≤◌, ◌&&◌, Bool, true, false, inl, inr, if◌then◌else◌, List, [], ◌∷◌, ◌++◌, length, Some, None, Ok, Err, refl, sym, ap, ◌∙◌, subst, arith}
-use Rattle.law_order.proofs.ByNumber.{by_test, same_number, test_same}
-use Rattle.rh_pdu.specs.Frames.{IsPdu}
-use Rattle.rh_sig.specs.declared.named.Named.{Named}
+use Rattle.law_order.proofs.Vocabulary.{◌⊎◌, ℕ, ◌+◌, ◌≤◌, ◌&&◌, Bool, true, false, inl, inr, if◌then◌else◌, List, [], ◌∷◌, ◌++◌, length, Some, None, Ok, Err, refl, sym, ap, ◌∙◌, subst, arith}
 use Rattle.rh_sig.specs.declared.named.Named.TheVariants as named
-use Rattle.rh_line.specs.declared.leg.Leg.{Leg}
-use Rattle.rh_line.specs.declared.leg.LegKind.{LegKind}
-use Rattle.rh_line.specs.declared.leg.LegKind.TheVariants.{ClientOut, OutServer, ClientIn, InServer}
-use Rattle.rh_shell.specs.declared.answers.Count.{Count}
-use Rattle.rh_shell.specs.Rules.{Message, Pdu, Packet}
-use Rattle.rh_shell.specs.Shells.{same_leg}
-use Rattle.rh_inproxy.specs.declared.state.InProxyConfig.{InProxyConfig}
-use Rattle.rh_inproxy.specs.Answers.{Done, Pick, unexpected}
-use Rattle.rh_inproxy.specs.Acknowledging.{on_ack}
-use Rattle.rh_inproxy.specs.Ending.{mark}
-use Rattle.rh_inproxy.specs.InReplacement.{on_in_r1_b1}
-use Rattle.rh_inproxy.specs.Opening.{drawn, head, is_connection, is_replacement, is_unknown, opener_of, up, with_edge}
-use Rattle.rh_inproxy.specs.Putting.{put as put_of}
-use Rattle.rh_inproxy.specs.State.{InProxy, first, is_server_leg}
-use Rattle.rh_inproxy.specs.Time.{ping}
-use Rattle.rh_inproxy.specs.Machine.{on_ci, on_is, packet, pdu}
-use Rattle.rh_inproxy.specs.Machine.{rules as proxy_rules}
-use Rattle.law_moves.specs.Passages.Passing.{count_of}
-use Rattle.law_moves.proofs.Passages.Logs.{RowKeeps, PutKeeps}
-use Rattle.law_moves.proofs.Passages.Messages.{count_append, count_rises, leg_more}
-use Rattle.law_moves.specs.Moves.{OnLeg, Move, Up, HeadCame, PduCame, PacketCame, Puts, IsDrawn, Marks, Pings, MayMove, AreAllowed, Passage, started, moved, all_moved, taken_by, put_by}
-use Rattle.law_moves.specs.Wires.{of_leg}
-use Rattle.law_role_inproxy.specs.Putting.Puts.{ci, is_leg, HasPdu}
-use Rattle.law_role_inproxy.specs.Putting.Standing.{is_conn_b3, is_in_r1_b2, SendsWhereTold}
+use Rattle.law_moves.proofs.Vocabulary.{by_test, same_number, test_same, IsPdu, Named, Leg, LegKind, ClientOut, OutServer, ClientIn, InServer, Count, Message, Pdu, Packet, same_leg, count_of, OnLeg, Move, Up, HeadCame, PduCame, PacketCame, Puts, IsDrawn, Marks, Pings, MayMove, AreAllowed, Passage, started, moved, all_moved, taken_by, put_by, of_leg}
+use Rattle.law_moves.proofs.Lemmas.{RowKeeps, PutKeeps, count_append, count_rises, leg_more}
+use Rattle.law_role_inproxy.proofs.Vocabulary.{InProxyConfig, Done, Pick, unexpected, on_ack, mark, on_in_r1_b1, drawn, head, is_connection, is_replacement, is_unknown, opener_of, up, with_edge, put as put_of, InProxy, first, is_server_leg, ping, on_ci, on_is, packet, pdu, rules as proxy_rules, ci, HasPdu, is_conn_b3, is_in_r1_b2, SendsWhereTold}
 use Rattle.law_role_inproxy.proofs.Putting.Laws.{more_by}
 use Rattle.law_role_inproxy.proofs.Putting.Windows.{Alike, IsFair, IsSent, PickFair, told_later, alike_fair, alike_up, alike_head, alike_let_go, alike_drawn, alike_mark, alike_ping, ack_fair, ci_fair, pdu_fair, puts_fair}
+use Rattle.law_role_inproxy.specs.Putting.Puts.{is_leg}
 
 pdu_split : (pdu : List ℕ) (a b : List Message) → HasPdu pdu (a ++ b)
     → HasPdu pdu a ⊎ HasPdu pdu b

@@ -1,37 +1,12 @@
 -- what is known of an in proxy and of what came
-use Rattle.std.proofs.Common.{◌≡◌, ℕ, suc, ◌&&◌, Bool, true, false, true≢false, not, List, [], ◌∷◌, ◌++◌, Some, None, refl, sym, ap, ◌∙◌, subst, rules}
-use Rattle.std.proofs.lemmas.Bool.{and_parts}
-use Rattle.std.specs.declared.option.Option.{Option}
-use Rattle.std.specs.List.{AllByRecursion}
-use Rattle.law_order.proofs.ByNumber.{by_test}
-use Rattle.rh_sig.specs.declared.named.Named.{Named}
+use Rattle.law_order.proofs.Vocabulary.{◌≡◌, ℕ, suc, ◌&&◌, Bool, true, false, true≢false, not, List, [], ◌∷◌, ◌++◌, Some, None, refl, sym, ap, ◌∙◌, subst, rules, and_parts, Option, AllByRecursion}
 use Rattle.rh_line.specs.Lines as line
-use Rattle.rh_line.specs.Lines.{Line}
-use Rattle.rh_shell.specs.declared.due.Due.{Due}
-use Rattle.rh_shell.specs.Waiting.{Waiting}
-use Rattle.rh_inproxy.specs.declared.state.ClientLeg.{ClientLeg}
-use Rattle.rh_inproxy.specs.declared.state.Entry.{Entry}
-use Rattle.rh_inproxy.specs.declared.state.Entry.TheVariants.{Connects, Replaces}
-use Rattle.rh_inproxy.specs.declared.state.Handover.{Handover}
 use Rattle.rh_inproxy.specs.declared.state.Handover.TheVariants as handovers
-use Rattle.rh_inproxy.specs.declared.state.InProxyConfig.{InProxyConfig}
-use Rattle.rh_inproxy.specs.declared.state.Joining.TheVariants.{TellsServer, Told, Follows}
-use Rattle.rh_inproxy.specs.declared.state.Opener.{Opener}
-use Rattle.rh_inproxy.specs.declared.state.Opening.{Opening}
-use Rattle.rh_inproxy.specs.declared.state.Opening.TheVariants.{AwaitsClient, AwaitsPacket, WantsServer, Announces, Announced}
-use Rattle.rh_inproxy.specs.declared.state.Successor.{Successor}
-use Rattle.rh_inproxy.specs.declared.state.Successor.TheVariants.{Absent, Up, Joined}
-use Rattle.rh_inproxy.specs.Ending.{is_announced, is_succeeded}
-use Rattle.rh_inproxy.specs.Opening.{is_absent}
-use Rattle.rh_inproxy.specs.State.{InProxy, has_opened, is_joined, follows, followed}
-use Rattle.law_moves.specs.Moves.{OnLeg}
-use Rattle.law_moves.specs.Wires.{of_leg}
-use Rattle.law_moves.specs.Passages.Passing.{BeginsIn}
-use Rattle.law_moves.proofs.Passages.Messages.{one_so}
-use Rattle.law_moves.proofs.Passages.Messages.{each_so}
-use Rattle.law_role_inproxy.specs.Putting.Puts as puts
-use Rattle.law_role_inproxy.specs.Putting.Puts.{CameOn, CameFirst, HasPdu, Joins, Leaves, IsPlainPacket}
+use Rattle.law_moves.proofs.Vocabulary.{by_test, Named, Line, Due, Waiting, OnLeg, of_leg, BeginsIn}
+use Rattle.law_moves.proofs.Lemmas.{one_so, each_so}
+use Rattle.law_role_inproxy.proofs.Vocabulary.{ClientLeg, Entry, Connects, Replaces, Handover, InProxyConfig, TellsServer, Told, Follows, Opener, Opening, AwaitsClient, AwaitsPacket, WantsServer, Announces, Announced, Successor, Absent, Up, Joined, is_announced, is_succeeded, is_absent, InProxy, has_opened, is_joined, follows, followed, CameOn, CameFirst, HasPdu, Joins, Leaves, IsPlainPacket}
 use Rattle.law_role_inproxy.proofs.Putting.Fronts.{came_stays, first_stays_first, packet_stays, pdu_stays}
+use Rattle.law_role_inproxy.specs.Putting.Puts as puts
 
 -- what the facts are about
 pub record Seen : Type 0 where

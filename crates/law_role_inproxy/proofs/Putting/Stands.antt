@@ -1,20 +1,7 @@
 -- what stands on the is leg of an in proxy, with its first packet
-use Rattle.std.proofs.Common.{◌≡◌, ℕ, Bool, true, false, List, [], ◌∷◌, ◌++◌, Some, None, refl, sym, ap, ◌∙◌, subst}
-use Rattle.std.specs.Prelude.{IfSome}
-use Rattle.rh_rts.specs.declared.command.Address4or16.TheVariants.{V4}
-use Rattle.rh_shell.specs.Rules.{Message, Packet}
-use Rattle.rh_inproxy.specs.declared.state.Entry.{Entry}
-use Rattle.rh_inproxy.specs.declared.state.Entry.TheVariants.{Connects, Replaces}
-use Rattle.rh_inproxy.specs.declared.state.InProxyConfig.{InProxyConfig}
-use Rattle.rh_inproxy.specs.declared.state.Opener.{Opener}
-use Rattle.rh_inproxy.specs.declared.state.Opening.{Opening}
-use Rattle.rh_inproxy.specs.declared.state.Opening.TheVariants.{AwaitsClient, AwaitsPacket, WantsServer, Announces, Announced}
-use Rattle.rh_inproxy.specs.Answers.{Pick, or_else}
-use Rattle.rh_inproxy.specs.Ending.{is_announced}
-use Rattle.rh_inproxy.specs.Opening.{announcement, first_by}
-use Rattle.rh_inproxy.specs.State.{InProxy}
-use Rattle.law_moves.specs.Moves.{OnLeg}
-use Rattle.law_role_inproxy.specs.Putting.Puts.{IsFirst, IsRest, IsStream}
+use Rattle.law_order.proofs.Vocabulary.{◌≡◌, ℕ, Bool, true, false, List, [], ◌∷◌, ◌++◌, Some, None, refl, sym, ap, ◌∙◌, subst, IfSome}
+use Rattle.law_moves.proofs.Vocabulary.{V4, Message, Packet, OnLeg}
+use Rattle.law_role_inproxy.proofs.Vocabulary.{Entry, Connects, Replaces, InProxyConfig, Opener, Opening, AwaitsClient, AwaitsPacket, WantsServer, Announces, Announced, Pick, or_else, is_announced, announcement, first_by, InProxy, IsFirst, IsRest, IsStream}
 use Rattle.law_role_inproxy.proofs.Putting.Fronts.{reached}
 use Rattle.law_role_inproxy.proofs.Putting.Sounds.{seen, Sound, Moves, IsOpener, IsOpening, last}
 

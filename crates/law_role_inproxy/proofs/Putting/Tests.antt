@@ -1,30 +1,9 @@
 -- what leaves the facts of an in proxy alone, and what tests tell of them
-use Rattle.std.proofs.Common.{◌≡◌, ℕ, suc, ◌&&◌, ◌||◌, Bool, true, false, not, if◌then◌else◌, List, refl, ◌∙◌, rules}
-use Rattle.law_order.proofs.ByNumber.{by_test}
-use Rattle.rh_rts.specs.declared.command.Cookie.{Cookie}
-use Rattle.rh_sig.specs.declared.named.Named.{Named}
+use Rattle.law_order.proofs.Vocabulary.{◌≡◌, ℕ, suc, ◌&&◌, ◌||◌, Bool, true, false, not, if◌then◌else◌, List, refl, ◌∙◌, rules}
 use Rattle.rh_sig.specs.declared.named.Named.TheVariants as named
-use Rattle.rh_line.specs.declared.leg.Leg.{Leg}
-use Rattle.rh_line.specs.declared.which.Which.{Which}
-use Rattle.rh_shell.specs.declared.due.Due.{Due}
-use Rattle.rh_inproxy.specs.declared.state.ClientLeg.{ClientLeg}
-use Rattle.rh_inproxy.specs.declared.state.Handover.{Handover}
 use Rattle.rh_inproxy.specs.declared.state.Handover.TheVariants as handovers
-use Rattle.rh_inproxy.specs.declared.state.InProxyConfig.{InProxyConfig}
-use Rattle.rh_inproxy.specs.declared.state.Joining.{Joining}
-use Rattle.rh_inproxy.specs.declared.state.Opening.{Opening}
-use Rattle.rh_inproxy.specs.declared.state.Opening.TheVariants.{AwaitsClient, AwaitsPacket, WantsServer, Announces, Announced}
-use Rattle.rh_inproxy.specs.declared.state.Successor.{Successor}
-use Rattle.rh_inproxy.specs.declared.state.Successor.TheVariants.{Absent, Up, Joined}
-use Rattle.rh_inproxy.specs.Acknowledging.{on_ack}
-use Rattle.rh_inproxy.specs.Ending.{is_newest, is_succeeded, mark, settled}
-use Rattle.rh_inproxy.specs.InReplacement.{on_in_r1_b1, on_in_r1_b2}
-use Rattle.rh_inproxy.specs.Opening.{head, drawn, is_absent, awaits_packet, on_conn_b3}
-use Rattle.rh_inproxy.specs.State.{InProxy, has_come, has_opened, hands_over, is_joined}
-use Rattle.rh_inproxy.specs.Time.{on_keep_alive, ping}
-use Rattle.rh_inproxy.specs.Machine.{on_is}
-use Rattle.law_moves.specs.Moves.{OnLeg}
-use Rattle.law_role_inproxy.specs.Putting.Puts.{CameOn, Leaves}
+use Rattle.law_moves.proofs.Vocabulary.{by_test, Cookie, Named, Leg, Which, Due, OnLeg}
+use Rattle.law_role_inproxy.proofs.Vocabulary.{ClientLeg, Handover, InProxyConfig, Joining, Opening, AwaitsClient, AwaitsPacket, WantsServer, Announces, Announced, Successor, Absent, Up, Joined, on_ack, is_newest, is_succeeded, mark, settled, on_in_r1_b1, on_in_r1_b2, head, drawn, is_absent, awaits_packet, on_conn_b3, InProxy, has_come, has_opened, hands_over, is_joined, on_keep_alive, ping, on_is, CameOn, Leaves}
 use Rattle.law_role_inproxy.proofs.Putting.Sounds.{Same, IsOpening, IsLeaving, IsQuiet, told_by}
 
 -- ---- what leaves the facts alone
@@ -158,10 +137,6 @@ unpassed came n z (handovers.Came cookie) dues pdus ended end_put h e = tt
 unpassed came n Absent handovers.Passed dues pdus ended end_put h e = absurd cc
 unpassed came n (Up number) handovers.Passed dues pdus ended end_put h e = absurd h
 unpassed came n (Joined leg stage) handovers.Passed dues pdus ended end_put h e = absurd h
-
-pub neither : (a b : Bool) → a || b ≡ false → (a ≡ false) × (b ≡ false)
-neither true b e = absurd cc
-neither false b e = (refl, e)
 
 pub none_of : (a b c : Bool) → a || b || c ≡ false → a ≡ false
 none_of true b c e = absurd cc

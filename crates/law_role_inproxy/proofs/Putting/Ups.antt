@@ -1,20 +1,7 @@
 -- legs that come up, requests, and what else nothing is put for
-use Rattle.std.proofs.Common.{◌≡◌, ℕ, ◌+◌, ◌==◌, true, false, not, if◌then◌else◌, List, refl, sym, ap, ◌∙◌, subst, arith}
-use Rattle.std.proofs.lemmas.Bool.{and_parts, eqb-true}
-use Rattle.std.specs.Prelude.{nat_le}
-use Rattle.law_order.proofs.ByNumber.{by_test}
-use Rattle.rh_line.specs.declared.leg.Leg.{Leg}
-use Rattle.rh_inproxy.specs.declared.opening.TheConstants.{GREATEST_LENGTHS}
-use Rattle.rh_inproxy.specs.declared.state.InProxyConfig.{InProxyConfig}
-use Rattle.rh_inproxy.specs.declared.state.Opening.{Opening}
-use Rattle.rh_inproxy.specs.declared.state.Opening.TheVariants.{AwaitsClient, AwaitsPacket, WantsServer, Announces, Announced}
-use Rattle.rh_inproxy.specs.declared.state.Successor.{Successor}
-use Rattle.rh_inproxy.specs.declared.state.Successor.TheVariants.{Absent, Up, Joined}
-use Rattle.rh_inproxy.specs.Ending.{is_announced, mark}
-use Rattle.rh_inproxy.specs.Opening.{up, may_accept, accepts, accepts_later, accepted, wants, connected, head, drawn, is_absent}
-use Rattle.rh_inproxy.specs.State.{InProxy, has_come, has_opened, is_client_leg}
-use Rattle.rh_inproxy.specs.Time.{ping}
-use Rattle.law_moves.specs.Moves.{OnLeg}
+use Rattle.law_order.proofs.Vocabulary.{◌≡◌, ℕ, ◌+◌, ◌==◌, true, false, not, if◌then◌else◌, List, refl, sym, ap, ◌∙◌, subst, arith, and_parts, eqb-true, nat_le}
+use Rattle.law_moves.proofs.Vocabulary.{by_test, Leg, OnLeg}
+use Rattle.law_role_inproxy.proofs.Vocabulary.{GREATEST_LENGTHS, InProxyConfig, Opening, AwaitsClient, AwaitsPacket, WantsServer, Announces, Announced, Successor, Absent, Up, Joined, is_announced, mark, up, may_accept, accepts, accepts_later, accepted, wants, connected, head, drawn, is_absent, InProxy, has_come, has_opened, is_client_leg, ping}
 use Rattle.law_role_inproxy.proofs.Putting.Sounds.{seen, Sound, Moves, IsOpening, told_by, same_moves}
 use Rattle.law_role_inproxy.proofs.Putting.Tests.{same_head, same_drawn, same_mark, same_ping, absent_alone, not_so, four, opened_any, staying, untold}
 

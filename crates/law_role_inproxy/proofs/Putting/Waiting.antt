@@ -1,13 +1,7 @@
 -- the packets that wait for the is leg, and what is so of each of them
-use Rattle.std.proofs.Common.{◌≡◌, Bool, true, false, nat_lt, List, [], ◌∷◌, refl}
-use Rattle.std.specs.Prelude.{if◌then◌else◌}
-use Rattle.std.specs.List.{AllByRecursion, list_any}
-use Rattle.law_order.proofs.ByNumber.{by_test}
-use Rattle.rh_sig.specs.declared.named.Named.{Named}
-use Rattle.rh_shell.specs.declared.due.Due.{Due}
-use Rattle.rh_shell.specs.declared.due.Origin.TheVariants.{Forwarded}
-use Rattle.rh_shell.specs.Waiting.{Waiting, better, edge_of, merged, takes, with_due, pushed, to_forward, count, forwarded}
-use Rattle.law_moves.proofs.Passages.Messages.{all_append}
+use Rattle.law_order.proofs.Vocabulary.{◌≡◌, Bool, true, false, nat_lt, List, [], ◌∷◌, refl, if◌then◌else◌, AllByRecursion, list_any}
+use Rattle.law_moves.proofs.Vocabulary.{by_test, Named, Due, Forwarded, Waiting, better, edge_of, merged, takes, with_due, pushed, to_forward, count, forwarded}
+use Rattle.law_moves.proofs.Lemmas.{all_append}
 
 module _ (P : Named → Type 0) where
   abbrev pub EachIs : List Due → Type 0

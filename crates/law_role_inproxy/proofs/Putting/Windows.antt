@@ -1,49 +1,12 @@
 -- an in proxy holds RPC PDUs back until the server told its window
-use Rattle.std.proofs.Common.{◌≡◌, ℕ, ◌+◌, ◌≤◌, ◌&&◌, ◌||◌, Bool, true, false, true≢false, not, if◌then◌else◌, List, [], ◌∷◌, length, Some, None, Ok, Err, refl, sym, ap, ◌∙◌, subst, arith, rules}
-use Rattle.std.proofs.lemmas.Bool.Decides.{nat_tests}
-use Rattle.std.specs.List.{AllByRecursion}
-use Rattle.std.specs.Prelude.{IfSome, is_ok, nat_le}
-use Rattle.std.specs.declared.option.Option.{Option}
-use Rattle.std.specs.declared.result.Result.{Result}
-use Rattle.rh_window.specs.declared.fault.BadAck.{BadAck}
-use Rattle.rh_window.specs.declared.recv_window.Ack.{Ack}
-use Rattle.rh_window.specs.Sending.{ack_verdict, after_acked, may_send, unsent}
-use Rattle.rh_window.specs.Sides.{Sender}
-use Rattle.law_order.proofs.ByNumber.{by_test}
-use Rattle.rh_rts.specs.declared.command.Cookie.{Cookie}
-use Rattle.rh_sig.specs.declared.named.Named.{Named}
+use Rattle.law_order.proofs.Vocabulary.{◌≡◌, ℕ, ◌+◌, ◌≤◌, ◌&&◌, ◌||◌, Bool, true, false, true≢false, not, if◌then◌else◌, List, [], ◌∷◌, length, Some, None, Ok, Err, refl, sym, ap, ◌∙◌, subst, arith, rules, nat_tests, AllByRecursion, IfSome, is_ok, nat_le, Option, Result}
 use Rattle.rh_sig.specs.declared.named.Named.TheVariants as named
-use Rattle.rh_line.specs.declared.leg.Leg.{Leg}
-use Rattle.rh_line.specs.declared.line_fault.LineFault.{LineFault}
-use Rattle.rh_line.specs.declared.line_fault.LineFault.TheVariants.{Window, Over}
-use Rattle.rh_line.specs.declared.which.Which.{Which}
-use Rattle.rh_line.specs.declared.which.Which.TheVariants.{Current, Next}
 use Rattle.rh_line.specs.Lines as line
-use Rattle.rh_line.specs.Lines.{Incoming, Line}
-use Rattle.rh_shell.specs.declared.answers.Count.{Count}
-use Rattle.rh_shell.specs.declared.due.Due.{Due}
-use Rattle.rh_shell.specs.Rules.{Message, Text, Pdu, Packet}
-use Rattle.rh_inproxy.specs.declared.state.Edge.{Edge}
-use Rattle.rh_inproxy.specs.declared.state.Edge.TheVariants.{Unknown, Known}
-use Rattle.rh_inproxy.specs.declared.state.InProxyConfig.{InProxyConfig}
-use Rattle.rh_inproxy.specs.declared.state.Joining.TheVariants.{TellsServer, Told, Follows}
-use Rattle.rh_inproxy.specs.declared.state.Opener.{Opener}
-use Rattle.rh_inproxy.specs.declared.state.Opening.{Opening}
-use Rattle.rh_inproxy.specs.declared.state.Successor.{Successor}
-use Rattle.rh_inproxy.specs.declared.state.Successor.TheVariants.{Absent, Up, Joined}
-use Rattle.rh_inproxy.specs.Acknowledging.{acked, acked_by, ack_by, ack_due, ack_for, current_ack, next_ack, on_ack, on_ack_to}
-use Rattle.rh_inproxy.specs.Answers.{Done, Pick, taken, unexpected}
-use Rattle.rh_inproxy.specs.Ending.{is_newest, mark, on_end_a1, put_end, settled}
-use Rattle.rh_inproxy.specs.InReplacement.{finish_by, finished, hand_over, handed_over, is_newcomer, join, joined, on_in_r1_a5, on_in_r1_b1, on_later_in_r1_a1, put_in_r1_a6, put_in_r2_a2, told_by}
-use Rattle.rh_inproxy.specs.Opening.{drawn, first_by, head, is_first, is_unknown, on_conn_b1, on_first_in_r1_a1, opener_of, put_echo, put_first, up}
-use Rattle.rh_inproxy.specs.OutReplacement.{on_out_r1_a7}
-use Rattle.rh_inproxy.specs.Passing.{next_pdu, on_pdu, passed, put_pdu}
 use Rattle.rh_inproxy.specs.Passing as passing
-use Rattle.rh_inproxy.specs.Putting.{put as put_of, put_waiting, waiting_by}
-use Rattle.rh_inproxy.specs.State.{InProxy, channel_of, has_a5, is_client_leg, same_cookie}
-use Rattle.rh_inproxy.specs.Time.{on_keep_alive, ping, put_ping}
-use Rattle.rh_inproxy.specs.Machine.{on_channel_by, on_ci, pdu, pdu_by}
-use Rattle.law_moves.proofs.Passages.Messages.{all_append}
+use Rattle.law_moves.proofs.Vocabulary.{BadAck, Ack, ack_verdict, after_acked, may_send, unsent, Sender, by_test, Cookie, Named, Leg, LineFault, Window, Over, Which, Current, Next, Incoming, Line, Count, Due, Message, Text, Pdu, Packet}
+use Rattle.law_moves.proofs.Lemmas.{all_append}
+use Rattle.law_role_inproxy.proofs.Vocabulary.{Edge, Unknown, Known, InProxyConfig, TellsServer, Told, Follows, Opener, Opening, Successor, Absent, Up, Joined, acked, acked_by, ack_by, ack_due, ack_for, current_ack, next_ack, on_ack, on_ack_to, Done, Pick, taken, unexpected, is_newest, mark, on_end_a1, put_end, settled, finish_by, finished, hand_over, handed_over, is_newcomer, join, joined, on_in_r1_a5, on_in_r1_b1, on_later_in_r1_a1, put_in_r1_a6, put_in_r2_a2, told_by}
+use Rattle.law_role_inproxy.proofs.Vocabulary.{drawn, first_by, head, is_first, is_unknown, on_conn_b1, on_first_in_r1_a1, opener_of, put_echo, put_first, up, on_out_r1_a7, next_pdu, on_pdu, passed, put as put_of, put_waiting, waiting_by, InProxy, channel_of, has_a5, is_client_leg, same_cookie, on_keep_alive, ping, put_ping, on_channel_by, on_ci, pdu, pdu_by}
 use Rattle.law_role_inproxy.proofs.Putting.Picks.{put_so}
 
 -- what the facts are about

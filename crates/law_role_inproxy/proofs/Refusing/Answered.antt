@@ -1,20 +1,10 @@
 -- what is so of an answer that refuses
-use Rattle.std.proofs.Common.{◌≡◌, ◌&&◌, Bool, true, false, not, Ok, Err, inl, inr, refl, ap, subst}
-use Rattle.std.proofs.lemmas.Slice.Eq.{bytes_eq-Decides}
-use Rattle.std.specs.declared.result.Result.{Result}
-use Rattle.std.specs.Prelude.{◌⊎◌}
-use Rattle.rh_window.specs.declared.fault.BadAck.{BadAck}
-use Rattle.rh_rts.specs.declared.command.Cookie.{Cookie}
+use Rattle.law_order.proofs.Vocabulary.{◌≡◌, ◌&&◌, Bool, true, false, not, Ok, Err, inl, inr, refl, ap, subst, bytes_eq-Decides, Result, ◌⊎◌}
 use Rattle.rh_sig.specs.declared.named.Named.TheVariants as named
-use Rattle.rh_sig.specs.declared.named.Named.{Named}
 use Rattle.rh_shell.specs.declared.answers.Refused.TheVariants as refused
 use Rattle.rh_shell.specs.Waiting as waiting
-use Rattle.rh_inproxy.specs.declared.state.Opener.{Opener}
-use Rattle.rh_inproxy.specs.Acknowledging.{acked_by, forwarded, forward_by}
-use Rattle.rh_inproxy.specs.Answers.{Done}
-use Rattle.rh_inproxy.specs.State.{InProxy, same_cookie}
-use Rattle.law_moves.specs.Passages.Passing.{BeginsIn}
-use Rattle.law_role_inproxy.specs.Refusing.{NamesConnection}
+use Rattle.law_moves.proofs.Vocabulary.{BadAck, Cookie, Named, BeginsIn}
+use Rattle.law_role_inproxy.proofs.Vocabulary.{Opener, acked_by, forwarded, forward_by, Done, InProxy, same_cookie, NamesConnection}
 use Rattle.law_role_inproxy.proofs.Refusing.Legs.{Opens}
 
 -- ---- answers

@@ -1,29 +1,12 @@
 -- what came on the ci legs of an in proxy's channels
-use Rattle.std.proofs.Common.{◌≡◌, ℕ, suc, ◌≤◌, ◌==◌, ◌&&◌, Bool, true, false, not, if◌then◌else◌, Some, None, inl, inr, refl, sym, ap, subst, ◌∙◌, arith}
-use Rattle.std.proofs.lemmas.Bool.{and_parts, eqb-true, or_cases}
-use Rattle.std.proofs.lemmas.Bool.Decides.{nat_tests}
-use Rattle.std.specs.Prelude.{◌⊎◌}
-use Rattle.std.specs.declared.option.Option.{Option}
-use Rattle.law_order.specs.Items.{pdus, has_end, has_handover}
-use Rattle.law_order.specs.Passing.{PasserLaw}
-use Rattle.law_order.specs.Shelves.{Shelf}
+use Rattle.law_order.proofs.Vocabulary.{◌≡◌, ℕ, suc, ◌≤◌, ◌==◌, ◌&&◌, Bool, true, false, not, if◌then◌else◌, Some, None, inl, inr, refl, sym, ap, subst, ◌∙◌, arith, and_parts, eqb-true, or_cases, nat_tests, ◌⊎◌, Option, pdus, has_end, has_handover, PasserLaw, Shelf}
 use Rattle.rh_line.specs.Lines as line
-use Rattle.rh_line.specs.declared.which.Which.{Which}
-use Rattle.rh_line.specs.declared.which.Which.TheVariants.{Current, Next}
-use Rattle.rh_inproxy.specs.declared.state.Opener.{Opener}
-use Rattle.rh_inproxy.specs.declared.state.Successor.{Successor}
-use Rattle.rh_inproxy.specs.declared.state.Successor.TheVariants.{Absent, Up, Joined}
-use Rattle.rh_inproxy.specs.Answers.{is_some}
-use Rattle.rh_inproxy.specs.Ending.{has_later}
-use Rattle.rh_inproxy.specs.Opening.{opener_of}
-use Rattle.rh_inproxy.specs.State.{InProxy, channel_of, has_a5, has_come, has_opened, is_joined, next_of}
-use Rattle.law_moves.specs.Moves.{Passage}
-use Rattle.law_moves.specs.Wires.{of_leg}
-use Rattle.law_role_inproxy.specs.Order.{came_log, next_shelf, passer_of, put_items, shelf}
-use Rattle.law_role_inproxy.specs.Refusing.{HasPdu, IsEnded, IsLeft, IsNew, ci_leg}
+use Rattle.law_moves.proofs.Vocabulary.{Which, Current, Next, Passage, of_leg}
+use Rattle.law_role_inproxy.proofs.Vocabulary.{Opener, Successor, Absent, Up, Joined, is_some, has_later, opener_of, InProxy, channel_of, has_a5, has_come, has_opened, is_joined, next_of, came_log, next_shelf, passer_of, put_items, shelf, IsEnded, IsLeft, IsNew, ci_leg}
 use Rattle.law_role_inproxy.proofs.Refusing.Items.{below_ended, came_is, ended_has, handed_counts, pdus_have}
 use Rattle.law_role_inproxy.proofs.Refusing.Legs.{All, IsBehind, bound, plain, seen}
 use Rattle.law_role_inproxy.proofs.Refusing.Steps.{is_opened}
+use Rattle.law_role_inproxy.specs.Refusing.{HasPdu}
 
 and_second : (a b : Bool) → (a && b) ≡ false → a ≡ true → b ≡ false
 and_second true b e f = e

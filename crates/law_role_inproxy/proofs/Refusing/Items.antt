@@ -1,26 +1,13 @@
 -- what order sees of a ci leg, as messages that came there
-use Rattle.std.proofs.Common.{◌≡◌, ℕ, suc, zero, ◌<◌, ◌≤◌, ◌==◌, ◌&&◌, Bool, true, false, nat_eq, if◌then◌else◌, List, [], ◌∷◌, ◌++◌, inl, inr, refl, sym, ap, subst, ◌∙◌, arith}
-use Rattle.std.specs.Prelude.{◌⊎◌}
-use Rattle.std.proofs.lemmas.Bool.{or_cases}
-use Rattle.law_order.specs.Items.{Item, pdus, has_end, has_handover}
+use Rattle.law_order.proofs.Vocabulary.{◌≡◌, ℕ, suc, zero, ◌<◌, ◌≤◌, ◌==◌, ◌&&◌, Bool, true, false, nat_eq, if◌then◌else◌, List, [], ◌∷◌, ◌++◌, inl, inr, refl, sym, ap, subst, ◌∙◌, arith, ◌⊎◌, or_cases, Item, pdus, has_end, has_handover}
 use Rattle.law_order.specs.Logs as logs
-use Rattle.law_order.proofs.ByNumber.{same_number, other_number, test_same, test_other}
-use Rattle.law_order.proofs.ItemLists.{has_end-append}
-use Rattle.rh_sig.specs.declared.named.Named.{Named}
 use Rattle.rh_sig.specs.declared.named.Named.TheVariants as named
-use Rattle.rh_line.specs.Lines.{is_empty}
-use Rattle.rh_shell.specs.Rules.{Message, Text, Pdu, Packet}
-use Rattle.rh_shell.specs.Shells.{kind_number, same_leg}
-use Rattle.law_moves.specs.Moves.{OnLeg}
-use Rattle.law_moves.specs.Wires.{of_leg}
-use Rattle.law_moves.specs.Passages.Passing.{Has, count_of}
-use Rattle.law_moves.specs.PacketKinds.{is_in_r1_a5}
-use Rattle.law_role_inproxy.specs.Order.{came_log, is_on, item_came}
-use Rattle.law_role_inproxy.specs.Refusing.{HasPduIn, ci_leg}
+use Rattle.law_moves.proofs.Vocabulary.{same_number, other_number, test_same, test_other, has_end-append, Named, is_empty, Message, Text, Pdu, Packet, kind_number, same_leg, OnLeg, of_leg, Has, count_of, is_in_r1_a5}
+use Rattle.law_role_inproxy.proofs.Vocabulary.{came_log, is_on, item_came, HasPduIn, ci_leg}
 
 -- ---- of a log
 
-swapped : (a b : ℕ) → (a == b) ≡ (b == a)
+pub swapped : (a b : ℕ) → (a == b) ≡ (b == a)
 swapped a b = by (a == b) refl
   where
     by : (t : Bool) → (a == b) ≡ t → t ≡ (b == a)

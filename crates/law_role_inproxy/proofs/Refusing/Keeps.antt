@@ -1,52 +1,14 @@
 -- what is known of an in proxy's legs holds behind all its moves
-use Rattle.std.proofs.Common.{◌≡◌, ℕ, suc, ◌<◌, ◌==◌, ◌&&◌, Bool, true, false, not, if◌then◌else◌, List, [], ◌∷◌, ◌++◌, Some, None, Ok, Err, refl, sym, ap, subst, ◌∙◌, arith, rules}
-use Rattle.std.proofs.lemmas.Bool.{and_parts, eqb-true}
-use Rattle.std.proofs.lemmas.Bool.Decides.{nat_tests}
-use Rattle.std.specs.Prelude.{IfSome, length}
-use Rattle.std.specs.declared.option.Option.{Option}
-use Rattle.rh_window.specs.Sending.{may_send}
-use Rattle.rh_window.specs.declared.recv_window.Ack.{Ack}
-use Rattle.law_order.proofs.ByNumber.{by_test}
-use Rattle.rh_rts.specs.declared.command.Cookie.{Cookie}
-use Rattle.rh_sig.specs.declared.named.Named.{Named}
+use Rattle.law_order.proofs.Vocabulary.{◌≡◌, ℕ, suc, ◌<◌, ◌==◌, ◌&&◌, Bool, true, false, not, if◌then◌else◌, List, [], ◌∷◌, ◌++◌, Some, None, Ok, Err, refl, sym, ap, subst, ◌∙◌, arith, rules, and_parts, eqb-true, nat_tests, IfSome, length, Option}
 use Rattle.rh_sig.specs.declared.named.Named.TheVariants as named
 use Rattle.rh_line.specs.Lines as line
-use Rattle.rh_line.specs.declared.leg.Leg.{Leg}
-use Rattle.rh_line.specs.declared.which.Which.{Which}
-use Rattle.rh_line.specs.declared.which.Which.TheVariants.{Current, Next}
-use Rattle.rh_shell.specs.declared.answers.Count.{Count}
 use Rattle.rh_shell.specs.declared.answers.Refused.TheVariants as refused
-use Rattle.rh_shell.specs.declared.due.Due.{Due}
-use Rattle.rh_shell.specs.Rules.{Message, Pdu, Packet}
-use Rattle.rh_shell.specs.Shells.{one_if}
-use Rattle.rh_inproxy.specs.declared.state.Edge.TheVariants.{Known}
-use Rattle.rh_inproxy.specs.declared.state.Entry.TheVariants.{Connects, Replaces}
-use Rattle.rh_inproxy.specs.declared.state.InProxyConfig.{InProxyConfig}
-use Rattle.rh_inproxy.specs.declared.state.Joining.TheVariants.{TellsServer, Told, Follows}
-use Rattle.rh_inproxy.specs.declared.state.Opener.{Opener}
-use Rattle.rh_inproxy.specs.declared.state.Opening.{Opening}
 use Rattle.rh_inproxy.specs.declared.state.Opening.TheVariants as openings
-use Rattle.rh_inproxy.specs.declared.state.Successor.{Successor}
-use Rattle.rh_inproxy.specs.declared.state.Successor.TheVariants.{Absent, Up, Joined}
-use Rattle.rh_inproxy.specs.Acknowledging.{on_ack, on_ack_to, ack_due, ack_by, current_ack, next_ack, put_acks}
-use Rattle.rh_inproxy.specs.Answers.{Done, Pick, is_some, or_else, refuse, taken, unexpected}
-use Rattle.rh_inproxy.specs.Ending.{mark, on_end_a1, put_end, settled, settled_pick}
-use Rattle.rh_inproxy.specs.InReplacement.{is_newcomer, joined, join, on_later_in_r1_a1, on_in_r1_a5, finish_by, finished, hand_over, handed_over, on_in_r1_b1, one_less, put_in_r1_a6, put_in_r2_a2, told_by}
-use Rattle.rh_inproxy.specs.Opening.{up, may_accept, accepts, accepts_later, accepted, wants, connected, head, drawn, first_by, is_absent, is_connection, is_first, is_replacement, is_unknown, awaits_packet, leg_of, opened, opener, opener_of, on_first_in_r1_a1, kept_for, put_echo, put_first, with_edge}
-use Rattle.rh_inproxy.specs.OutReplacement.{on_out_r1_a7}
-use Rattle.rh_inproxy.specs.Passing.{next_pdu, passed, put_pdu}
-use Rattle.rh_inproxy.specs.Putting.{put as put_of, next, waiting_by, put_waiting, put_control, put_early, put_stream, put_behind, put_mark}
-use Rattle.rh_inproxy.specs.State.{InProxy, first, channel_of, has_a5, has_opened, is_client_leg, is_server_leg, next_of, same_cookie}
-use Rattle.rh_inproxy.specs.Time.{on_keep_alive, ping, put_ping}
-use Rattle.rh_inproxy.specs.Machine.{pdu, packet, on_channel, on_channel_by, on_ci, on_is}
-use Rattle.rh_inproxy.specs.Machine.{rules as proxy_rules}
-use Rattle.law_moves.specs.Moves.{OnLeg, Move, started, all_moved}
-use Rattle.law_moves.specs.Passages.Passing.{BeginsIn, count_of}
-use Rattle.law_moves.proofs.Passages.Logs.{RowKeeps, PutKeeps, StepsKeep, moves_keep}
-use Rattle.law_moves.specs.PacketKinds.{is_conn_b1, is_in_r1_a1, opens_server}
-use Rattle.law_moves.proofs.PacketKinds.Counts.{leg_is, leg_here}
-use Rattle.law_role_inproxy.specs.Counted.{is_leg}
-use Rattle.law_role_inproxy.specs.Refusing.{any, ci_leg}
+use Rattle.law_moves.proofs.Vocabulary.{may_send, Ack, by_test, Cookie, Named, Leg, Which, Current, Next, Count, Due, Message, Pdu, Packet, one_if, OnLeg, Move, started, all_moved, BeginsIn, count_of, is_conn_b1, is_in_r1_a1, opens_server}
+use Rattle.law_moves.proofs.Lemmas.{RowKeeps, PutKeeps, StepsKeep, moves_keep, leg_is, leg_here}
+use Rattle.law_role_inproxy.proofs.Vocabulary.{Known, Connects, Replaces, InProxyConfig, TellsServer, Told, Follows, Opener, Opening, Successor, Absent, Up, Joined, on_ack, on_ack_to, ack_due, ack_by, current_ack, next_ack, put_acks, Done, Pick, is_some, or_else, refuse, taken, unexpected, mark, on_end_a1, put_end, settled, settled_pick, is_newcomer, joined, join, on_later_in_r1_a1, on_in_r1_a5, finish_by, finished, hand_over, handed_over, on_in_r1_b1, one_less, put_in_r1_a6}
+use Rattle.law_role_inproxy.proofs.Vocabulary.{put_in_r2_a2, told_by, up, may_accept, accepts, accepts_later, accepted, wants, connected, head, drawn, first_by, is_absent, is_connection, is_first, is_replacement, is_unknown, awaits_packet, leg_of, opened, opener, opener_of, on_first_in_r1_a1, kept_for, put_echo, put_first, with_edge, on_out_r1_a7, next_pdu, passed, put_pdu, put as put_of, next, waiting_by, put_waiting, put_control, put_early, put_stream, put_behind, put_mark}
+use Rattle.law_role_inproxy.proofs.Vocabulary.{InProxy, first, channel_of, has_a5, has_opened, is_client_leg, is_server_leg, next_of, same_cookie, on_keep_alive, ping, put_ping, pdu, packet, on_channel, on_channel_by, on_ci, on_is, rules as proxy_rules, is_leg, any, ci_leg}
 use Rattle.law_role_inproxy.proofs.Refusing.Legs.{All, IsBehind, IsPlain, Opens, Same, Starts, bound, client_is, client_within, grows, grows_to, last, pdu_within, plain, seen, server_within, Within}
 use Rattle.law_role_inproxy.proofs.Refusing.Steps.{absent_is, awaits_none, begins, comes_behind, connects_some, finish_next, follow, is_opened, kept, newcomer_is, replaces_some, rises, same_ack, same_ack_to, same_a7, same_b1, same_drawn, same_end, same_head, same_keep_alive, same_mark, same_pdu, same_ping, same_settled, take_next}
 

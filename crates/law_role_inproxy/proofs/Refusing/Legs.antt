@@ -1,32 +1,9 @@
 -- how an in proxy was opened, and on which ci legs packets came
-use Rattle.std.proofs.Common.{◌≡◌, ℕ, suc, ◌+◌, ◌<◌, ◌≤◌, Bool, true, false, List, [], ◌∷◌, ◌++◌, Some, None, refl, sym, ap, subst, arith, if◌then◌else◌}
-use Rattle.std.proofs.lemmas.Bool.Decides.{nat_tests}
-use Rattle.std.specs.declared.option.Option.{Option}
-use Rattle.law_order.proofs.ByNumber.{by_test}
-use Rattle.rh_sig.specs.declared.named.Named.{Named}
+use Rattle.law_order.proofs.Vocabulary.{◌≡◌, ℕ, suc, ◌+◌, ◌<◌, ◌≤◌, Bool, true, false, List, [], ◌∷◌, ◌++◌, Some, None, refl, sym, ap, subst, arith, if◌then◌else◌, nat_tests, Option}
 use Rattle.rh_sig.specs.declared.named.Named.TheVariants as named
-use Rattle.rh_line.specs.declared.leg.Leg.{Leg}
-use Rattle.rh_line.specs.declared.leg.LegKind.TheVariants.{ClientIn}
-use Rattle.rh_shell.specs.Rules.{Message, Pdu, Packet}
-use Rattle.rh_shell.specs.Shells.{one_if, same_leg}
-use Rattle.rh_inproxy.specs.declared.state.ClientLeg.{ClientLeg}
-use Rattle.rh_inproxy.specs.declared.state.Edge.{Edge}
-use Rattle.rh_inproxy.specs.declared.state.Joining.TheVariants.{Told}
-use Rattle.rh_inproxy.specs.declared.state.Opener.{Opener}
-use Rattle.rh_inproxy.specs.declared.state.Successor.{Successor}
-use Rattle.rh_inproxy.specs.declared.state.Successor.TheVariants.{Absent, Up, Joined}
-use Rattle.rh_inproxy.specs.Answers.{is_some}
-use Rattle.rh_inproxy.specs.Opening.{is_connection, is_replacement, is_unknown, opener_of}
-use Rattle.rh_inproxy.specs.State.{InProxy, is_client_leg, is_joined}
-use Rattle.law_moves.specs.Moves.{OnLeg}
-use Rattle.law_moves.specs.Wires.{of_leg}
-use Rattle.law_moves.specs.Passages.Passing.{BeginsIn, HasOne, HasBegunIn, count_of, of_kind}
-use Rattle.law_moves.proofs.Passages.Messages.{leg_more, count_append, one_more_so, last_one_so}
-use Rattle.law_moves.specs.Passages.Counted.{packets, is_any}
-use Rattle.law_moves.specs.PacketKinds.{is_conn_b1, is_in_r1_a1, opens_server}
-use Rattle.law_moves.proofs.PacketKinds.Counts.{here_more, leg_is, leg_at_most, leg_rises, kind_at_most}
-use Rattle.law_role_inproxy.specs.Counted.{is_leg}
-use Rattle.law_role_inproxy.specs.Refusing.{any, ci_leg}
+use Rattle.law_moves.proofs.Vocabulary.{by_test, Named, Leg, ClientIn, Message, Pdu, Packet, one_if, same_leg, OnLeg, of_leg, BeginsIn, HasOne, HasBegunIn, count_of, of_kind, packets, is_any, is_conn_b1, is_in_r1_a1, opens_server}
+use Rattle.law_moves.proofs.Lemmas.{leg_more, count_append, one_more_so, last_one_so, here_more, leg_is, leg_at_most, leg_rises, kind_at_most}
+use Rattle.law_role_inproxy.proofs.Vocabulary.{ClientLeg, Edge, Told, Opener, Successor, Absent, Up, Joined, is_some, is_connection, is_replacement, is_unknown, opener_of, InProxy, is_client_leg, is_joined, is_leg, any, ci_leg}
 
 -- ---- what the facts are about
 

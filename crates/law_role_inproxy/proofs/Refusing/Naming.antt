@@ -1,39 +1,17 @@
 -- which channels the IN_R2/A2 name that an in proxy put
-use Rattle.std.proofs.Common.{◌≡◌, ℕ, ◌≤◌, Bool, true, false, if◌then◌else◌, List, [], ◌∷◌, ◌++◌, Some, None, Ok, Err, inl, inr, subst, arith}
-use Rattle.std.specs.Prelude.{◌⊎◌}
-use Rattle.rh_rts.specs.declared.command.Cookie.{Cookie}
-use Rattle.rh_sig.specs.declared.named.Named.{Named}
+use Rattle.law_order.proofs.Vocabulary.{◌≡◌, ℕ, ◌≤◌, Bool, true, false, if◌then◌else◌, List, [], ◌∷◌, ◌++◌, Some, None, Ok, Err, inl, inr, subst, arith, ◌⊎◌}
 use Rattle.rh_sig.specs.declared.named.Named.TheVariants as named
-use Rattle.rh_line.specs.declared.leg.Leg.{Leg}
-use Rattle.rh_shell.specs.Rules.{Message, Pdu, Packet}
-use Rattle.rh_shell.specs.Shells.{same_leg}
-use Rattle.rh_inproxy.specs.declared.state.InProxyConfig.{InProxyConfig}
-use Rattle.rh_inproxy.specs.declared.state.Joining.TheVariants.{TellsServer, Told, Follows}
-use Rattle.rh_inproxy.specs.declared.state.Successor.{Successor}
-use Rattle.rh_inproxy.specs.declared.state.Successor.TheVariants.{Absent, Up, Joined}
-use Rattle.rh_inproxy.specs.Answers.{Done, Pick}
-use Rattle.rh_inproxy.specs.Ending.{mark}
-use Rattle.rh_inproxy.specs.Opening.{up, head, drawn}
-use Rattle.rh_inproxy.specs.Putting.{put as put_of}
-use Rattle.rh_inproxy.specs.State.{InProxy, first}
-use Rattle.rh_inproxy.specs.Time.{ping}
-use Rattle.rh_inproxy.specs.Machine.{packet, pdu}
-use Rattle.rh_inproxy.specs.Machine.{rules as proxy_rules}
-use Rattle.law_moves.specs.Moves.{OnLeg, Move, started, all_moved}
-use Rattle.law_moves.specs.Wires.{of_leg}
-use Rattle.law_moves.specs.Passages.Passing.{BeginsIn, Has, HasBegunIn, count_of}
-use Rattle.law_moves.proofs.Passages.Messages.{leg_more}
-use Rattle.law_moves.proofs.Passages.Logs.{RowKeeps, PutKeeps, StepsKeep, moves_keep}
-use Rattle.law_role_inproxy.specs.Counted.{is_leg}
-use Rattle.law_role_inproxy.specs.Refusing.{ci_leg, is_in_r2_a2}
+use Rattle.law_moves.proofs.Vocabulary.{Cookie, Named, Leg, Message, Pdu, Packet, same_leg, OnLeg, Move, started, all_moved, of_leg, BeginsIn, Has, HasBegunIn, count_of}
+use Rattle.law_moves.proofs.Lemmas.{leg_more, RowKeeps, PutKeeps, StepsKeep, moves_keep}
+use Rattle.law_role_inproxy.proofs.Vocabulary.{InProxyConfig, TellsServer, Told, Follows, Successor, Absent, Up, Joined, Done, Pick, mark, up, head, drawn, put as put_of, InProxy, first, ping, packet, pdu, rules as proxy_rules, is_leg, ci_leg, is_in_r2_a2}
 use Rattle.law_role_inproxy.proofs.Refusing.Legs.{Joins, one_more, plain}
+use Rattle.law_role_inproxy.proofs.Refusing.Told.{IsTold, Tells, told}
+use Rattle.law_role_inproxy.proofs.Refusing.Telling.{Sources}
 use Rattle.law_role_inproxy.proofs.Refusing.Keeps as keeps
 use Rattle.law_role_inproxy.proofs.Refusing.Telling as telling
 use Rattle.law_role_inproxy.proofs.Refusing.Told as tolds
-use Rattle.law_role_inproxy.proofs.Refusing.Told.{IsTold, Tells, told}
-use Rattle.law_role_inproxy.proofs.Refusing.Telling.{Sources}
 
-has_split : (m : Named) (a b : List Message) → Has m (a ++ b) → Has m a ⊎ Has m b
+pub has_split : (m : Named) (a b : List Message) → Has m (a ++ b) → Has m a ⊎ Has m b
 has_split m [] b h = inr h
 has_split m (x ∷ a) b (inl is) = inl (inl is)
 has_split m (x ∷ a) b (inr rest) = by (has_split m a b rest)
@@ -42,7 +20,7 @@ has_split m (x ∷ a) b (inr rest) = by (has_split m a b rest)
     by (inl front) = inl (inr front)
     by (inr back) = inr back
 
-is_there : (m : Named) (x : Message) (t : Bool) → Has m (if t then x ∷ [] else [])
+pub is_there : (m : Named) (x : Message) (t : Bool) → Has m (if t then x ∷ [] else [])
     → x ≡ Packet m
 is_there m x true (inl is) = is
 is_there m x true (inr rest) = absurd rest

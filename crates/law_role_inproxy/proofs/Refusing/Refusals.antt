@@ -1,57 +1,22 @@
 -- what is so where a row of an in proxy refuses
-use Rattle.std.proofs.Common.{◌≡◌, ℕ, zero, suc, ◌+◌, ◌<◌, ◌≤◌, ◌==◌, ◌&&◌, ◌||◌, Bool, true, false, not, if◌then◌else◌, List, length, Some, None, Ok, Err, inl, inr, refl, sym, ap, subst, ◌∙◌, arith}
-use Rattle.std.proofs.lemmas.Bool.{eqb-true, or_cases}
-use Rattle.std.proofs.lemmas.Bool.Decides.{nat_tests}
-use Rattle.std.specs.Prelude.{◌⊎◌}
-use Rattle.std.specs.declared.option.Option.{Option}
-use Rattle.std.specs.declared.result.Result.{Result}
-use Rattle.rh_window.specs.declared.fault.WindowExceeded.{WindowExceeded}
 use Rattle.rh_window.specs.Receiving as windows
-use Rattle.rh_window.specs.Sending.{ack_verdict, after_acked}
-use Rattle.law_order.proofs.ByNumber.{by_test, other_number}
-use Rattle.rh_rts.specs.declared.command.Cookie.{Cookie}
-use Rattle.rh_sig.specs.declared.named.Named.{Named}
+use Rattle.law_order.proofs.Vocabulary.{◌≡◌, ℕ, zero, suc, ◌+◌, ◌<◌, ◌≤◌, ◌==◌, ◌&&◌, ◌||◌, Bool, true, false, not, if◌then◌else◌, List, length, Some, None, Ok, Err, inl, inr, refl, sym, ap, subst, ◌∙◌, arith, eqb-true, or_cases, nat_tests, ◌⊎◌, Option, Result}
 use Rattle.rh_sig.specs.declared.named.Named.TheVariants as named
 use Rattle.rh_line.specs.Lines as line
-use Rattle.rh_line.specs.declared.line_fault.LineFault.{LineFault}
-use Rattle.rh_line.specs.declared.line_fault.LineFault.TheVariants.{Over}
-use Rattle.rh_line.specs.declared.leg.Leg.{Leg}
-use Rattle.rh_line.specs.declared.leg.LegKind.TheVariants.{ClientIn}
-use Rattle.rh_line.specs.declared.which.Which.{Which}
-use Rattle.rh_line.specs.declared.which.Which.TheVariants.{Current, Next}
-use Rattle.rh_shell.specs.declared.answers.Count.{Count}
 use Rattle.rh_shell.specs.declared.answers.Refused.TheVariants as refused
-use Rattle.rh_shell.specs.Shells.{one_if}
-use Rattle.rh_inproxy.specs.declared.state.Joining.TheVariants.{TellsServer, Told, Follows}
-use Rattle.rh_inproxy.specs.declared.state.Opener.{Opener}
-use Rattle.rh_inproxy.specs.declared.state.Opening.{Opening}
-use Rattle.rh_inproxy.specs.declared.state.Opening.TheVariants as openings
-use Rattle.rh_inproxy.specs.declared.state.Entry.TheVariants.{Connects}
-use Rattle.rh_inproxy.specs.declared.state.Work.TheVariants as work
-use Rattle.rh_inproxy.specs.declared.state.Successor.{Successor}
-use Rattle.rh_inproxy.specs.declared.state.Successor.TheVariants.{Absent, Up, Joined}
-use Rattle.rh_inproxy.specs.Acknowledging.{ack_for, acked, forwarded}
-use Rattle.rh_inproxy.specs.Answers.{Done, is_some, refuse, taken, unexpected}
-use Rattle.rh_inproxy.specs.Ending.{has_later}
-use Rattle.rh_inproxy.specs.InReplacement.{finish_by, finished, hand_over, has_passed, is_newcomer, join, joined, on_in_r1_a5, on_later_in_r1_a1}
-use Rattle.rh_inproxy.specs.Opening.{had_client, was_up, is_connection, is_first, is_replacement, is_unknown, kept_for, newest, newest_by, on_first_in_r1_a1, opened, opener, opener_of, with_edge, awaits_packet}
 use Rattle.rh_inproxy.specs.Passing.{pdu_by}
-use Rattle.rh_inproxy.specs.State.{InProxy, channel_of, hands_over, has_a5, is_client_leg, is_server_leg, same_cookie}
-use Rattle.rh_inproxy.specs.Machine.{on_channel, on_channel_by, on_ci, on_is, packet, pdu, rules}
-use Rattle.rh_inproxy.specs.Machine.{pdu_by as machine_pdu_by}
-use Rattle.law_moves.specs.Moves.{Passage, is_in_use}
-use Rattle.law_moves.specs.Wires.{of_leg}
-use Rattle.law_moves.specs.Passages.Passing.{BeginsIn, Has, HasBegunIn, HasOne, count_of}
-use Rattle.law_moves.proofs.Passages.Messages.{one_so}
-use Rattle.law_moves.proofs.PacketKinds.Counts.{leg_is}
-use Rattle.law_moves.specs.PacketKinds.{is_in_r1_a6, opens_server}
-use Rattle.law_role_inproxy.specs.Counted.{is_leg}
-use Rattle.law_role_inproxy.specs.Refusing.{HasPacket, HasPdu, IsEnded, IsLeft, IsNew, IsUntold, is_in_r2_a2, Mismatch, NamesConnection, RefusesFor, Unexpected, UnexpectedOnClient, UnexpectedOnServer, UnexpectedPdu, UnexpectedPduBy, ci_leg}
+use Rattle.rh_inproxy.specs.declared.state.Opening.TheVariants as openings
+use Rattle.rh_inproxy.specs.declared.state.Work.TheVariants as work
+use Rattle.law_moves.proofs.Vocabulary.{WindowExceeded, ack_verdict, after_acked, by_test, other_number, Cookie, Named, LineFault, Over, Leg, ClientIn, Which, Current, Next, Count, one_if, Passage, is_in_use, of_leg, BeginsIn, Has, HasBegunIn, HasOne, count_of, is_in_r1_a6, opens_server}
+use Rattle.law_moves.proofs.Lemmas.{one_so, leg_is}
+use Rattle.law_role_inproxy.proofs.Vocabulary.{TellsServer, Told, Follows, Opener, Opening, Connects, Successor, Absent, Up, Joined, ack_for, acked, forwarded, Done, is_some, refuse, taken, unexpected, has_later, finish_by, finished, hand_over, has_passed, is_newcomer, join, joined, on_in_r1_a5, on_later_in_r1_a1, had_client, was_up, is_connection, is_first, is_replacement, is_unknown, kept_for, newest, newest_by, on_first_in_r1_a1, opened, opener, opener_of, with_edge}
+use Rattle.law_role_inproxy.proofs.Vocabulary.{awaits_packet, InProxy, channel_of, hands_over, has_a5, is_client_leg, is_server_leg, same_cookie, on_channel, on_channel_by, on_ci, on_is, packet, pdu, rules, pdu_by as machine_pdu_by, is_leg, HasPacket, IsEnded, IsLeft, IsNew, IsUntold, is_in_r2_a2, Mismatch, NamesConnection, RefusesFor, Unexpected, UnexpectedOnClient, UnexpectedOnServer, UnexpectedPdu, UnexpectedPduBy, ci_leg}
 use Rattle.law_role_inproxy.proofs.Refusing.Legs.{All, IsBehind, Joins, Opened, Opens, Starts, bound, client_is, last, plain, seen}
 use Rattle.law_role_inproxy.proofs.Refusing.Steps.{newcomer_is}
 use Rattle.law_role_inproxy.proofs.Refusing.Answered.{Refuses, acks, begins_so, differs, forwards, names_so, not_same, one_fails, so_mismatch, so_unexpected}
 use Rattle.law_role_inproxy.proofs.Refusing.Channels.{At, Carries}
 use Rattle.law_role_inproxy.proofs.Refusing.Told.{told}
+use Rattle.law_role_inproxy.specs.Refusing.{HasPdu}
 
 module _ (n : ℕ) (p : Passage InProxy) (known : All n (seen p.role) p.came)
     (carries : Carries p)

@@ -1,43 +1,10 @@
 -- each step of an in proxy keeps what is known of its legs
-use Rattle.std.proofs.Common.{◌≡◌, ℕ, suc, ◌<◌, ◌≤◌, ◌==◌, ◌&&◌, Bool, true, false, if◌then◌else◌, List, [], ◌∷◌, ◌++◌, Some, None, inl, inr, refl, sym, ap, subst, ◌∙◌, arith, rules}
-use Rattle.std.proofs.lemmas.Bool.{eqb-true}
-use Rattle.std.proofs.lemmas.Bool.Decides.{nat_tests}
-use Rattle.std.specs.Prelude.{◌⊎◌}
-use Rattle.std.specs.declared.option.Option.{Option}
-use Rattle.law_order.proofs.ByNumber.{by_test}
-use Rattle.rh_rts.specs.declared.command.Cookie.{Cookie}
-use Rattle.rh_sig.specs.declared.named.Named.{Named}
+use Rattle.law_order.proofs.Vocabulary.{◌≡◌, ℕ, suc, ◌<◌, ◌≤◌, ◌==◌, ◌&&◌, Bool, true, false, if◌then◌else◌, List, [], ◌∷◌, ◌++◌, Some, None, inl, inr, refl, sym, ap, subst, ◌∙◌, arith, rules, eqb-true, nat_tests, ◌⊎◌, Option}
 use Rattle.rh_line.specs.Lines as line
-use Rattle.rh_line.specs.declared.leg.Leg.{Leg}
-use Rattle.rh_line.specs.declared.leg.LegKind.TheVariants.{ClientIn}
-use Rattle.rh_line.specs.declared.which.Which.{Which}
-use Rattle.rh_shell.specs.declared.answers.Count.{Count}
-use Rattle.rh_shell.specs.Rules.{Packet}
-use Rattle.rh_inproxy.specs.declared.state.ClientLeg.{ClientLeg}
-use Rattle.rh_inproxy.specs.declared.state.Edge.{Edge}
-use Rattle.rh_inproxy.specs.declared.state.Joining.TheVariants.{Told}
-use Rattle.rh_inproxy.specs.declared.state.Opener.{Opener}
-use Rattle.rh_inproxy.specs.declared.state.Opening.{Opening}
 use Rattle.rh_inproxy.specs.declared.state.Opening.TheVariants as openings
-use Rattle.rh_inproxy.specs.declared.state.Successor.{Successor}
-use Rattle.rh_inproxy.specs.declared.state.Successor.TheVariants.{Absent, Up, Joined}
-use Rattle.rh_inproxy.specs.Acknowledging.{on_ack, on_ack_to}
-use Rattle.rh_inproxy.specs.Answers.{is_some}
-use Rattle.rh_inproxy.specs.Ending.{is_newest, mark, on_end_a1, settled}
-use Rattle.rh_inproxy.specs.InReplacement.{is_newcomer, on_in_r1_b1}
-use Rattle.rh_inproxy.specs.Opening.{head, drawn, is_absent, is_connection, is_replacement, awaits_packet, leg_of, opener_of}
-use Rattle.rh_inproxy.specs.OutReplacement.{on_out_r1_a7}
-use Rattle.rh_inproxy.specs.State.{InProxy, follows, has_opened, is_joined}
-use Rattle.rh_inproxy.specs.Time.{on_keep_alive, ping}
-use Rattle.rh_inproxy.specs.Machine.{pdu}
-use Rattle.law_moves.specs.Moves.{OnLeg}
-use Rattle.law_moves.specs.Wires.{of_leg}
-use Rattle.law_moves.specs.Passages.Passing.{BeginsIn, HasOne, HasBegunIn, count_of}
-use Rattle.law_moves.specs.Passages.Counted.{packets, is_any}
-use Rattle.law_moves.specs.PacketKinds.{is_conn_b1, is_in_r1_a1, opens_server}
-use Rattle.law_moves.proofs.PacketKinds.Counts.{leg_at_most, leg_rises, leg_here, kind_at_most}
-use Rattle.law_role_inproxy.specs.Counted.{is_leg}
-use Rattle.law_role_inproxy.specs.Refusing.{any, ci_leg}
+use Rattle.law_moves.proofs.Vocabulary.{by_test, Cookie, Named, Leg, ClientIn, Which, Count, Packet, OnLeg, of_leg, BeginsIn, HasOne, HasBegunIn, count_of, packets, is_any, is_conn_b1, is_in_r1_a1, opens_server}
+use Rattle.law_moves.proofs.Lemmas.{leg_at_most, leg_rises, leg_here, kind_at_most}
+use Rattle.law_role_inproxy.proofs.Vocabulary.{ClientLeg, Edge, Told, Opener, Opening, Successor, Absent, Up, Joined, on_ack, on_ack_to, is_some, is_newest, mark, on_end_a1, settled, is_newcomer, on_in_r1_b1, head, drawn, is_absent, is_connection, is_replacement, awaits_packet, leg_of, opener_of, on_out_r1_a7, InProxy, follows, has_opened, is_joined, on_keep_alive, ping, pdu, is_leg, any, ci_leg}
 use Rattle.law_role_inproxy.proofs.Refusing.Legs.{All, Opens, Opened, Same, Seen, Starts, bound, leg_sum, on_client, one_last, opened_more, plain, seen}
 
 -- ---- what leaves the legs alone

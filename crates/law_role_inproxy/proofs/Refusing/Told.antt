@@ -1,26 +1,10 @@
 -- the later ci legs of which an in proxy told the server, by IN_R2/A2
-use Rattle.std.proofs.Common.{◌≡◌, ℕ, ◌+◌, ◌≤◌, ◌&&◌, Bool, true, false, if◌then◌else◌, List, refl, sym, ◌∙◌, rules}
-use Rattle.std.proofs.lemmas.Bool.{and_parts}
-use Rattle.law_order.proofs.ByNumber.{by_test}
-use Rattle.rh_rts.specs.declared.command.Cookie.{Cookie}
-use Rattle.rh_sig.specs.declared.named.Named.{Named}
+use Rattle.law_order.proofs.Vocabulary.{◌≡◌, ℕ, ◌+◌, ◌≤◌, ◌&&◌, Bool, true, false, if◌then◌else◌, List, refl, sym, ◌∙◌, rules, and_parts}
 use Rattle.rh_sig.specs.declared.named.Named.TheVariants as named
 use Rattle.rh_line.specs.Lines as line
-use Rattle.rh_line.specs.declared.leg.Leg.{Leg}
-use Rattle.rh_line.specs.declared.which.Which.{Which}
-use Rattle.rh_shell.specs.declared.answers.Count.{Count}
-use Rattle.rh_shell.specs.declared.due.Due.{Due}
-use Rattle.rh_inproxy.specs.declared.state.ClientLeg.{ClientLeg}
-use Rattle.rh_inproxy.specs.declared.state.Joining.TheVariants.{TellsServer, Told, Follows}
-use Rattle.rh_inproxy.specs.declared.state.Successor.{Successor}
-use Rattle.rh_inproxy.specs.declared.state.Successor.TheVariants.{Absent, Up, Joined}
-use Rattle.rh_inproxy.specs.Ending.{is_newest, is_succeeded, mark, on_end_a1, settled}
-use Rattle.rh_inproxy.specs.Opening.{up, head, drawn, on_conn_b1}
-use Rattle.rh_inproxy.specs.State.{InProxy, follows, is_joined}
-use Rattle.rh_inproxy.specs.Time.{on_keep_alive, ping}
-use Rattle.rh_inproxy.specs.Machine.{pdu, on_is}
-use Rattle.law_moves.proofs.PacketKinds.Waits.{waits}
-use Rattle.law_role_inproxy.specs.Refusing.{is_in_r2_a2}
+use Rattle.law_moves.proofs.Vocabulary.{by_test, Cookie, Named, Leg, Which, Count, Due}
+use Rattle.law_moves.proofs.Lemmas.{waits}
+use Rattle.law_role_inproxy.proofs.Vocabulary.{ClientLeg, TellsServer, Told, Follows, Successor, Absent, Up, Joined, is_newest, is_succeeded, mark, on_end_a1, settled, up, head, drawn, on_conn_b1, InProxy, follows, is_joined, on_keep_alive, ping, pdu, on_is, is_in_r2_a2}
 use Rattle.law_role_inproxy.proofs.Refusing.Legs.{IsBehind}
 
 -- ---- what the fact is about

@@ -1,28 +1,14 @@
 -- what an out proxy owes behind a row: no more than what came is worth
-use Rattle.std.proofs.Common.{◌≡◌, ℕ, ◌+◌, ◌≤◌, ◌==◌, Bool, true, false, ◌&&◌, if◌then◌else◌, Ok, Err, refl, sym, ap, arith}
-use Rattle.law_order.proofs.ByNumber.{by_test}
-use Rattle.rh_rts.specs.declared.command.Cookie.{Cookie}
-use Rattle.rh_rts.specs.declared.command.TheConstants.{TO_OUT_PROXY}
-use Rattle.rh_sig.specs.declared.named.Named.{Named}
+use Rattle.law_order.proofs.Vocabulary.{◌≡◌, ℕ, ◌+◌, ◌≤◌, ◌==◌, Bool, true, false, ◌&&◌, if◌then◌else◌, Ok, Err, refl, sym, ap, arith}
 use Rattle.rh_sig.specs.declared.named.Named.TheVariants as named
-use Rattle.rh_line.specs.declared.leg.Leg.{Leg}
-use Rattle.rh_shell.specs.declared.answers.Count.{Count}
-use Rattle.rh_shell.specs.Shells.{one_if}
 use Rattle.rh_shell.specs.Waiting as waiting
-use Rattle.rh_outproxy.specs.declared.state.Channel.{Channel}
 use Rattle.rh_outproxy.specs.declared.state.Channel.TheVariants as channels
 use Rattle.rh_outproxy.specs.declared.state.Mark.TheVariants as marks
-use Rattle.rh_outproxy.specs.declared.state.OutProxyConfig.{OutProxyConfig}
-use Rattle.rh_outproxy.specs.OutProxy.{OutProxy, is_client_marked, is_known, is_server_down}
-use Rattle.rh_outproxy.specs.Rows.{Done, is_co, is_os, is_first, is_carrying, takes_pdus, taken, unexpected, forwarded, forwarded_by, passed_on}
-use Rattle.rh_outproxy.specs.Opening.{told_length, new_length, successor_length, opened, on_out_r2_c1, conn_c1_by}
-use Rattle.rh_outproxy.specs.Acknowledging.{on_ack, on_ack_to}
-use Rattle.rh_outproxy.specs.Ending.{on_end_b1}
-use Rattle.rh_outproxy.specs.OutReplacement.{on_out_r1_a9}
-use Rattle.rh_outproxy.specs.Machine.{packet, on_co, on_os}
-use Rattle.law_moves.proofs.PacketKinds.Waits.{IsSame, waits, forwarded_waits, refused_waits}
+use Rattle.law_moves.proofs.Vocabulary.{by_test, Cookie, TO_OUT_PROXY, Named, Leg, Count, one_if}
+use Rattle.law_moves.proofs.Lemmas.{IsSame, waits, forwarded_waits, refused_waits}
+use Rattle.law_role_outproxy.proofs.Vocabulary.{Channel, OutProxyConfig, OutProxy, is_client_marked, is_known, is_server_down, Done, is_co, is_os, is_first, is_carrying, takes_pdus, taken, unexpected, forwarded, forwarded_by, passed_on, told_length, new_length, successor_length, opened, on_out_r2_c1, conn_c1_by, on_ack, on_ack_to, on_end_b1, on_out_r1_a9, packet, on_co, on_os}
+use Rattle.law_role_outproxy.proofs.Counted.OutProxyOwes.{Leads, is_early, if_owes, other_owes, same_c1, same_ack}
 use Rattle.law_role_outproxy.proofs.Counted.OutProxyOwes as due
-use Rattle.law_role_outproxy.proofs.Counted.OutProxyOwes.{Seen, seen, Leads, Known, is_early, is_answering, is_response_due, first_is_early, both_ways, answer_owes, if_owes, marked_owes, other_owes, same_pdu, same_c1, same_ack, co_at, os_at}
 
 module _ (client server put : Named → Bool) (strict : Bool)
     (leads : Leads client server put strict) (n : ℕ) where

@@ -1,168 +1,33 @@
 -- what an out proxy puts for what came, kind by kind
-use Rattle.std.proofs.Common.{true, false, ◌≤◌, Bool, List, refl, arith}
-use Rattle.rh_sig.specs.declared.named.Named.{Named}
-use Rattle.rh_line.specs.declared.leg.Leg.{Leg}
-use Rattle.rh_outproxy.specs.declared.state.OutProxyConfig.{OutProxyConfig}
-use Rattle.rh_outproxy.specs.OutProxy.{new_proxy}
-use Rattle.rh_outproxy.specs.Machine.{rules}
-use Rattle.law_moves.specs.Moves.{Move, AreAllowed, started, all_moved}
-use Rattle.law_moves.specs.Wires.{of_leg}
-use Rattle.law_moves.specs.Passages.Passing.{count_of}
-use Rattle.law_moves.specs.PacketKinds.{is_conn_a1, is_conn_a2, is_conn_a3, is_conn_c1, is_conn_c2, is_in_r1_a3, is_in_r1_a4, is_in_r2_a3, is_in_r2_a4, is_out_r1_a1, is_out_r1_a2, is_out_r1_a3, is_out_r1_a4, is_out_r1_a5, is_out_r1_a6, is_out_r1_a9, is_out_r1_a10, is_end_b1, is_end_b2}
-use Rattle.law_moves.proofs.PacketKinds.Counts.{none, count_none}
-use Rattle.law_moves.proofs.PacketKinds.Pays.{allowed_rise, any_rise}
-use Rattle.law_role_outproxy.specs.Counted.{co_leg, os_leg, ForwardsWhatCame, OpensWhatCame}
+use Rattle.law_order.proofs.Vocabulary.{true, false, ◌≤◌, Bool, List, refl, arith}
+use Rattle.law_moves.proofs.Vocabulary.{Named, Leg, Move, AreAllowed, started, all_moved, of_leg, count_of, is_conn_a1, is_conn_a2, is_conn_a3, is_conn_c1, is_conn_c2, is_in_r1_a3, is_in_r1_a4, is_in_r2_a3, is_in_r2_a4, is_out_r1_a1, is_out_r1_a2, is_out_r1_a3, is_out_r1_a4, is_out_r1_a5, is_out_r1_a6, is_out_r1_a9, is_out_r1_a10, is_end_b1, is_end_b2}
+use Rattle.law_moves.proofs.Lemmas.{none, count_none, allowed_rise, any_rise}
+use Rattle.law_role_outproxy.proofs.Vocabulary.{OutProxyConfig, new_proxy, rules, co_leg, os_leg, ForwardsWhatCame, OpensWhatCame}
 use Rattle.law_role_outproxy.proofs.Counted.OutProxyOwes.{Leads, MayUp}
 use Rattle.law_role_outproxy.proofs.Counted.OutProxyPays.{out_proxy_pays}
 
 -- ---- kinds
 
 c1_leads : Leads none is_conn_c1 is_conn_c2 false
-c1_leads = record {
-  closed = λ e. record {
-    conn_a2 = λ lifetime size connection channel. refl;
-    conn_a3 = λ timeout. refl;
-    out_r1_a4 = λ lifetime size timeout connection predecessor channel. refl;
-  };
-  connects = λ version window lifetime size timeout connection channel. omega arith;
-  replaces = λ version window lifetime size timeout connection predecessor channel. omega arith;
-  opens = λ version size timeout. omega arith;
-  in_r1 = λ to version size timeout. omega arith;
-  in_r2 = λ to. omega arith;
-  wishes = λ to. omega arith;
-  answers = λ to version timeout. omega arith;
-  leaves = omega arith;
-  ends = omega arith;
-  acks = λ to received available channel. refl;
-  own_acks = λ received available channel. refl;
-  pings = refl;
-}
+c1_leads = grind arith
 
 in_r1_leads : Leads none is_in_r1_a3 is_in_r1_a4 false
-in_r1_leads = record {
-  closed = λ e. record {
-    conn_a2 = λ lifetime size connection channel. refl;
-    conn_a3 = λ timeout. refl;
-    out_r1_a4 = λ lifetime size timeout connection predecessor channel. refl;
-  };
-  connects = λ version window lifetime size timeout connection channel. omega arith;
-  replaces = λ version window lifetime size timeout connection predecessor channel. omega arith;
-  opens = λ version size timeout. omega arith;
-  in_r1 = λ to version size timeout. omega arith;
-  in_r2 = λ to. omega arith;
-  wishes = λ to. omega arith;
-  answers = λ to version timeout. omega arith;
-  leaves = omega arith;
-  ends = omega arith;
-  acks = λ to received available channel. refl;
-  own_acks = λ received available channel. refl;
-  pings = refl;
-}
+in_r1_leads = grind arith
 
 in_r2_leads : Leads none is_in_r2_a3 is_in_r2_a4 false
-in_r2_leads = record {
-  closed = λ e. record {
-    conn_a2 = λ lifetime size connection channel. refl;
-    conn_a3 = λ timeout. refl;
-    out_r1_a4 = λ lifetime size timeout connection predecessor channel. refl;
-  };
-  connects = λ version window lifetime size timeout connection channel. omega arith;
-  replaces = λ version window lifetime size timeout connection predecessor channel. omega arith;
-  opens = λ version size timeout. omega arith;
-  in_r1 = λ to version size timeout. omega arith;
-  in_r2 = λ to. omega arith;
-  wishes = λ to. omega arith;
-  answers = λ to version timeout. omega arith;
-  leaves = omega arith;
-  ends = omega arith;
-  acks = λ to received available channel. refl;
-  own_acks = λ received available channel. refl;
-  pings = refl;
-}
+in_r2_leads = grind arith
 
 a1_leads : Leads none is_out_r1_a1 is_out_r1_a2 false
-a1_leads = record {
-  closed = λ e. record {
-    conn_a2 = λ lifetime size connection channel. refl;
-    conn_a3 = λ timeout. refl;
-    out_r1_a4 = λ lifetime size timeout connection predecessor channel. refl;
-  };
-  connects = λ version window lifetime size timeout connection channel. omega arith;
-  replaces = λ version window lifetime size timeout connection predecessor channel. omega arith;
-  opens = λ version size timeout. omega arith;
-  in_r1 = λ to version size timeout. omega arith;
-  in_r2 = λ to. omega arith;
-  wishes = λ to. omega arith;
-  answers = λ to version timeout. omega arith;
-  leaves = omega arith;
-  ends = omega arith;
-  acks = λ to received available channel. refl;
-  own_acks = λ received available channel. refl;
-  pings = refl;
-}
+a1_leads = grind arith
 
 a5_leads : Leads none is_out_r1_a5 is_out_r1_a6 false
-a5_leads = record {
-  closed = λ e. record {
-    conn_a2 = λ lifetime size connection channel. refl;
-    conn_a3 = λ timeout. refl;
-    out_r1_a4 = λ lifetime size timeout connection predecessor channel. refl;
-  };
-  connects = λ version window lifetime size timeout connection channel. omega arith;
-  replaces = λ version window lifetime size timeout connection predecessor channel. omega arith;
-  opens = λ version size timeout. omega arith;
-  in_r1 = λ to version size timeout. omega arith;
-  in_r2 = λ to. omega arith;
-  wishes = λ to. omega arith;
-  answers = λ to version timeout. omega arith;
-  leaves = omega arith;
-  ends = omega arith;
-  acks = λ to received available channel. refl;
-  own_acks = λ received available channel. refl;
-  pings = refl;
-}
+a5_leads = grind arith
 
 a9_leads : Leads none is_out_r1_a9 is_out_r1_a10 false
-a9_leads = record {
-  closed = λ e. record {
-    conn_a2 = λ lifetime size connection channel. refl;
-    conn_a3 = λ timeout. refl;
-    out_r1_a4 = λ lifetime size timeout connection predecessor channel. refl;
-  };
-  connects = λ version window lifetime size timeout connection channel. omega arith;
-  replaces = λ version window lifetime size timeout connection predecessor channel. omega arith;
-  opens = λ version size timeout. omega arith;
-  in_r1 = λ to version size timeout. omega arith;
-  in_r2 = λ to. omega arith;
-  wishes = λ to. omega arith;
-  answers = λ to version timeout. omega arith;
-  leaves = omega arith;
-  ends = omega arith;
-  acks = λ to received available channel. refl;
-  own_acks = λ received available channel. refl;
-  pings = refl;
-}
+a9_leads = grind arith
 
 b1_leads : Leads none is_end_b1 is_end_b2 false
-b1_leads = record {
-  closed = λ e. record {
-    conn_a2 = λ lifetime size connection channel. refl;
-    conn_a3 = λ timeout. refl;
-    out_r1_a4 = λ lifetime size timeout connection predecessor channel. refl;
-  };
-  connects = λ version window lifetime size timeout connection channel. omega arith;
-  replaces = λ version window lifetime size timeout connection predecessor channel. omega arith;
-  opens = λ version size timeout. omega arith;
-  in_r1 = λ to version size timeout. omega arith;
-  in_r2 = λ to. omega arith;
-  wishes = λ to. omega arith;
-  answers = λ to version timeout. omega arith;
-  leaves = omega arith;
-  ends = omega arith;
-  acks = λ to received available channel. refl;
-  own_acks = λ received available channel. refl;
-  pings = refl;
-}
+b1_leads = grind arith
 
 conn_a2_leads : Leads is_conn_a1 none is_conn_a2 true
 conn_a2_leads = record {

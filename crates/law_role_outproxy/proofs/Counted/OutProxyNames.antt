@@ -1,37 +1,11 @@
 -- what an out proxy puts first to the server names what its client named
-use Rattle.std.proofs.Common.{◌≡◌, ◌⊎◌, ℕ, true, ◌&&◌, inl, inr, if◌then◌else◌, List, [], ◌∷◌, ◌++◌, Some, None, Ok, Err, refl, sym, ap, ◌∙◌, subst, rules}
-use Rattle.std.specs.Prelude.{IfSome}
-use Rattle.std.specs.declared.option.Option.{Option}
-use Rattle.rh_window.specs.declared.recv_window.Ack.{Ack}
-use Rattle.law_order.proofs.ByNumber.{by_test}
-use Rattle.rh_rts.specs.declared.command.Cookie.{Cookie}
-use Rattle.rh_sig.specs.declared.named.Named.{Named}
+use Rattle.law_order.proofs.Vocabulary.{◌≡◌, ◌⊎◌, ℕ, true, ◌&&◌, inl, inr, if◌then◌else◌, List, [], ◌∷◌, ◌++◌, Some, None, Ok, Err, refl, sym, ap, ◌∙◌, subst, rules, IfSome, Option}
 use Rattle.rh_sig.specs.declared.named.Named.TheVariants as named
-use Rattle.rh_line.specs.declared.leg.Leg.{Leg}
-use Rattle.rh_shell.specs.declared.answers.Count.{Count}
-use Rattle.rh_shell.specs.declared.due.Due.{Due}
-use Rattle.rh_shell.specs.Rules.{Message, Text, Pdu, Packet}
-use Rattle.rh_outproxy.specs.declared.state.Answer.{Answer}
-use Rattle.rh_outproxy.specs.declared.state.Channel.{Channel}
 use Rattle.rh_outproxy.specs.declared.state.Channel.TheVariants as channels
-use Rattle.rh_outproxy.specs.declared.state.OutProxyConfig.{OutProxyConfig}
-use Rattle.rh_outproxy.specs.OutProxy.{OutProxy, is_server_first, joined, new_proxy}
-use Rattle.rh_outproxy.specs.Rows.{Done, is_co, is_os, is_first, unexpected, forwarded, passed_on}
-use Rattle.rh_outproxy.specs.Opening.{up, head, told_length, new_length, successor_length, opened, on_out_r2_c1, conn_c1_by, first_packet}
-use Rattle.rh_outproxy.specs.Acknowledging.{on_ack_to, ack_due}
-use Rattle.rh_outproxy.specs.Ending.{drawn, mark, on_end_b1}
-use Rattle.rh_outproxy.specs.OutReplacement.{on_out_r1_a9}
-use Rattle.rh_outproxy.specs.Putting.{Pick, or_else, answer_by, put_answer, waiting_by, put_waiting, pdu_by, put_pdu, put_mark, put_ping, next_co, first_by, put_first, ack_by, put_ack, next_os}
-use Rattle.rh_outproxy.specs.Putting.{put as put_of}
-use Rattle.rh_outproxy.specs.Machine.{pdu, packet, on_co, on_os}
-use Rattle.rh_outproxy.specs.Machine.{rules as proxy_rules}
-use Rattle.law_moves.specs.Moves.{OnLeg, Move, started, all_moved}
-use Rattle.law_moves.specs.Wires.{of_leg}
-use Rattle.law_moves.specs.Passages.Passing.{Has, HasOne}
-use Rattle.law_moves.proofs.Passages.Logs.{RowKeeps, PutKeeps, StepsKeep, moves_keep}
-use Rattle.law_moves.proofs.Passages.Messages.{leg_more, one_more_so, last_one_so}
-use Rattle.law_moves.proofs.PacketKinds.Counts.{leg_is, here_more, other_more}
-use Rattle.law_role_outproxy.specs.Counted.{co_leg, os_leg, NamesNew, NamesSuccessor, IsOpenedBy, OpensAsAsked}
+use Rattle.law_moves.proofs.Vocabulary.{Ack, by_test, Cookie, Named, Leg, Count, Due, Message, Text, Pdu, Packet, OnLeg, Move, started, all_moved, of_leg, Has, HasOne}
+use Rattle.law_moves.proofs.Lemmas.{RowKeeps, PutKeeps, StepsKeep, moves_keep, leg_more, one_more_so, last_one_so, leg_is, here_more, other_more}
+use Rattle.law_role_outproxy.proofs.Vocabulary.{Answer, Channel, OutProxyConfig, OutProxy, is_server_first, joined, new_proxy, Done, is_co, is_os, is_first, unexpected, forwarded, passed_on, up, head, told_length, new_length, successor_length, opened, on_out_r2_c1, conn_c1_by, first_packet, on_ack_to, ack_due, drawn, mark, on_end_b1, on_out_r1_a9, Pick, or_else, answer_by, put_answer, waiting_by, put_waiting, pdu_by, put_pdu, put_mark, put_ping, next_co, first_by, put_first}
+use Rattle.law_role_outproxy.proofs.Vocabulary.{ack_by, put_ack, next_os, put as put_of, pdu, packet, on_co, on_os, rules as proxy_rules, co_leg, os_leg, NamesNew, NamesSuccessor, IsOpenedBy, OpensAsAsked}
 
 -- what the facts are about
 record Seen : Type 0 where
@@ -112,14 +86,14 @@ same_co s =
 
 -- ---- what was asked
 
-abbrev IsAsked : Channel → List Message → Type 0
+abbrev pub IsAsked : Channel → List Message → Type 0
 IsAsked channels.Unknown came = Unit {0}
 IsAsked (channels.New connection cookie) came = HasOne (NamesNew connection cookie) came
 IsAsked (channels.Joined connection cookie) came = HasOne (NamesNew connection cookie) came
 IsAsked (channels.Successor connection predecessor cookie) came =
     HasOne (NamesSuccessor connection predecessor cookie) came
 
-asked_more : (c : Channel) (a b : List Message) → IsAsked c a → IsAsked c (a ++ b)
+pub asked_more : (c : Channel) (a b : List Message) → IsAsked c a → IsAsked c (a ++ b)
 asked_more channels.Unknown a b h = tt
 asked_more (channels.New connection cookie) a b h =
     one_more_so (NamesNew connection cookie) a b h

@@ -1,31 +1,13 @@
 -- where the moves of an out proxy are counted, its client opens one channel
-use Rattle.std.proofs.Common.{◌≡◌, ℕ, suc, ◌≤◌, ◌&&◌, Bool, true, false, if◌then◌else◌, List, [], ◌∷◌, ◌++◌, Some, None, Ok, Err, refl, ap, subst, arith}
-use Rattle.std.proofs.lemmas.Bool.{and_parts}
-use Rattle.law_order.proofs.ByNumber.{by_test}
-use Rattle.rh_sig.specs.declared.named.Named.{Named}
+use Rattle.law_order.proofs.Vocabulary.{◌≡◌, ℕ, suc, ◌≤◌, ◌&&◌, Bool, true, false, if◌then◌else◌, List, [], ◌∷◌, ◌++◌, Some, None, Ok, Err, refl, ap, subst, arith, and_parts}
 use Rattle.rh_sig.specs.declared.named.Named.TheVariants as named
-use Rattle.rh_line.specs.declared.leg.Leg.{Leg}
-use Rattle.rh_shell.specs.declared.answers.Count.{Count}
 use Rattle.rh_shell.specs.declared.answers.Count.TheVariants as count
-use Rattle.rh_shell.specs.Rules.{Message, Text, Pdu, Packet}
-use Rattle.rh_shell.specs.Shells.{same_leg, one_if}
-use Rattle.rh_outproxy.specs.declared.state.OutProxyConfig.{OutProxyConfig}
-use Rattle.rh_outproxy.specs.OutProxy.{OutProxy, new_proxy}
-use Rattle.rh_outproxy.specs.Rows.{Done, is_co, is_os, is_first, unexpected}
-use Rattle.rh_outproxy.specs.Opening.{told_length, new_length, successor_length}
-use Rattle.rh_outproxy.specs.Machine.{pdu, packet, on_co, on_os}
-use Rattle.rh_outproxy.specs.Machine.{rules as proxy_rules}
-use Rattle.rh_outproxy.specs.Putting.{Pick}
-use Rattle.rh_outproxy.specs.Putting.{put as put_of}
-use Rattle.law_moves.specs.Moves.{OnLeg, Move, Up, HeadCame, PduCame, PacketCame, Puts, IsDrawn, Marks, Pings, Passage, started, moved, all_moved, taken_by, put_by}
-use Rattle.law_moves.specs.Wires.{of_leg}
-use Rattle.law_moves.specs.Passages.Passing.{count_of}
-use Rattle.law_moves.specs.Passages.Counted.{Tells, IsCounted, AreCounted, packets}
-use Rattle.law_moves.specs.PacketKinds.{opens_client}
-use Rattle.law_moves.proofs.PacketKinds.Counts.{leg_is, one_counts, leg_at_most, leg_beside}
+use Rattle.law_moves.proofs.Vocabulary.{by_test, Named, Leg, Count, Message, Text, Pdu, Packet, same_leg, one_if, OnLeg, Move, Up, HeadCame, PduCame, PacketCame, Puts, IsDrawn, Marks, Pings, Passage, started, moved, all_moved, taken_by, put_by, of_leg, count_of, Tells, IsCounted, AreCounted, packets, opens_client}
+use Rattle.law_moves.proofs.Lemmas.{leg_is, one_counts, leg_at_most, leg_beside}
+use Rattle.law_role_outproxy.proofs.Vocabulary.{OutProxyConfig, OutProxy, new_proxy, Done, is_co, is_os, is_first, unexpected, told_length, new_length, successor_length, pdu, packet, on_co, on_os, rules as proxy_rules, Pick, put as put_of}
 
 -- no more packets pass a test than there are
-at_most_all : (test : Named → Bool) (messages : List Message)
+pub at_most_all : (test : Named → Bool) (messages : List Message)
     → count_of test messages ≤ packets messages
 at_most_all test [] = omega arith
 at_most_all test (Text bytes ∷ messages) = at_most_all test messages
@@ -42,7 +24,7 @@ abbrev IsFirst : Count → Done → Type 0
 IsFirst number (t, Ok taken) = number ≡ count.Zero
 IsFirst number (t, Err why) = Unit {0}
 
-is_zero : (number : Count) → is_first number ≡ true → number ≡ count.Zero
+pub is_zero : (number : Count) → is_first number ≡ true → number ≡ count.Zero
 is_zero count.Zero e = refl
 is_zero count.One e = absurd cc
 is_zero count.More e = absurd cc

@@ -1,43 +1,16 @@
 -- what an out proxy owes for what came
-use Rattle.std.proofs.Common.{◌≡◌, ℕ, ◌+◌, ◌≤◌, Bool, true, false, true≢false, IsTrue, ◌&&◌, ◌||◌, if◌then◌else◌, List, Some, Ok, Err, refl, sym, ap, ◌∙◌, subst, arith, rules}
-use Rattle.std.specs.Prelude.{nat_le}
-use Rattle.std.proofs.lemmas.Bool.{and_parts}
-use Rattle.std.specs.declared.result.Result.{Result}
-use Rattle.law_order.proofs.ByNumber.{by_test}
-use Rattle.rh_rts.specs.declared.command.Cookie.{Cookie}
-use Rattle.rh_sig.specs.declared.named.Named.{Named}
+use Rattle.law_order.proofs.Vocabulary.{◌≡◌, ℕ, ◌+◌, ◌≤◌, Bool, true, false, true≢false, IsTrue, ◌&&◌, ◌||◌, if◌then◌else◌, List, Some, Ok, Err, refl, sym, ap, ◌∙◌, subst, arith, rules, nat_le, and_parts, Result}
 use Rattle.rh_sig.specs.declared.named.Named.TheVariants as named
-use Rattle.rh_http.specs.declared.fault.HttpFault.{HttpFault}
-use Rattle.rh_http.specs.Lengths.{greatest_echo}
-use Rattle.rh_http.specs.Heads.Verdicts.{Asked, request_verdict}
-use Rattle.rh_line.specs.declared.leg.Leg.{Leg}
-use Rattle.rh_line.specs.declared.leg.LegKind.TheVariants.{ClientOut, OutServer}
-use Rattle.rh_shell.specs.declared.answers.Count.{Count}
-use Rattle.rh_shell.specs.declared.answers.HeadRefused.{HeadRefused}
-use Rattle.rh_shell.specs.declared.answers.HeadTaken.{HeadTaken}
-use Rattle.rh_shell.specs.Shells.{one_if}
 use Rattle.rh_shell.specs.Waiting as waiting
-use Rattle.rh_outproxy.specs.declared.state.Answer.{Answer}
 use Rattle.rh_outproxy.specs.declared.state.Answer.TheVariants as answers
-use Rattle.rh_outproxy.specs.declared.state.Channel.{Channel}
 use Rattle.rh_outproxy.specs.declared.state.Channel.TheVariants as channels
 use Rattle.rh_outproxy.specs.declared.state.ClientLeg.TheVariants as clients
-use Rattle.rh_outproxy.specs.declared.state.Mark.{Mark}
 use Rattle.rh_outproxy.specs.declared.state.Mark.TheVariants as marks
-use Rattle.rh_outproxy.specs.declared.state.OutProxyConfig.{OutProxyConfig}
-use Rattle.rh_outproxy.specs.declared.state.ServerLeg.{ServerLeg}
 use Rattle.rh_outproxy.specs.declared.state.ServerLeg.TheVariants as servers
-use Rattle.rh_outproxy.specs.OutProxy.{OutProxy, is_client_down, is_echo_put, is_known, is_server_down, is_server_first}
-use Rattle.rh_outproxy.specs.Rows.{Done, is_co, is_os, taken}
-use Rattle.rh_outproxy.specs.Opening.{wants, up, head, head_by, on_out_r2_c1}
-use Rattle.rh_outproxy.specs.Acknowledging.{on_ack}
-use Rattle.rh_outproxy.specs.Ending.{drawn, mark}
-use Rattle.rh_outproxy.specs.Putting.{Pick}
-use Rattle.rh_outproxy.specs.Machine.{pdu}
-use Rattle.rh_outproxy.specs.Machine.{rules as proxy_rules}
-use Rattle.law_moves.proofs.PacketKinds.Waits.{IsNoAck, waits}
+use Rattle.law_moves.proofs.Vocabulary.{by_test, Cookie, Named, HttpFault, greatest_echo, Asked, request_verdict, Leg, ClientOut, OutServer, Count, HeadRefused, HeadTaken, one_if}
+use Rattle.law_moves.proofs.Lemmas.{IsNoAck, waits}
 use Rattle.law_moves.proofs.PacketKinds.Pays as pays
-use Rattle.law_moves.proofs.PacketKinds.Pays.{StepsPay, moves_pay, allowed_rise}
+use Rattle.law_role_outproxy.proofs.Vocabulary.{Answer, Channel, Mark, OutProxyConfig, ServerLeg, OutProxy, is_client_down, is_echo_put, is_known, is_server_down, is_server_first, Done, is_co, is_os, taken, wants, up, head, head_by, on_out_r2_c1, on_ack, drawn, mark, Pick, pdu, rules as proxy_rules}
 
 -- what the facts are about
 pub record Seen : Type 0 where

@@ -1,44 +1,16 @@
 -- an out proxy puts no more packets of a kind than came for them
-use Rattle.std.proofs.Common.{◌≡◌, ℕ, ◌+◌, ◌≤◌, Bool, true, false, ◌&&◌, if◌then◌else◌, List, [], ◌∷◌, ◌++◌, length, Some, None, refl, sym, ap, ◌∙◌, subst, arith}
-use Rattle.std.specs.Prelude.{nat_le}
-use Rattle.std.proofs.lemmas.Bool.{and_parts}
-use Rattle.std.specs.declared.option.Option.{Option}
-use Rattle.rh_window.specs.Sending.{may_send}
-use Rattle.rh_window.specs.declared.recv_window.Ack.{Ack}
-use Rattle.law_order.proofs.ByNumber.{by_test}
-use Rattle.rh_rts.specs.declared.command.Cookie.{Cookie}
-use Rattle.rh_sig.specs.declared.named.Named.{Named}
+use Rattle.law_order.proofs.Vocabulary.{◌≡◌, ℕ, ◌+◌, ◌≤◌, Bool, true, false, ◌&&◌, if◌then◌else◌, List, [], ◌∷◌, ◌++◌, length, Some, None, refl, sym, ap, ◌∙◌, subst, arith, nat_le, and_parts, Option}
 use Rattle.rh_sig.specs.declared.named.Named.TheVariants as named
-use Rattle.rh_line.specs.Lines.{is_empty}
-use Rattle.rh_line.specs.declared.leg.Leg.{Leg}
-use Rattle.rh_shell.specs.declared.due.Due.{Due}
-use Rattle.rh_shell.specs.Rules.{Packet}
-use Rattle.rh_shell.specs.Shells.{one_if}
-use Rattle.rh_outproxy.specs.declared.state.Answer.{Answer}
 use Rattle.rh_outproxy.specs.declared.state.Answer.TheVariants as answers
-use Rattle.rh_outproxy.specs.declared.state.Channel.{Channel}
 use Rattle.rh_outproxy.specs.declared.state.Channel.TheVariants as channels
-use Rattle.rh_outproxy.specs.declared.state.Mark.{Mark}
 use Rattle.rh_outproxy.specs.declared.state.Mark.TheVariants as marks
-use Rattle.rh_outproxy.specs.declared.state.OutProxyConfig.{OutProxyConfig}
 use Rattle.rh_outproxy.specs.declared.state.ServerLeg.TheVariants as servers
-use Rattle.rh_outproxy.specs.OutProxy.{OutProxy, is_due, is_ping_due, is_known, is_server_down, is_server_first, joined, new_proxy}
-use Rattle.rh_outproxy.specs.Rows.{is_co, is_os}
-use Rattle.rh_outproxy.specs.Opening.{first_packet}
-use Rattle.rh_outproxy.specs.Acknowledging.{ack_due}
-use Rattle.rh_outproxy.specs.Putting.{Pick, or_else, ping_room, behind_response, answer_by, put_answer, waiting_by, put_waiting, pdu_by, put_pdu, put_end, put_handover, put_mark, put_ping, next_co, first_by, put_first, ack_by, put_ack, next_os}
-use Rattle.rh_outproxy.specs.Putting.{put as put_of}
-use Rattle.rh_outproxy.specs.Machine.{pdu}
-use Rattle.rh_outproxy.specs.Machine.{rules as proxy_rules}
-use Rattle.law_moves.specs.Moves.{OnLeg, Move, started, all_moved}
-use Rattle.law_moves.specs.Wires.{of_leg}
-use Rattle.law_moves.specs.Passages.Passing.{count_of}
-use Rattle.law_moves.proofs.PacketKinds.Counts.{leg_is, one_counts, leg_rises, leg_here}
-use Rattle.law_moves.proofs.PacketKinds.Waits.{waits}
-use Rattle.law_moves.proofs.PacketKinds.Pays.{StepsPay, Rise, moves_pay}
-use Rattle.law_role_outproxy.proofs.Counted.OutProxyOwes as due
-use Rattle.law_role_outproxy.proofs.Counted.OutProxyOwes.{Seen, seen, Leads, Known, is_early, is_answering, is_response_due, first_is_early, if_zero, both_ways, answer_owes, if_owes, marked_owes, other_owes, same_pdu, same_c1, same_ack, co_at, os_at}
+use Rattle.law_moves.proofs.Vocabulary.{may_send, Ack, by_test, Cookie, Named, is_empty, Leg, Due, Packet, one_if, OnLeg, Move, started, all_moved, of_leg, count_of}
+use Rattle.law_moves.proofs.Lemmas.{leg_is, one_counts, leg_rises, leg_here, waits, StepsPay, Rise, moves_pay}
+use Rattle.law_role_outproxy.proofs.Vocabulary.{Answer, Channel, Mark, OutProxyConfig, OutProxy, is_due, is_ping_due, is_known, is_server_down, is_server_first, joined, new_proxy, is_co, is_os, first_packet, ack_due, Pick, or_else, ping_room, behind_response, answer_by, put_answer, waiting_by, put_waiting, pdu_by, put_pdu, put_end, put_handover, put_mark, put_ping, next_co, first_by, put_first, ack_by, put_ack, next_os, put as put_of, pdu, rules as proxy_rules}
+use Rattle.law_role_outproxy.proofs.Counted.OutProxyOwes.{Leads, is_answering, is_response_due, first_is_early, if_zero, both_ways, answer_owes, marked_owes, same_pdu, co_at, os_at}
 use Rattle.law_role_outproxy.proofs.Counted.OutProxyGains.{packet_gains}
+use Rattle.law_role_outproxy.proofs.Counted.OutProxyOwes as due
 
 module _ (client server put : Named → Bool) (strict : Bool)
     (leads : Leads client server put strict) (n : ℕ) where

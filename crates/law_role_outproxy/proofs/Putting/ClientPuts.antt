@@ -1,39 +1,13 @@
 -- each message that an out proxy puts keeps what it puts to its client in order
-use Rattle.std.proofs.Common.{◌≡◌, ℕ, ◌+◌, ◌&&◌, ◌||◌, not, Bool, true, false, true≢false, List, [], ◌∷◌, ◌++◌, length, Some, None, is_some, refl, sym, ap, ◌∙◌, subst}
-use Rattle.std.proofs.lemmas.Bool.{and_parts}
-use Rattle.std.specs.Prelude.{nat_le}
-use Rattle.std.specs.declared.option.Option.{Option}
-use Rattle.rh_window.specs.Sending.{after_sent, may_send}
-use Rattle.rh_window.specs.declared.recv_window.Ack.{Ack}
-use Rattle.law_order.proofs.ByNumber.{by_test}
-use Rattle.rh_rts.specs.declared.command.Cookie.{Cookie}
-use Rattle.rh_sig.specs.declared.named.Named.{Named}
+use Rattle.law_order.proofs.Vocabulary.{◌≡◌, ℕ, ◌+◌, ◌&&◌, ◌||◌, not, Bool, true, false, true≢false, List, [], ◌∷◌, ◌++◌, length, Some, None, is_some, refl, sym, ap, ◌∙◌, subst, and_parts, nat_le, Option}
 use Rattle.rh_sig.specs.declared.named.Named.TheVariants as named
-use Rattle.rh_line.specs.Lines.{after_take, after_told, is_empty}
-use Rattle.rh_line.specs.declared.leg.Leg.{Leg}
-use Rattle.rh_line.specs.declared.which.Which.TheVariants.{Current}
-use Rattle.rh_shell.specs.declared.due.Due.{Due}
-use Rattle.rh_shell.specs.declared.waiting.TheConstants.{FORWARDED_ROOM}
-use Rattle.rh_shell.specs.Rules.{Message, Text, Pdu, Packet}
-use Rattle.rh_shell.specs.Waiting.{Waiting, with_due}
-use Rattle.rh_outproxy.specs.declared.state.Answer.{Answer}
 use Rattle.rh_outproxy.specs.declared.state.Answer.TheVariants as answers
 use Rattle.rh_outproxy.specs.declared.state.Mark.TheVariants as marks
-use Rattle.rh_outproxy.specs.declared.state.OutProxyConfig.{OutProxyConfig}
 use Rattle.rh_outproxy.specs.declared.state.Ping.TheVariants as pings
-use Rattle.rh_outproxy.specs.declared.state.ServerLeg.{ServerLeg}
 use Rattle.rh_outproxy.specs.declared.state.ServerLeg.TheVariants as servers
-use Rattle.rh_outproxy.specs.OutProxy.{OutProxy, is_due, is_ping_due, is_server_down, is_server_first, is_successor, joined}
-use Rattle.rh_outproxy.specs.Opening.{first_packet}
-use Rattle.rh_outproxy.specs.Acknowledging.{ack_due}
-use Rattle.rh_outproxy.specs.Putting.{Pick, ping_room, or_else, answer_by, behind_response, echo_text, put_answer, waiting_by, put_waiting, pdu_by, put_pdu, put_end, put_handover, put_mark, put_ping, next_co, first_by, put_first, ack_by, put_ack, next_os}
-use Rattle.rh_outproxy.specs.Machine.{pdu}
-use Rattle.law_moves.specs.Moves.{OnLeg}
-use Rattle.law_moves.specs.Wires.{of_leg}
-use Rattle.law_moves.proofs.Passages.Logs.{PutKeeps}
-use Rattle.law_moves.proofs.PacketKinds.Counts.{here_more, other_more}
-use Rattle.law_role_outproxy.specs.Counted.{co_leg, os_leg}
-use Rattle.law_role_outproxy.specs.Putting.{response, IsPassed}
+use Rattle.law_moves.proofs.Vocabulary.{after_sent, may_send, Ack, by_test, Cookie, Named, after_take, after_told, is_empty, Leg, Current, Due, FORWARDED_ROOM, Message, Text, Pdu, Packet, Waiting, with_due, OnLeg, of_leg}
+use Rattle.law_moves.proofs.Lemmas.{PutKeeps, here_more, other_more}
+use Rattle.law_role_outproxy.proofs.Vocabulary.{Answer, OutProxyConfig, ServerLeg, OutProxy, is_due, is_ping_due, is_server_down, is_server_first, is_successor, joined, first_packet, ack_due, Pick, ping_room, or_else, answer_by, behind_response, echo_text, put_answer, waiting_by, put_waiting, pdu_by, put_pdu, put_end, put_handover, put_mark, put_ping, next_co, first_by, put_first, ack_by, put_ack, next_os, pdu, co_leg, os_leg, response, IsPassed}
 use Rattle.law_role_outproxy.proofs.Putting.Standing.{Core, core_of, seen, is_still, IsQuiet, IsServing, IsDown, due_by, Kind, At, Stands, kind_waits, kind_passes, kind_pings, put_more, response_goes, response_serves, timeout_goes}
 use Rattle.law_role_outproxy.proofs.Putting.ClientRows.{not_still, still_by, same_holds, at_down, down_holds, quiet_down, at_up}
 

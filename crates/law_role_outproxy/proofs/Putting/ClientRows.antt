@@ -1,43 +1,14 @@
 -- what comes to an out proxy keeps what it puts to its client in order
-use Rattle.std.proofs.Common.{◌≡◌, inl, inr, ℕ, ◌≤◌, ◌==◌, ◌&&◌, ◌||◌, not, Bool, true, false, true≢false, List, [], ◌∷◌, ◌++◌, Some, None, is_some, Ok, Err, refl, sym, ap, ◌∙◌, subst, rules}
-use Rattle.std.proofs.lemmas.Bool.{and_parts, eqb-true}
-use Rattle.std.specs.declared.option.Option.{Option}
-use Rattle.law_order.proofs.ByNumber.{by_test}
-use Rattle.rh_rts.specs.declared.command.Cookie.{Cookie}
-use Rattle.rh_rts.specs.declared.command.TheConstants.{TO_OUT_PROXY}
-use Rattle.rh_sig.specs.declared.named.Named.{Named}
+use Rattle.law_order.proofs.Vocabulary.{◌≡◌, inl, inr, ℕ, ◌≤◌, ◌==◌, ◌&&◌, ◌||◌, not, Bool, true, false, true≢false, List, [], ◌∷◌, ◌++◌, Some, None, is_some, Ok, Err, refl, sym, ap, ◌∙◌, subst, rules, and_parts, eqb-true, Option}
 use Rattle.rh_sig.specs.declared.named.Named.TheVariants as named
-use Rattle.rh_http.specs.Heads.Verdicts.{Asked}
-use Rattle.rh_line.specs.declared.leg.Leg.{Leg}
-use Rattle.rh_shell.specs.declared.answers.Count.{Count}
-use Rattle.rh_shell.specs.declared.due.Due.{Due}
-use Rattle.rh_shell.specs.declared.waiting.TheConstants.{FORWARDED_ROOM}
-use Rattle.rh_shell.specs.Rules.{Message, Pdu, Packet}
 use Rattle.rh_shell.specs.Waiting as waits
-use Rattle.rh_shell.specs.Waiting.{Waiting, to_forward, with_due}
-use Rattle.rh_outproxy.specs.declared.state.Answer.{Answer}
 use Rattle.rh_outproxy.specs.declared.state.Answer.TheVariants as answers
-use Rattle.rh_outproxy.specs.declared.state.Channel.{Channel}
 use Rattle.rh_outproxy.specs.declared.state.Channel.TheVariants as channels
 use Rattle.rh_outproxy.specs.declared.state.Mark.TheVariants as marks
-use Rattle.rh_outproxy.specs.declared.state.OutProxyConfig.{OutProxyConfig}
 use Rattle.rh_outproxy.specs.declared.state.Ping.TheVariants as pings
-use Rattle.rh_outproxy.specs.OutProxy.{OutProxy, has_come, is_client_marked, is_known, is_server_down, is_successor, joined}
-use Rattle.rh_outproxy.specs.Rows.{Done, is_carrying, is_first, is_joined, takes_pdus, taken, unexpected, forwarded, forwarded_by, passed_on}
-use Rattle.rh_outproxy.specs.Opening.{up, told_length, new_length, successor_length, opened, on_out_r2_c1, conn_c1_by}
-use Rattle.rh_outproxy.specs.Acknowledging.{admitted, on_pdu, on_ack, on_ack_to}
-use Rattle.rh_outproxy.specs.Ending.{on_end_b1}
-use Rattle.rh_outproxy.specs.OutReplacement.{on_out_r1_a9}
-use Rattle.rh_outproxy.specs.Machine.{on_co, on_os}
-use Rattle.law_moves.specs.Moves.{OnLeg}
-use Rattle.law_moves.specs.Wires.{of_leg}
-use Rattle.law_moves.specs.Passages.Passing.{Has}
-use Rattle.law_moves.specs.Passages.Counted.{Tells, packets}
-use Rattle.law_moves.proofs.Passages.Logs.{RowKeeps}
-use Rattle.law_moves.proofs.Passages.Messages.{has_last, leg_more}
-use Rattle.law_moves.proofs.PacketKinds.Counts.{here_more}
-use Rattle.law_role_outproxy.specs.Counted.{co_leg, os_leg}
-use Rattle.law_role_outproxy.specs.Putting.{PassesPacket, OpensClient}
+use Rattle.law_moves.proofs.Vocabulary.{by_test, Cookie, TO_OUT_PROXY, Named, Asked, Leg, Count, Due, FORWARDED_ROOM, Message, Pdu, Packet, Waiting, to_forward, OnLeg, of_leg, Has, Tells, packets}
+use Rattle.law_moves.proofs.Lemmas.{RowKeeps, has_last, leg_more, here_more}
+use Rattle.law_role_outproxy.proofs.Vocabulary.{Answer, Channel, OutProxyConfig, OutProxy, has_come, is_client_marked, is_known, is_server_down, is_successor, joined, Done, is_carrying, is_first, is_joined, takes_pdus, taken, unexpected, forwarded, forwarded_by, passed_on, up, told_length, new_length, successor_length, opened, on_out_r2_c1, conn_c1_by, admitted, on_pdu, on_ack, on_ack_to, on_end_b1, on_out_r1_a9, on_co, on_os, co_leg, os_leg, PassesPacket, OpensClient}
 use Rattle.law_role_outproxy.proofs.Putting.Goes.{unknown}
 use Rattle.law_role_outproxy.proofs.Putting.Forms.{IsKept, forwarded_each, forwarded_first, forwarded_kept, forwarded_opening, forwarded_room}
 use Rattle.law_role_outproxy.proofs.Putting.Standing.{Core, Seen, core_of, seen, is_still, IsQuiet, is_opened, IsDown, due_by, Kind, At, Stands, stands_came, kind_opens}

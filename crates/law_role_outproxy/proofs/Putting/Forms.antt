@@ -1,18 +1,9 @@
 -- what goes to the client, with a message more, with more that came, and a front of it
-use Rattle.std.proofs.Common.{◌≡◌, ◌⊎◌, inl, inr, ℕ, Bool, true, false, true≢false, List, [], ◌∷◌, ◌++◌, None, nat_lt, refl, sym, ap, ◌∙◌}
-use Rattle.std.specs.List.{AllByRecursion, list_any}
-use Rattle.std.specs.declared.option.Option.{Option}
-use Rattle.law_order.proofs.ByNumber.{by_test}
-use Rattle.rh_sig.specs.declared.named.Named.{Named}
+use Rattle.law_order.proofs.Vocabulary.{◌≡◌, ◌⊎◌, inl, inr, ℕ, Bool, true, false, true≢false, List, [], ◌∷◌, ◌++◌, None, nat_lt, refl, sym, ap, ◌∙◌, AllByRecursion, list_any, Option}
 use Rattle.rh_sig.specs.declared.named.Named.TheVariants as named
-use Rattle.rh_shell.specs.declared.due.Due.{Due}
-use Rattle.rh_shell.specs.declared.due.Origin.TheVariants.{Forwarded}
-use Rattle.rh_shell.specs.declared.waiting.TheConstants.{FORWARDED_ROOM}
-use Rattle.rh_shell.specs.Rules.{Message, Text, Pdu, Packet}
-use Rattle.rh_shell.specs.Waiting.{Waiting, Key, key_of, are_one, better, edge_of, merged, takes, with_due, pushed, to_forward, count, forwarded}
-use Rattle.rh_outproxy.specs.declared.state.OutProxyConfig.{OutProxyConfig}
-use Rattle.law_moves.proofs.Passages.Messages.{all_append, each_so, has_more}
-use Rattle.law_role_outproxy.specs.Putting.{response, PassesPacket, IsPassed, OpensClient, IsOpening, IsNew, IsSuccessor}
+use Rattle.law_moves.proofs.Vocabulary.{by_test, Named, Due, Forwarded, FORWARDED_ROOM, Message, Text, Pdu, Packet, Waiting, Key, key_of, are_one, better, edge_of, merged, takes, with_due, pushed, to_forward, count, forwarded}
+use Rattle.law_moves.proofs.Lemmas.{all_append, each_so, has_more}
+use Rattle.law_role_outproxy.proofs.Vocabulary.{OutProxyConfig, response, PassesPacket, IsPassed, OpensClient, IsOpening, IsNew, IsSuccessor}
 
 -- ---- more came
 

@@ -1,64 +1,15 @@
 -- what an out proxy's channel is opened by, and what its rows and puts leave alone
-use Rattle.std.proofs.Common.{◌≡◌, ℕ, ◌+◌, ◌≤◌, ◌&&◌, Bool, true, false, true≢false, if◌then◌else◌, List, [], ◌∷◌, ◌++◌, length, Some, None, refl, sym, ap, ◌∙◌, arith, rules}
-use Rattle.std.proofs.lemmas.Bool.{and_parts}
-use Rattle.std.specs.Prelude.{nat_le, IfSome}
-use Rattle.std.specs.declared.option.Option.{Option}
-use Rattle.rh_window.specs.Sending.{may_send}
-use Rattle.rh_window.specs.declared.recv_window.Ack.{Ack}
-use Rattle.law_order.proofs.ByNumber.{by_test}
-use Rattle.rh_rts.specs.declared.command.Cookie.{Cookie}
-use Rattle.rh_sig.specs.declared.named.Named.{Named}
-use Rattle.rh_http.specs.Heads.Verdicts.{Asked}
-use Rattle.rh_line.specs.declared.leg.Leg.{Leg}
-use Rattle.rh_line.specs.Lines.{is_empty}
-use Rattle.rh_shell.specs.declared.answers.Count.{Count}
+use Rattle.law_order.proofs.Vocabulary.{◌≡◌, ℕ, ◌+◌, ◌≤◌, ◌&&◌, Bool, true, false, true≢false, if◌then◌else◌, List, [], ◌∷◌, length, Some, None, refl, sym, ap, ◌∙◌, arith, rules, and_parts, nat_le, IfSome, Option}
 use Rattle.rh_shell.specs.declared.answers.Count.TheVariants as count
-use Rattle.rh_shell.specs.declared.stage.Stage.{Stage}
 use Rattle.rh_shell.specs.declared.stage.Stage.TheVariants as stage
-use Rattle.rh_shell.specs.Rules.{Message}
-use Rattle.rh_shell.specs.declared.due.Due.{Due}
-use Rattle.rh_shell.specs.Waiting.{with_due}
-use Rattle.rh_outproxy.specs.declared.state.Answer.{Answer}
 use Rattle.rh_outproxy.specs.declared.state.Answer.TheVariants as answers
-use Rattle.rh_outproxy.specs.declared.state.Channel.{Channel}
 use Rattle.rh_outproxy.specs.declared.state.Channel.TheVariants as channels
 use Rattle.rh_outproxy.specs.declared.state.ClientLeg.TheVariants as clients
-use Rattle.rh_outproxy.specs.declared.state.OutProxyConfig.{OutProxyConfig}
-use Rattle.rh_outproxy.specs.declared.state.ServerLeg.{ServerLeg}
 use Rattle.rh_outproxy.specs.declared.state.Mark.TheVariants as marks
-use Rattle.rh_outproxy.specs.OutProxy.{OutProxy, is_known, is_server_down, is_server_first, is_due, is_echo_put, is_ping_due, joined}
-use Rattle.rh_outproxy.specs.Rows.{is_co, is_os, is_first, forwarded, passed_on}
-use Rattle.rh_outproxy.specs.Opening.{first_packet, on_out_r2_c1}
-use Rattle.rh_outproxy.specs.Acknowledging.{on_ack_to, ack_due}
-use Rattle.rh_outproxy.specs.Ending.{drawn, mark, on_end_b1}
-use Rattle.rh_outproxy.specs.OutReplacement.{on_out_r1_a9}
-use Rattle.rh_outproxy.specs.Putting.{Pick, ping_room, or_else, answer_by, put_answer, waiting_by, put_waiting, pdu_by, put_pdu, put_end, put_handover, put_mark, put_ping, next_co, first_by, put_first, ack_by, put_ack, next_os}
-use Rattle.rh_outproxy.specs.Putting.{put as put_of}
-use Rattle.rh_outproxy.specs.Machine.{pdu}
-use Rattle.law_moves.specs.Passages.Passing.{HasOne}
-use Rattle.law_moves.specs.Passages.Counted.{packets, Tells}
-use Rattle.law_moves.proofs.Passages.Messages.{one_more_so}
-use Rattle.law_moves.specs.Turns.{Stages, takes_frames}
-use Rattle.law_role_outproxy.specs.Counted.{co_leg, os_leg, NamesNew, NamesSuccessor}
-
--- ---- what was asked
-
--- of the messages that came from the client, one named the channel
-abbrev pub IsAsked : Channel → List Message → Type 0
-IsAsked channels.Unknown came = Unit {0}
-IsAsked (channels.New connection cookie) came = HasOne (NamesNew connection cookie) came
-IsAsked (channels.Joined connection cookie) came = HasOne (NamesNew connection cookie) came
-IsAsked (channels.Successor connection predecessor cookie) came =
-    HasOne (NamesSuccessor connection predecessor cookie) came
-
-pub asked_more : (c : Channel) (a b : List Message) → IsAsked c a → IsAsked c (a ++ b)
-asked_more channels.Unknown a b h = tt
-asked_more (channels.New connection cookie) a b h =
-    one_more_so (NamesNew connection cookie) a b h
-asked_more (channels.Joined connection cookie) a b h =
-    one_more_so (NamesNew connection cookie) a b h
-asked_more (channels.Successor connection predecessor cookie) a b h =
-    one_more_so (NamesSuccessor connection predecessor cookie) a b h
+use Rattle.law_moves.proofs.Vocabulary.{may_send, Ack, by_test, Cookie, Named, Asked, Leg, is_empty, Count, Stage, Message, Due, with_due, packets, Tells, Stages, takes_frames}
+use Rattle.law_role_outproxy.proofs.Vocabulary.{Answer, Channel, OutProxyConfig, ServerLeg, OutProxy, is_known, is_server_down, is_server_first, is_due, is_echo_put, is_ping_due, joined, is_co, is_os, is_first, forwarded, passed_on, first_packet, on_out_r2_c1, on_ack_to, ack_due, drawn, mark, on_end_b1, on_out_r1_a9, Pick, ping_room, or_else, answer_by, put_answer, waiting_by, put_waiting, pdu_by, put_pdu, put_end, put_handover, put_mark, put_ping, next_co, first_by}
+use Rattle.law_role_outproxy.proofs.Vocabulary.{put_first, ack_by, put_ack, next_os, put as put_of, pdu, co_leg, os_leg}
+use Rattle.law_role_outproxy.proofs.Counted.OutProxyNames.{IsAsked}
 
 -- ---- the facts
 

@@ -1,42 +1,13 @@
 -- what was put to the server, and what comes to an out proxy, which keeps it
-use Rattle.std.proofs.Common.{◌≡◌, ℕ, ◌≤◌, ◌&&◌, true, false, true≢false, if◌then◌else◌, List, [], ◌∷◌, ◌++◌, Some, None, Ok, Err, refl, sym, ap, ◌∙◌, subst, arith, rules}
-use Rattle.std.proofs.lemmas.Bool.{and_parts}
-use Rattle.std.proofs.lemmas.Bool.Decides.{nat_tests}
-use Rattle.std.specs.Prelude.{IfSome}
-use Rattle.std.specs.declared.option.Option.{Option}
 use Rattle.rh_window.specs.Receiving as windows
-use Rattle.rh_window.specs.declared.recv_window.Ack.{Ack}
-use Rattle.law_order.proofs.ByNumber.{by_test}
-use Rattle.rh_rts.specs.declared.command.Cookie.{Cookie}
-use Rattle.rh_sig.specs.declared.named.Named.{Named}
+use Rattle.law_order.proofs.Vocabulary.{◌≡◌, ℕ, ◌≤◌, ◌&&◌, true, false, true≢false, if◌then◌else◌, List, [], ◌∷◌, ◌++◌, Some, None, Ok, Err, refl, sym, ap, ◌∙◌, subst, arith, rules, and_parts, nat_tests, IfSome, Option}
 use Rattle.rh_sig.specs.declared.named.Named.TheVariants as named
-use Rattle.rh_line.specs.Lines.{Incoming, fresh}
-use Rattle.rh_line.specs.declared.leg.Leg.{Leg}
-use Rattle.rh_shell.specs.declared.answers.Count.{Count}
-use Rattle.rh_shell.specs.declared.due.Due.{Due}
-use Rattle.rh_shell.specs.Rules.{Message, Pdu, Packet}
-use Rattle.rh_outproxy.specs.declared.state.Answer.{Answer}
-use Rattle.rh_outproxy.specs.declared.state.Channel.{Channel}
 use Rattle.rh_outproxy.specs.declared.state.Channel.TheVariants as channels
-use Rattle.rh_outproxy.specs.declared.state.OutProxyConfig.{OutProxyConfig}
-use Rattle.rh_outproxy.specs.declared.state.ServerLeg.{ServerLeg}
 use Rattle.rh_outproxy.specs.declared.state.ServerLeg.TheVariants as servers
-use Rattle.rh_outproxy.specs.OutProxy.{OutProxy, is_known, is_server_down, joined}
-use Rattle.rh_outproxy.specs.Rows.{Done, is_co, is_os, is_first, unexpected, forwarded, passed_on}
-use Rattle.rh_outproxy.specs.Opening.{up, head, told_length, new_length, successor_length, opened, on_out_r2_c1, conn_c1_by}
-use Rattle.rh_outproxy.specs.Acknowledging.{on_pdu, on_ack_to}
-use Rattle.rh_outproxy.specs.Ending.{drawn, on_end_b1}
-use Rattle.rh_outproxy.specs.OutReplacement.{on_out_r1_a9}
-use Rattle.rh_outproxy.specs.Putting.{Pick, answer_by, waiting_by, put_mark, put_ping}
-use Rattle.rh_outproxy.specs.Machine.{pdu, packet, on_co, on_os}
-use Rattle.law_moves.specs.Moves.{OnLeg}
-use Rattle.law_moves.specs.Wires.{of_leg}
-use Rattle.law_moves.specs.Passages.Counted.{Tells, packets}
-use Rattle.law_moves.proofs.Passages.Logs.{RowKeeps}
-use Rattle.law_moves.proofs.Passages.Messages.{all_append, leg_more, one_more_so}
-use Rattle.law_moves.specs.Turns.{Stages, takes_frames}
-use Rattle.law_role_outproxy.specs.Counted.{co_leg, os_leg, NamesNew, NamesSuccessor}
-use Rattle.law_role_outproxy.specs.Putting.{OpensServer, IsAck, BeginsServer, IsToServer}
+use Rattle.law_moves.proofs.Vocabulary.{Ack, by_test, Cookie, Named, Incoming, fresh, Leg, Count, Due, Message, Pdu, Packet, OnLeg, of_leg, Tells, packets, Stages, takes_frames}
+use Rattle.law_moves.proofs.Lemmas.{RowKeeps, all_append, leg_more, one_more_so}
+use Rattle.law_role_outproxy.proofs.Vocabulary.{Answer, Channel, OutProxyConfig, ServerLeg, OutProxy, is_known, is_server_down, joined, Done, is_co, is_os, is_first, unexpected, forwarded, passed_on, up, head, told_length, new_length, successor_length, opened, on_out_r2_c1, conn_c1_by, on_pdu, on_ack_to, drawn, on_end_b1, on_out_r1_a9, Pick, answer_by, waiting_by, put_mark, put_ping, pdu, packet, on_co, on_os, co_leg, os_leg, NamesNew, NamesSuccessor, OpensServer, IsAck}
+use Rattle.law_role_outproxy.proofs.Vocabulary.{BeginsServer, IsToServer}
 use Rattle.law_role_outproxy.proofs.Putting.Goes.{unknown}
 use Rattle.law_role_outproxy.proofs.Putting.Turns.{TurnsAt, here, there}
 

@@ -1,31 +1,14 @@
 -- how an out proxy stands with its client: what was put, and what goes next, make up a form
-use Rattle.std.proofs.Common.{◌≡◌, ◌⊎◌, inl, inr, ℕ, ◌||◌, not, Bool, true, false, List, [], ◌∷◌, ◌++◌, append_assoc, None, is_some, refl, sym, ap, ◌∙◌, subst}
-use Rattle.std.proofs.lemmas.List.{append-nil}
-use Rattle.std.specs.List.{AllByRecursion}
-use Rattle.std.specs.declared.option.Option.{Option}
-use Rattle.rh_rts.specs.declared.command.Cookie.{Cookie}
-use Rattle.rh_sig.specs.declared.named.Named.{Named}
+use Rattle.law_order.proofs.Vocabulary.{◌≡◌, ◌⊎◌, inl, inr, ℕ, ◌||◌, not, Bool, true, false, List, [], ◌∷◌, ◌++◌, append_assoc, None, is_some, refl, sym, ap, ◌∙◌, subst, append-nil, AllByRecursion, Option}
 use Rattle.rh_sig.specs.declared.named.Named.TheVariants as named
-use Rattle.rh_http.specs.Heads.Verdicts.{Asked}
-use Rattle.rh_shell.specs.declared.due.Due.{Due}
-use Rattle.rh_shell.specs.declared.waiting.TheConstants.{FORWARDED_ROOM}
-use Rattle.rh_shell.specs.Rules.{Message, Text, Packet}
-use Rattle.rh_shell.specs.Waiting.{Waiting, to_forward}
-use Rattle.rh_outproxy.specs.declared.state.Answer.{Answer}
-use Rattle.rh_outproxy.specs.declared.state.Answer.TheVariants as answers
-use Rattle.rh_outproxy.specs.declared.state.Channel.{Channel}
-use Rattle.rh_outproxy.specs.declared.state.Channel.TheVariants as channels
-use Rattle.rh_outproxy.specs.declared.state.ClientLeg.{ClientLeg}
-use Rattle.rh_outproxy.specs.declared.state.Mark.{Mark}
-use Rattle.rh_outproxy.specs.declared.state.Mark.TheVariants as marks
-use Rattle.rh_outproxy.specs.declared.state.OutProxyConfig.{OutProxyConfig}
 use Rattle.rh_outproxy.specs.declared.state.Ping.{Ping}
+use Rattle.rh_outproxy.specs.declared.state.Answer.TheVariants as answers
+use Rattle.rh_outproxy.specs.declared.state.Channel.TheVariants as channels
+use Rattle.rh_outproxy.specs.declared.state.Mark.TheVariants as marks
 use Rattle.rh_outproxy.specs.declared.state.Ping.TheVariants as pings
-use Rattle.rh_outproxy.specs.declared.state.ServerLeg.{ServerLeg}
-use Rattle.rh_outproxy.specs.OutProxy.{OutProxy, is_client_marked, is_known, is_server_down, is_successor, joined}
-use Rattle.rh_outproxy.specs.Putting.{behind_response, echo_text}
-use Rattle.law_moves.proofs.Passages.Messages.{all_append}
-use Rattle.law_role_outproxy.specs.Putting.{response, PassesPacket, IsPassed, OpensClient}
+use Rattle.law_moves.proofs.Vocabulary.{Cookie, Named, Asked, Due, FORWARDED_ROOM, Message, Text, Packet, Waiting, to_forward}
+use Rattle.law_moves.proofs.Lemmas.{all_append}
+use Rattle.law_role_outproxy.proofs.Vocabulary.{Answer, Channel, ClientLeg, Mark, OutProxyConfig, ServerLeg, OutProxy, is_client_marked, is_known, is_server_down, is_successor, joined, behind_response, echo_text, response, PassesPacket, IsPassed, OpensClient}
 use Rattle.law_role_outproxy.proofs.Putting.Forms.{IsPing, HasOpened, IsBegun, Follows, Each, WaitsOpening, begun_so, begun_same, pings_open, opened_more, opened_came, follows_more, follows_came, each_came, waits_came, passes_more}
 
 -- ---- what the facts are about

@@ -1,57 +1,23 @@
 -- what an out proxy puts to its client, in order, behind all moves
-use Rattle.std.proofs.Common.{◌≡◌, inl, inr, ℕ, ◌&&◌, ◌||◌, Bool, true, false, true≢false, if◌then◌else◌, List, [], ◌++◌, Some, None, is_some, Ok, Err, refl, sym, ap, ◌∙◌, subst}
-use Rattle.std.proofs.lemmas.Bool.{and_parts}
-use Rattle.std.specs.List.{AllByRecursion}
-use Rattle.std.specs.Prelude.{nat_le}
-use Rattle.std.specs.declared.option.Option.{Option}
-use Rattle.std.specs.declared.result.Result.{Result}
-use Rattle.law_order.proofs.ByNumber.{by_test}
-use Rattle.rh_rts.specs.declared.command.Cookie.{Cookie}
-use Rattle.rh_sig.specs.declared.named.Named.{Named}
+use Rattle.law_order.proofs.Vocabulary.{◌≡◌, inl, inr, ℕ, ◌&&◌, ◌||◌, Bool, true, false, true≢false, if◌then◌else◌, List, [], ◌++◌, Some, None, is_some, Ok, Err, refl, sym, ap, ◌∙◌, subst, and_parts, AllByRecursion, nat_le, Option, Result}
 use Rattle.rh_sig.specs.declared.named.Named.TheVariants as named
-use Rattle.rh_http.specs.declared.fault.HttpFault.{HttpFault}
-use Rattle.rh_http.specs.Lengths.{greatest_echo}
-use Rattle.rh_http.specs.Heads.Verdicts.{Asked, request_verdict}
-use Rattle.rh_line.specs.declared.leg.Leg.{Leg}
-use Rattle.rh_shell.specs.declared.answers.Behind.TheVariants.{Frames, PassedOver}
-use Rattle.rh_shell.specs.declared.answers.Count.{Count}
-use Rattle.rh_shell.specs.declared.answers.HeadRefused.{HeadRefused}
-use Rattle.rh_shell.specs.declared.answers.HeadTaken.{HeadTaken}
-use Rattle.rh_shell.specs.declared.due.Due.{Due}
 use Rattle.rh_shell.specs.declared.stage.Stage.TheVariants as stage
-use Rattle.rh_shell.specs.Rules.{Message, Pdu, Packet}
-use Rattle.rh_outproxy.specs.declared.state.Answer.{Answer}
 use Rattle.rh_outproxy.specs.declared.state.Answer.TheVariants as answers
-use Rattle.rh_outproxy.specs.declared.state.Channel.{Channel}
 use Rattle.rh_outproxy.specs.declared.state.Channel.TheVariants as channels
 use Rattle.rh_outproxy.specs.declared.state.ClientLeg.TheVariants as clients
-use Rattle.rh_outproxy.specs.declared.state.OutProxyConfig.{OutProxyConfig}
 use Rattle.rh_outproxy.specs.declared.state.ServerLeg.TheVariants as servers
-use Rattle.rh_outproxy.specs.OutProxy.{OutProxy, is_echo_put, is_known, is_put, is_response_put, is_server_down, is_successor, joined, new_proxy}
-use Rattle.rh_outproxy.specs.Rows.{Done, is_co, is_os, taken, unexpected}
-use Rattle.rh_outproxy.specs.Opening.{head_by, may_up, up}
-use Rattle.rh_outproxy.specs.Acknowledging.{on_pdu}
-use Rattle.rh_outproxy.specs.Ending.{drawn, mark, only_marks}
-use Rattle.rh_outproxy.specs.Putting.{Pick, next_co, next_os}
-use Rattle.rh_outproxy.specs.Putting.{put as put_of}
-use Rattle.rh_outproxy.specs.Time.{ping, ping_after}
-use Rattle.rh_outproxy.specs.Machine.{pdu, packet, on_co, on_os}
-use Rattle.rh_outproxy.specs.Machine.{rules as proxy_rules}
-use Rattle.law_moves.specs.Moves.{OnLeg, Move, Up, HeadCame, PduCame, PacketCame, Puts, IsDrawn, Marks, Pings, Passage, started, all_moved, taken_by, put_by, AreAllowed}
-use Rattle.law_moves.specs.Wires.{of_leg}
-use Rattle.law_moves.specs.Passages.Counted.{Tells, AreCounted, packets}
-use Rattle.law_moves.proofs.Passages.Logs.{RowKeeps, PutKeeps}
-use Rattle.law_moves.proofs.Passages.Messages.{one_so}
-use Rattle.law_moves.specs.Turns.{Stages, takes_frames, AreInTurn}
-use Rattle.law_role_outproxy.specs.Counted.{co_leg, os_leg, NamesNew, NamesSuccessor}
-use Rattle.law_role_outproxy.specs.Putting.{OpensNew, OpensSuccessor, IsEcho, IsToClient, PutsToClient}
+use Rattle.law_moves.proofs.Vocabulary.{by_test, Cookie, Named, HttpFault, greatest_echo, Asked, request_verdict, Leg, Frames, PassedOver, Count, HeadRefused, HeadTaken, Due, Message, Pdu, Packet, OnLeg, Move, Up, HeadCame, PduCame, PacketCame, Puts, IsDrawn, Marks, Pings, Passage, started, all_moved, taken_by, put_by, AreAllowed, of_leg, Tells, AreCounted, packets, Stages, takes_frames, AreInTurn}
+use Rattle.law_moves.proofs.Lemmas.{RowKeeps, PutKeeps, one_so}
+use Rattle.law_role_outproxy.proofs.Vocabulary.{Answer, Channel, OutProxyConfig, OutProxy, is_echo_put, is_known, is_put, is_response_put, is_server_down, is_successor, joined, new_proxy, Done, is_co, is_os, taken, unexpected, head_by, may_up, up, on_pdu, drawn, mark, only_marks, Pick, next_co, next_os, put as put_of, ping, ping_after, pdu, packet, on_co, on_os, rules as proxy_rules, co_leg, os_leg, NamesNew, NamesSuccessor, OpensNew, OpensSuccessor, IsEcho, IsToClient}
+use Rattle.law_role_outproxy.proofs.Vocabulary.{PutsToClient}
 use Rattle.law_role_outproxy.proofs.Putting.Forms.{IsPing, HasOpened, begun_front, follows_front, opened_front, pings_front}
 use Rattle.law_role_outproxy.proofs.Putting.Standing.{Core, core_of, seen, IsQuiet, quiet_core, IsServing, IsDown, due_by, Kind, At, Stands, kind_starts}
-use Rattle.law_role_outproxy.proofs.Putting.Goes.{IsAsked, IsUnasked, is_unheard}
+use Rattle.law_role_outproxy.proofs.Putting.Goes.{IsUnasked, is_unheard}
 use Rattle.law_role_outproxy.proofs.Putting.Turns.{TurnsAt, Keeps, keeps_all, here, there, is_wanted, is_asked}
-use Rattle.law_role_outproxy.proofs.Putting.Goes as turning
 use Rattle.law_role_outproxy.proofs.Putting.ClientRows.{still_by, core_holds, unknown_down, at_down, down_holds, quiet_down, co_row, at_up, pdu_row, os_row}
 use Rattle.law_role_outproxy.proofs.Putting.ClientPuts.{os_put, co_put, busy}
+use Rattle.law_role_outproxy.proofs.Counted.OutProxyNames.{IsAsked}
+use Rattle.law_role_outproxy.proofs.Putting.Goes as turning
 
 module _ (config : OutProxyConfig) where
   abbrev co : Leg

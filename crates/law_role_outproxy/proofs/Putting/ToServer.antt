@@ -1,49 +1,20 @@
 -- what an out proxy puts to the server: the packet that opens its channel, and acknowledgements
-use Rattle.std.proofs.Common.{◌≡◌, ℕ, ◌||◌, Bool, true, false, true≢false, if◌then◌else◌, List, [], ◌∷◌, ◌++◌, length, Some, None, Ok, Err, refl, sym, ap, ◌∙◌, subst}
-use Rattle.std.specs.Prelude.{IfSome}
-use Rattle.std.specs.declared.option.Option.{Option}
 use Rattle.rh_window.specs.Receiving as windows
-use Rattle.rh_window.specs.Sending.{after_sent, may_send}
-use Rattle.rh_window.specs.declared.recv_window.Ack.{Ack}
-use Rattle.law_order.proofs.ByNumber.{by_test}
-use Rattle.rh_rts.specs.declared.command.Cookie.{Cookie}
-use Rattle.rh_sig.specs.declared.named.Named.{Named}
+use Rattle.law_order.proofs.Vocabulary.{◌≡◌, ℕ, ◌||◌, Bool, true, false, true≢false, if◌then◌else◌, List, [], ◌∷◌, ◌++◌, length, Some, None, Ok, Err, refl, sym, ap, ◌∙◌, subst, IfSome, Option}
 use Rattle.rh_sig.specs.declared.named.Named.TheVariants as named
-use Rattle.rh_sig.specs.declared.ranges.TheConstants.{PROTOCOL_VERSION}
-use Rattle.rh_line.specs.Lines.{Incoming, after_take, after_told, fresh, due}
-use Rattle.rh_line.specs.declared.leg.Leg.{Leg}
-use Rattle.rh_line.specs.declared.which.Which.TheVariants.{Current}
-use Rattle.rh_shell.specs.Rules.{Message, Pdu, Packet}
-use Rattle.rh_outproxy.specs.declared.state.Channel.{Channel}
 use Rattle.rh_outproxy.specs.declared.state.Channel.TheVariants as channels
 use Rattle.rh_outproxy.specs.declared.state.ClientLeg.TheVariants as clients
-use Rattle.rh_outproxy.specs.declared.state.OutProxyConfig.{OutProxyConfig}
-use Rattle.rh_outproxy.specs.declared.state.ServerLeg.{ServerLeg}
 use Rattle.rh_outproxy.specs.declared.state.ServerLeg.TheVariants as servers
-use Rattle.rh_outproxy.specs.OutProxy.{OutProxy, has_come, is_over, is_put, is_server_down, is_server_first, is_server_marked, is_echo_drawn, joined, new_proxy}
-use Rattle.rh_outproxy.specs.Rows.{Done, is_co, is_os}
-use Rattle.rh_outproxy.specs.Opening.{first_packet, may_up, up, head}
-use Rattle.rh_outproxy.specs.Acknowledging.{ack_due}
-use Rattle.rh_outproxy.specs.Ending.{drawn, mark}
-use Rattle.rh_outproxy.specs.Putting.{Pick, or_else, put_answer, put_waiting, pdu_by, put_pdu, put_mark, put_ping, next_co, first_by, put_first, ack_by, put_ack, next_os}
-use Rattle.rh_outproxy.specs.Putting.{put as put_of}
-use Rattle.rh_outproxy.specs.Machine.{pdu, packet}
-use Rattle.rh_outproxy.specs.Machine.{rules as proxy_rules}
-use Rattle.law_moves.specs.Moves.{OnLeg, Move, Up, HeadCame, PduCame, PacketCame, Puts, IsDrawn, Marks, Pings, Passage, started, all_moved, taken_by, put_by, AreAllowed}
-use Rattle.law_moves.specs.Wires.{of_leg}
-use Rattle.law_moves.specs.Passages.Passing.{HasOne}
-use Rattle.law_moves.specs.Passages.Counted.{AreCounted}
-use Rattle.law_moves.proofs.Passages.Logs.{RowKeeps, PutKeeps}
-use Rattle.law_moves.proofs.PacketKinds.Counts.{here_more, other_more}
-use Rattle.law_moves.specs.Turns.{AreInTurn}
+use Rattle.law_moves.proofs.Vocabulary.{after_sent, may_send, Ack, by_test, Cookie, Named, PROTOCOL_VERSION, Incoming, after_take, after_told, fresh, due, Leg, Current, Message, Pdu, Packet, OnLeg, Move, Up, HeadCame, PduCame, PacketCame, Puts, IsDrawn, Marks, Pings, Passage, started, all_moved, taken_by, put_by, AreAllowed, of_leg, HasOne, AreCounted, AreInTurn}
+use Rattle.law_moves.proofs.Lemmas.{RowKeeps, PutKeeps, here_more, other_more}
+use Rattle.law_role_outproxy.proofs.Vocabulary.{Channel, OutProxyConfig, ServerLeg, OutProxy, has_come, is_over, is_put, is_server_down, is_server_first, is_server_marked, is_echo_drawn, joined, new_proxy, Done, is_co, is_os, first_packet, may_up, up, head, ack_due, drawn, mark, Pick, or_else, put_answer, put_waiting, pdu_by, put_pdu, put_mark, put_ping, next_co, first_by, put_first, ack_by, put_ack, next_os, put as put_of, pdu, packet, rules as proxy_rules, co_leg, os_leg}
+use Rattle.law_role_outproxy.proofs.Vocabulary.{NamesNew, OpensServer, PutsToServer}
 use Rattle.law_role_outproxy.proofs.Conditions.{either_left, either_right}
 use Rattle.law_role_outproxy.proofs.OrderKept.{works_where}
-use Rattle.law_role_outproxy.specs.Counted.{co_leg, os_leg, NamesNew}
-use Rattle.law_role_outproxy.specs.Putting.{OpensServer, PutsToServer}
-use Rattle.law_role_outproxy.proofs.Putting.Goes.{IsAsked}
 use Rattle.law_role_outproxy.proofs.Putting.Turns.{Keeps, keeps_all, here, there, is_wanted}
+use Rattle.law_role_outproxy.proofs.Putting.ServerRows.{Seen, seen, IsOf, same_holds, packet_row, pdu_row, at_puts, begun_acks, undue, same_head, same_drawn, quiet_answer, quiet_waiting, quiet_mark, quiet_ping}
+use Rattle.law_role_outproxy.proofs.Counted.OutProxyNames.{IsAsked}
 use Rattle.law_role_outproxy.proofs.Putting.ServerRows as server
-use Rattle.law_role_outproxy.proofs.Putting.ServerRows.{Seen, seen, IsOf, same_holds, same_row, packet_row, pdu_row, at_puts, begun_acks, undue, same_head, same_drawn, quiet_answer, quiet_waiting, quiet_mark, quiet_ping}
 
 module _ (config : OutProxyConfig) where
   abbrev co : Leg

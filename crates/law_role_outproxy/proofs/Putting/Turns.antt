@@ -1,61 +1,23 @@
 -- what holds of an out proxy whose moves are counted and in their turn: when its channel is opened,
 -- by which packet, and where its legs came up
-use Rattle.std.proofs.Common.{◌≡◌, ℕ, ◌&&◌, ◌||◌, Bool, true, false, true≢false, if◌then◌else◌, List, [], ◌∷◌, ◌++◌, Some, None, Ok, Err, refl, sym, ap, ◌∙◌, subst, arith}
-use Rattle.std.proofs.lemmas.Bool.{and_parts}
-use Rattle.std.proofs.lemmas.Bool.Decides.{nat_tests}
-use Rattle.std.specs.Prelude.{nat_le}
-use Rattle.std.specs.declared.option.Option.{Option}
-use Rattle.std.specs.declared.result.Result.{Result}
-use Rattle.law_order.proofs.ByNumber.{by_test}
-use Rattle.rh_rts.specs.declared.command.Cookie.{Cookie}
-use Rattle.rh_sig.specs.declared.name.Pipe.TheVariants.{CoU, OsD}
-use Rattle.rh_sig.specs.declared.named.Named.{Named}
+use Rattle.law_order.proofs.Vocabulary.{◌≡◌, ℕ, ◌&&◌, ◌||◌, Bool, true, false, true≢false, if◌then◌else◌, List, [], ◌∷◌, ◌++◌, Some, None, Ok, Err, refl, sym, ap, ◌∙◌, subst, arith, and_parts, nat_le, Option, Result}
 use Rattle.rh_sig.specs.declared.named.Named.TheVariants as named
-use Rattle.rh_http.specs.declared.fault.HttpFault.{HttpFault}
-use Rattle.rh_http.specs.Lengths.{greatest_echo}
-use Rattle.rh_http.specs.Heads.Verdicts.{Asked, request_verdict}
-use Rattle.rh_line.specs.declared.leg.Leg.{Leg}
-use Rattle.rh_shell.specs.declared.answers.Behind.TheVariants.{Frames, PassedOver}
-use Rattle.rh_shell.specs.declared.answers.Count.{Count}
-use Rattle.rh_shell.specs.declared.answers.HeadRefused.{HeadRefused}
-use Rattle.rh_shell.specs.declared.answers.HeadTaken.{HeadTaken}
-use Rattle.rh_shell.specs.declared.stage.Stage.{Stage}
 use Rattle.rh_shell.specs.declared.stage.Stage.TheVariants as stage
-use Rattle.rh_shell.specs.NearEnds.{first_stage}
-use Rattle.rh_shell.specs.Rules.{Message, Packet, Pdu}
-use Rattle.rh_shell.specs.Shells.{same_leg}
 use Rattle.rh_outproxy.specs.declared.state.Answer.TheVariants as answers
-use Rattle.rh_outproxy.specs.declared.state.Channel.{Channel}
 use Rattle.rh_outproxy.specs.declared.state.Channel.TheVariants as channels
 use Rattle.rh_outproxy.specs.declared.state.ClientLeg.TheVariants as clients
-use Rattle.rh_outproxy.specs.declared.state.OutProxyConfig.{OutProxyConfig}
 use Rattle.rh_outproxy.specs.declared.state.ServerLeg.TheVariants as servers
-use Rattle.rh_outproxy.specs.OutProxy.{OutProxy, is_known, is_server_down, is_client_down, new_proxy}
-use Rattle.rh_outproxy.specs.Rows.{Done, is_co, is_os, is_first, unexpected, forwarded, passed_on}
-use Rattle.rh_outproxy.specs.Opening.{up, pipe, may_up, wants, head_by, told_length, new_length, successor_length, opened, on_out_r2_c1, conn_c1_by}
-use Rattle.rh_outproxy.specs.Acknowledging.{on_ack_to}
-use Rattle.rh_outproxy.specs.Ending.{drawn, mark, on_end_b1}
-use Rattle.rh_outproxy.specs.OutReplacement.{on_out_r1_a9}
-use Rattle.rh_outproxy.specs.Putting.{Pick}
-use Rattle.rh_outproxy.specs.Putting.{put as put_of}
-use Rattle.rh_outproxy.specs.Machine.{pdu, packet, on_co, on_os}
-use Rattle.rh_outproxy.specs.Machine.{rules as proxy_rules}
-use Rattle.law_moves.specs.Moves.{OnLeg, Move, Up, HeadCame, PduCame, PacketCame, Puts, IsDrawn, Marks, Pings, Passage, started, moved, all_moved, taken_by, put_by, MayMove, AreAllowed}
-use Rattle.law_moves.specs.Wires.{of_leg}
-use Rattle.law_moves.specs.Passages.Counted.{IsCounted, AreCounted, is_any}
-use Rattle.law_moves.proofs.Passages.Logs.{RowKeeps}
-use Rattle.law_moves.proofs.Passages.Messages.{leg_more, last_one_so, count_append, count_rises}
-use Rattle.law_moves.proofs.PacketKinds.Counts.{leg_is, here_more}
-use Rattle.law_moves.specs.Turns.{Stages, none_up, with_stage, behind_head, stages_after, takes_frames, IsInTurn, AreInTurn, AreInTurnFrom}
-use Rattle.law_role_outproxy.specs.Counted.{co_leg, os_leg, NamesNew, NamesSuccessor}
-use Rattle.law_role_outproxy.proofs.Putting.Goes.{IsAsked, Seen, seen, is_unheard, IsUnasked, Turns, Goes, PickGoes, asked_more, unheard_takes, goes_same, same_pdu, same_c1, same_forwarded, same_passed, same_ack, same_a9, same_end, goes_mark, goes_drawn, put_goes}
+use Rattle.law_moves.proofs.Vocabulary.{by_test, Cookie, CoU, OsD, Named, HttpFault, greatest_echo, Asked, request_verdict, Leg, Frames, PassedOver, Count, HeadRefused, HeadTaken, Stage, first_stage, Message, Packet, Pdu, same_leg, OnLeg, Move, Up, HeadCame, PduCame, PacketCame, Puts, IsDrawn, Marks, Pings, Passage, started, moved, all_moved, taken_by, put_by, MayMove, AreAllowed, of_leg, IsCounted, AreCounted, is_any, Stages, none_up, with_stage, stages_after, takes_frames}
+use Rattle.law_moves.proofs.Vocabulary.{IsInTurn, AreInTurn, AreInTurnFrom}
+use Rattle.law_moves.proofs.Lemmas.{RowKeeps, leg_more, last_one_so, count_append, count_rises, leg_is, here_more, itself}
+use Rattle.law_moves.specs.Turns.{behind_head}
+use Rattle.law_role_outproxy.proofs.Vocabulary.{Channel, OutProxyConfig, OutProxy, is_known, is_server_down, is_client_down, new_proxy, Done, is_co, is_os, is_first, unexpected, forwarded, passed_on, up, pipe, may_up, wants, head_by, told_length, new_length, successor_length, opened, on_out_r2_c1, conn_c1_by, on_ack_to, drawn, mark, on_end_b1, on_out_r1_a9, Pick, put as put_of, pdu, packet, on_co, on_os, rules as proxy_rules, co_leg, os_leg, NamesNew, NamesSuccessor}
+use Rattle.law_role_outproxy.proofs.Putting.Goes.{Seen, seen, is_unheard, IsUnasked, Turns, Goes, PickGoes, unheard_takes, goes_same, same_pdu, same_c1, same_forwarded, same_passed, same_ack, same_a9, same_end, goes_mark, goes_drawn, put_goes}
+use Rattle.law_role_outproxy.proofs.Counted.OutProxyNames.{IsAsked, asked_more}
 
 -- ---- moves
 
-itself : (leg : Leg) → same_leg leg leg ≡ true
-itself leg = grind (arith, nat_tests)
-
-stage_each : (P : Option Stage → Type 0) (leg other : Leg) (next : Stage) (g : Stages)
+pub stage_each : (P : Option Stage → Type 0) (leg other : Leg) (next : Stage) (g : Stages)
     → (leg ≡ other → P (Some next)) → (same_leg leg other ≡ false → P (g other))
     → P (with_stage leg next g other)
 stage_each P leg other next g at apart =

@@ -1,30 +1,11 @@
 -- where an out proxy refuses a packet for its cookie, it is an acknowledgement for the proxy
-use Rattle.std.proofs.Common.{◌≡◌, ℕ, ◌≤◌, ◌==◌, if◌then◌else◌, List, Some, Ok, Err, sym, ap, ◌∙◌, subst, rules}
-use Rattle.std.specs.declared.result.Result.{Result}
-use Rattle.rh_window.specs.declared.fault.BadAck.{BadAck}
-use Rattle.rh_window.specs.Sending.{ack_verdict}
-use Rattle.law_order.proofs.ByNumber.{by_test}
-use Rattle.rh_rts.specs.declared.command.Cookie.{Cookie}
-use Rattle.rh_rts.specs.declared.command.TheConstants.{TO_OUT_PROXY}
-use Rattle.rh_sig.specs.declared.named.Named.{Named}
+use Rattle.law_order.proofs.Vocabulary.{◌≡◌, ℕ, ◌≤◌, ◌==◌, if◌then◌else◌, List, Some, Ok, Err, sym, ap, ◌∙◌, subst, rules, Result}
 use Rattle.rh_sig.specs.declared.named.Named.TheVariants as named
-use Rattle.rh_line.specs.declared.leg.Leg.{Leg}
-use Rattle.rh_shell.specs.declared.answers.Count.{Count}
 use Rattle.rh_shell.specs.declared.answers.Refused.TheVariants as refused
-use Rattle.rh_shell.specs.Rules.{Row}
-use Rattle.rh_outproxy.specs.declared.state.Channel.{Channel}
+use Rattle.rh_outproxy.specs.Acknowledging.{ack_by}
 use Rattle.rh_outproxy.specs.declared.state.Channel.TheVariants as channels
-use Rattle.rh_outproxy.specs.OutProxy.{OutProxy, joined}
-use Rattle.rh_outproxy.specs.Rows.{Done, is_co, is_os, same_cookie, refuse, unexpected, passed_on}
-use Rattle.rh_outproxy.specs.Opening.{conn_c1_by}
-use Rattle.rh_outproxy.specs.Acknowledging.{on_ack, ack_by, acked, ack_row, on_ack_to}
-use Rattle.rh_outproxy.specs.Ending.{on_end_b1}
-use Rattle.rh_outproxy.specs.OutReplacement.{on_out_r1_a9}
-use Rattle.rh_outproxy.specs.Machine.{pdu, packet, on_co, on_os}
-use Rattle.law_moves.specs.Moves.{Passage}
-use Rattle.law_moves.specs.Passages.Passing.{count_of, HasBegunOut}
-use Rattle.law_moves.specs.PacketKinds.{opens_client}
-use Rattle.law_role_outproxy.specs.Refusing.{from_client, MismatchFromServer, Mismatch}
+use Rattle.law_moves.proofs.Vocabulary.{BadAck, ack_verdict, by_test, Cookie, TO_OUT_PROXY, Named, Leg, Count, Row, Passage, count_of, HasBegunOut, opens_client}
+use Rattle.law_role_outproxy.proofs.Vocabulary.{Channel, OutProxy, joined, Done, is_co, is_os, same_cookie, refuse, unexpected, passed_on, conn_c1_by, on_ack, acked, ack_row, on_ack_to, on_end_b1, on_out_r1_a9, pdu, packet, on_co, on_os, from_client, MismatchFromServer, Mismatch}
 use Rattle.law_role_outproxy.proofs.Refusing.Told.{seen, Told, IsBegun}
 use Rattle.law_role_outproxy.proofs.Refusing.MovesKeep.{is_server}
 use Rattle.law_role_outproxy.proofs.Refusing.Refusals.{same_number, other_cookie}

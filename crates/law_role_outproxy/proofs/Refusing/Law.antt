@@ -1,35 +1,8 @@
 -- an out proxy's request is the last that its moves asked for, and why it refuses what comes
-use Rattle.std.proofs.Common.{◌≡◌, ℕ, ◌≤◌, Bool, true, false, if◌then◌else◌, List, [], ◌∷◌, Some, None, Ok, Err, refl, ap, ◌∙◌, subst, rules}
-use Rattle.std.specs.Prelude.{IfSome}
-use Rattle.std.specs.declared.option.Option.{Option}
-use Rattle.rh_window.specs.declared.recv_window.Ack.{Ack}
-use Rattle.law_order.proofs.ByNumber.{by_test}
-use Rattle.rh_rts.specs.declared.command.Cookie.{Cookie}
-use Rattle.rh_sig.specs.declared.named.Named.{Named}
-use Rattle.rh_http.specs.Heads.Verdicts.{Asked}
-use Rattle.rh_line.specs.declared.leg.Leg.{Leg}
-use Rattle.rh_shell.specs.declared.answers.Count.{Count}
+use Rattle.law_order.proofs.Vocabulary.{◌≡◌, ℕ, ◌≤◌, Bool, true, false, if◌then◌else◌, List, [], ◌∷◌, Some, None, Ok, Err, refl, ap, ◌∙◌, subst, rules, IfSome, Option}
 use Rattle.rh_shell.specs.declared.answers.Refused.TheVariants as refused
-use Rattle.rh_shell.specs.declared.due.Due.{Due}
-use Rattle.rh_shell.specs.Rules.{Message, Pdu, Packet}
-use Rattle.rh_outproxy.specs.declared.state.Answer.{Answer}
-use Rattle.rh_outproxy.specs.declared.state.OutProxyConfig.{OutProxyConfig}
-use Rattle.rh_outproxy.specs.OutProxy.{OutProxy, joined, new_proxy}
-use Rattle.rh_outproxy.specs.Rows.{Done, is_co, is_os, unexpected}
-use Rattle.rh_outproxy.specs.Opening.{was_up, up, head}
-use Rattle.rh_outproxy.specs.Acknowledging.{on_pdu, ack_due}
-use Rattle.rh_outproxy.specs.Ending.{drawn, mark}
-use Rattle.rh_outproxy.specs.Putting.{Pick, or_else, answer_by, put_answer, waiting_by, put_waiting, pdu_by, put_pdu, put_mark, put_ping, next_co, put_first, ack_by, put_ack, next_os}
-use Rattle.rh_outproxy.specs.Putting.{put as put_of}
-use Rattle.rh_outproxy.specs.Machine.{pdu, packet, on_co, on_os}
-use Rattle.rh_outproxy.specs.Machine.{rules as proxy_rules}
-use Rattle.law_moves.specs.Moves.{Move, Up, HeadCame, PduCame, PacketCame, Puts, IsDrawn, Marks, Pings, Passage, started, moved, all_moved, taken_by, put_by}
-use Rattle.law_moves.specs.Wires.{of_leg}
-use Rattle.law_moves.specs.Passages.Passing.{count_of}
-use Rattle.law_moves.specs.Passages.Counted.{AreCounted}
-use Rattle.law_moves.specs.PacketKinds.{opens_client}
-use Rattle.law_role_outproxy.specs.Counted.{co_leg}
-use Rattle.law_role_outproxy.specs.Refusing.{asked_after, last_asked, UnexpectedPdu, RefusesFor}
+use Rattle.law_moves.proofs.Vocabulary.{Ack, by_test, Cookie, Named, Asked, Leg, Count, Due, Message, Pdu, Packet, Move, Up, HeadCame, PduCame, PacketCame, Puts, IsDrawn, Marks, Pings, Passage, started, moved, all_moved, taken_by, put_by, of_leg, count_of, AreCounted, opens_client}
+use Rattle.law_role_outproxy.proofs.Vocabulary.{Answer, OutProxyConfig, OutProxy, joined, new_proxy, Done, is_co, is_os, unexpected, was_up, up, head, on_pdu, ack_due, drawn, mark, Pick, or_else, answer_by, put_answer, waiting_by, put_waiting, pdu_by, put_pdu, put_mark, put_ping, next_co, put_first, ack_by, put_ack, next_os, put as put_of, pdu, packet, on_co, on_os, rules as proxy_rules, co_leg, asked_after, last_asked, UnexpectedPdu, RefusesFor}
 use Rattle.law_role_outproxy.proofs.Refusing.Told.{seen, Told}
 use Rattle.law_role_outproxy.proofs.Refusing.MovesKeep.{is_client, is_server, proxy_told}
 use Rattle.law_role_outproxy.proofs.Refusing.Refusals.{no_leg, pdu_says, packet_says}
@@ -56,7 +29,7 @@ same_drawn s leg = search rules
 same_mark : (s : OutProxy) (leg : Leg) → (mark s leg).request ≡ s.request
 same_mark s leg = search rules
 
-head_asks : (s : OutProxy) (leg : Leg) (text : List ℕ)
+pub head_asks : (s : OutProxy) (leg : Leg) (text : List ℕ)
     → (head s leg text).0.request ≡ asked_after s.request (HeadCame leg text)
 head_asks s leg text = search rules
 
@@ -120,7 +93,7 @@ by_put : (p : Passage OutProxy) (leg : Leg) (pick : Pick)
 by_put p leg None same = refl
 by_put p leg (Some one) same = same
 
-move_asks : (p : Passage OutProxy) (move : Move)
+pub move_asks : (p : Passage OutProxy) (move : Move)
     → (moved proxy_rules p move).role.request ≡ asked_after p.role.request move
 move_asks p (Up leg cookie) = same_up p.role leg cookie
 move_asks p (HeadCame leg text) = head_asks p.role leg text
@@ -133,7 +106,7 @@ move_asks p (IsDrawn leg) = same_drawn p.role leg
 move_asks p (Marks leg) = same_mark p.role leg
 move_asks p (Pings leg) = refl
 
-moves_ask : (p : Passage OutProxy) (moves : List Move)
+pub moves_ask : (p : Passage OutProxy) (moves : List Move)
     → (all_moved proxy_rules p moves).role.request ≡ last_asked p.role.request moves
 moves_ask p [] = refl
 moves_ask p (move ∷ moves) =

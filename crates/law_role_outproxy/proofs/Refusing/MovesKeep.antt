@@ -1,32 +1,11 @@
 -- each move of an out proxy that is counted keeps what its state tells of what came
-use Rattle.std.proofs.Common.{◌≡◌, ℕ, ◌&&◌, true, false, true≢false, if◌then◌else◌, List, [], ◌∷◌, length, Some, None, Ok, Err, refl, sym, ap, ◌∙◌, subst}
-use Rattle.std.proofs.lemmas.Bool.{and_parts}
-use Rattle.rh_window.specs.Sending.{may_send, after_sent}
-use Rattle.law_order.proofs.ByNumber.{by_test}
-use Rattle.rh_sig.specs.declared.named.Named.{Named}
-use Rattle.rh_line.specs.declared.leg.Leg.{Leg}
-use Rattle.rh_line.specs.Lines.{Line, is_empty}
+use Rattle.law_order.proofs.Vocabulary.{◌≡◌, ℕ, ◌&&◌, true, false, true≢false, if◌then◌else◌, List, [], ◌∷◌, length, Some, None, Ok, Err, refl, sym, ap, ◌∙◌, subst, and_parts}
 use Rattle.rh_line.specs.Lines as lines
-use Rattle.rh_shell.specs.declared.answers.Count.{Count}
-use Rattle.rh_shell.specs.declared.due.Due.{Due}
-use Rattle.rh_shell.specs.Rules.{Message, Pdu, Packet}
-use Rattle.rh_shell.specs.Waiting.{Waiting}
-use Rattle.rh_outproxy.specs.declared.state.OutProxyConfig.{OutProxyConfig}
-use Rattle.rh_outproxy.specs.OutProxy.{OutProxy, new_proxy, joined, is_due}
-use Rattle.rh_outproxy.specs.Rows.{Done, is_co, is_os, unexpected}
-use Rattle.rh_outproxy.specs.Opening.{up, head}
-use Rattle.rh_outproxy.specs.Acknowledging.{on_pdu, ack_due}
-use Rattle.rh_outproxy.specs.Ending.{drawn, mark}
-use Rattle.rh_outproxy.specs.Putting.{Pick, or_else, put_answer, waiting_by, put_waiting, pdu_by, put_pdu, put_end, put_handover, put_mark, put_ping, next_co, put_first, put_ack, next_os}
-use Rattle.rh_outproxy.specs.Putting.{put as put_of}
-use Rattle.rh_outproxy.specs.Machine.{pdu, packet, on_co, on_os}
-use Rattle.rh_outproxy.specs.Machine.{rules as proxy_rules}
-use Rattle.law_moves.specs.Moves.{OnLeg, Move, Up, HeadCame, PduCame, PacketCame, Puts, IsDrawn, Marks, Pings, Passage, started, moved, all_moved, taken_by, put_by}
-use Rattle.law_moves.specs.Wires.{of_leg}
-use Rattle.law_moves.specs.Passages.Counted.{packets, Tells, IsCounted, AreCounted}
-use Rattle.law_moves.proofs.PacketKinds.Counts.{leg_is}
-use Rattle.law_role_outproxy.specs.Counted.{co_leg, os_leg}
-use Rattle.law_role_outproxy.proofs.Refusing.Told.{Seen, seen, Same, Told, IsQuiet, quiet_answer, quiet_ping, quiet_first, quiet_ack, due_came, same_up, same_head, same_drawn, same_mark}
+use Rattle.law_moves.proofs.Vocabulary.{may_send, after_sent, by_test, Named, Leg, Line, is_empty, Count, Due, Message, Pdu, Packet, Waiting, OnLeg, Move, Up, HeadCame, PduCame, PacketCame, Puts, IsDrawn, Marks, Pings, Passage, started, moved, all_moved, taken_by, put_by, of_leg, packets, Tells, IsCounted, AreCounted}
+use Rattle.law_moves.proofs.Lemmas.{leg_is}
+use Rattle.law_role_outproxy.proofs.Vocabulary.{OutProxyConfig, OutProxy, new_proxy, joined, is_due, Done, is_co, is_os, unexpected, up, head, on_pdu, ack_due, drawn, mark, Pick, or_else, put_answer, waiting_by, put_waiting, pdu_by, put_pdu, put_end, put_handover, put_mark, put_ping, next_co, put_first, put_ack, next_os, put as put_of, pdu, packet, on_co, on_os, rules as proxy_rules, co_leg, os_leg}
+use Rattle.law_role_outproxy.proofs.Refusing.Told.{IsQuiet, quiet_answer, quiet_ping, quiet_first, quiet_ack, same_up, same_head, same_drawn, same_mark}
+use Rattle.law_role_outproxy.proofs.Conditions.{due_came}
 use Rattle.law_role_outproxy.proofs.Refusing.Told as told
 use Rattle.law_role_outproxy.proofs.Refusing.RowsKeep as rows
 

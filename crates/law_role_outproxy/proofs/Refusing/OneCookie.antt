@@ -1,12 +1,7 @@
 -- where one packet opens a channel, all begin with its cookie
-use Rattle.std.proofs.Common.{◌≡◌, ℕ, suc, ◌≤◌, Bool, true, if◌then◌else◌, List, [], ◌∷◌, inl, inr, refl, sym, ap, ◌∙◌, arith}
-use Rattle.law_order.proofs.ByNumber.{by_test}
-use Rattle.rh_rts.specs.declared.command.Cookie.{Cookie}
-use Rattle.rh_sig.specs.declared.named.Named.{Named}
+use Rattle.law_order.proofs.Vocabulary.{◌≡◌, ℕ, suc, ◌≤◌, Bool, true, if◌then◌else◌, List, [], ◌∷◌, inl, inr, refl, sym, ap, ◌∙◌, arith}
 use Rattle.rh_sig.specs.declared.named.Named.TheVariants as named
-use Rattle.rh_shell.specs.Rules.{Message, Text, Pdu, Packet}
-use Rattle.law_moves.specs.Passages.Passing.{count_of, BeginsOut, HasBegunOut}
-use Rattle.law_moves.specs.PacketKinds.{opens_client}
+use Rattle.law_moves.proofs.Vocabulary.{by_test, Cookie, Named, Message, Text, Pdu, Packet, count_of, BeginsOut, HasBegunOut, opens_client}
 
 begins_opens : (a : Cookie) (m : Named) → BeginsOut a m → opens_client m ≡ true
 begins_opens a (named.ConnA1 version connection channel window) h = refl

@@ -1,42 +1,20 @@
 -- why an out proxy's rows refuse, from what its state tells of what came to it
-use Rattle.std.proofs.Common.{◌≡◌, ◌⊎◌, ℕ, ◌≤◌, ◌==◌, ◌&&◌, ◌||◌, Bool, true, false, true≢false, inl, inr, if◌then◌else◌, List, length, None, Ok, Err, is_some, not, refl, sym, ap, ◌∙◌, subst, arith}
-use Rattle.std.specs.declared.option.Option.{Option}
-use Rattle.std.specs.declared.result.Result.{Result}
-use Rattle.std.proofs.lemmas.Bool.Decides.{nat_tests}
-use Rattle.std.proofs.lemmas.Slice.Eq.{bytes_eq-Decides}
-use Rattle.rh_window.specs.declared.fault.BadAck.{BadAck}
-use Rattle.rh_window.specs.declared.fault.WindowExceeded.{WindowExceeded}
-use Rattle.rh_window.specs.Sending.{ack_verdict}
 use Rattle.rh_window.specs.Receiving as windows
-use Rattle.law_order.proofs.ByNumber.{by_test}
-use Rattle.rh_rts.specs.declared.command.Cookie.{Cookie}
-use Rattle.rh_rts.specs.declared.command.TheConstants.{TO_OUT_PROXY}
-use Rattle.rh_sig.specs.declared.named.Named.{Named}
+use Rattle.law_order.proofs.Vocabulary.{◌≡◌, ◌⊎◌, ℕ, ◌≤◌, ◌==◌, ◌&&◌, ◌||◌, Bool, true, false, true≢false, inl, inr, if◌then◌else◌, List, length, None, Ok, Err, is_some, not, refl, sym, ap, ◌∙◌, subst, arith, Option, Result, nat_tests, bytes_eq-Decides}
 use Rattle.rh_sig.specs.declared.named.Named.TheVariants as named
-use Rattle.rh_http.specs.Heads.Verdicts.{Asked}
-use Rattle.rh_line.specs.declared.leg.Leg.{Leg}
 use Rattle.rh_line.specs.declared.line_fault.LineFault.TheVariants as line_fault
 use Rattle.rh_line.specs.Lines as lines
-use Rattle.rh_shell.specs.declared.answers.Count.{Count}
 use Rattle.rh_shell.specs.declared.answers.Count.TheVariants as count
 use Rattle.rh_shell.specs.declared.answers.Refused.TheVariants as refused
-use Rattle.rh_shell.specs.Waiting.{Waiting}
 use Rattle.rh_shell.specs.Waiting as waits
-use Rattle.rh_outproxy.specs.declared.state.Channel.{Channel}
+use Rattle.rh_outproxy.specs.Acknowledging.{ack_by}
 use Rattle.rh_outproxy.specs.declared.state.Channel.TheVariants as channels
-use Rattle.rh_outproxy.specs.OutProxy.{OutProxy, joined, is_successor, has_come, is_client_marked}
-use Rattle.rh_outproxy.specs.Rows.{Done, is_co, is_os, is_first, is_second, is_joined, is_carrying, takes_pdus, same_cookie, taken, unexpected, forwarded, forwarded_by, passed_on}
-use Rattle.rh_outproxy.specs.Opening.{was_up, told_length, new_length, successor_length, conn_c1_by}
-use Rattle.rh_outproxy.specs.Acknowledging.{on_ack, ack_by, acked, ack_row, on_ack_to, on_pdu, line_row, admitted}
-use Rattle.rh_outproxy.specs.Machine.{packet, on_co, on_os}
-use Rattle.law_moves.specs.Moves.{Move, Passage}
-use Rattle.law_moves.specs.Wires.{of_leg}
-use Rattle.law_moves.specs.Passages.Passing.{count_of}
-use Rattle.law_moves.specs.Passages.Counted.{packets, Tells}
-use Rattle.law_moves.specs.PacketKinds.{is_conn_a1, is_conn_c1, is_out_r1_a3}
-use Rattle.law_role_outproxy.specs.Refusing.{last_asked, IsNotAsked, from_client, from_server, IsUnjoined, CarriesNone, TakesNone, PassesNone, UnexpectedFromClient, UnexpectedFromServer, Unexpected}
+use Rattle.law_moves.proofs.Vocabulary.{BadAck, WindowExceeded, ack_verdict, by_test, Cookie, TO_OUT_PROXY, Named, Asked, Leg, Count, Waiting, Move, Passage, of_leg, count_of, packets, Tells, is_conn_a1, is_conn_c1, is_out_r1_a3}
+use Rattle.law_role_outproxy.proofs.Vocabulary.{Channel, OutProxy, joined, is_successor, has_come, is_client_marked, Done, is_co, is_os, is_first, is_second, is_joined, is_carrying, takes_pdus, same_cookie, taken, unexpected, forwarded, forwarded_by, passed_on, was_up, told_length, new_length, successor_length, conn_c1_by, on_ack, acked, ack_row, on_ack_to, on_pdu, line_row, admitted, packet, on_co, on_os, last_asked, IsNotAsked, from_client, IsUnjoined, CarriesNone}
+use Rattle.law_role_outproxy.proofs.Vocabulary.{TakesNone, PassesNone, UnexpectedFromClient, UnexpectedFromServer, Unexpected}
 use Rattle.law_role_outproxy.proofs.Refusing.Told.{seen, Told, Counts}
 use Rattle.law_role_outproxy.proofs.Refusing.MovesKeep.{is_client, is_server}
+use Rattle.law_role_outproxy.specs.Refusing.{from_server}
 
 -- ---- answers
 

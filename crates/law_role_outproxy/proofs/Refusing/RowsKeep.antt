@@ -1,35 +1,13 @@
 -- the rows of an out proxy keep what its state tells of what came
-use Rattle.std.proofs.Common.{◌≡◌, ℕ, ◌==◌, ◌&&◌, Bool, true, false, List, [], ◌∷◌, ◌++◌, Ok, Err, is_some, refl, sym, ap, subst, arith}
-use Rattle.std.proofs.lemmas.Bool.{and_parts}
-use Rattle.law_order.proofs.ByNumber.{by_test}
-use Rattle.rh_rts.specs.declared.command.Cookie.{Cookie}
-use Rattle.rh_rts.specs.declared.command.TheConstants.{TO_OUT_PROXY}
-use Rattle.rh_sig.specs.declared.named.Named.{Named}
+use Rattle.law_order.proofs.Vocabulary.{◌≡◌, ℕ, ◌==◌, ◌&&◌, Bool, true, false, List, [], ◌∷◌, ◌++◌, Ok, Err, is_some, refl, sym, ap, subst, arith, and_parts}
 use Rattle.rh_sig.specs.declared.named.Named.TheVariants as named
-use Rattle.rh_line.specs.declared.leg.Leg.{Leg}
-use Rattle.rh_shell.specs.declared.answers.Count.{Count}
-use Rattle.rh_shell.specs.declared.waiting.TheConstants.{FORWARDED_ROOM}
-use Rattle.rh_shell.specs.Rules.{Message, Pdu, Packet}
-use Rattle.rh_shell.specs.Waiting.{Waiting, empty, with_due}
 use Rattle.rh_shell.specs.Waiting as waits
-use Rattle.rh_outproxy.specs.declared.state.Channel.{Channel}
 use Rattle.rh_outproxy.specs.declared.state.Channel.TheVariants as channels
-use Rattle.rh_outproxy.specs.OutProxy.{OutProxy, joined, is_successor, is_client_marked}
-use Rattle.rh_outproxy.specs.Rows.{Done, is_first, is_second, is_joined, is_carrying, takes_pdus, taken, unexpected, forwarded, forwarded_by, passed_on}
-use Rattle.rh_outproxy.specs.Opening.{told_length, new_length, successor_length, opened, conn_c1_by}
-use Rattle.rh_outproxy.specs.Acknowledging.{on_ack, on_ack_to, on_pdu}
-use Rattle.rh_outproxy.specs.Ending.{on_end_b1}
-use Rattle.rh_outproxy.specs.OutReplacement.{on_out_r1_a9}
-use Rattle.rh_outproxy.specs.Machine.{on_co, on_os}
-use Rattle.law_moves.specs.Moves.{OnLeg}
-use Rattle.law_moves.specs.Wires.{of_leg}
-use Rattle.law_moves.specs.Passages.Passing.{count_of, HasBegunOut, BeginsOut}
-use Rattle.law_moves.proofs.Passages.Messages.{last_one_so}
-use Rattle.law_moves.specs.Passages.Counted.{packets, is_any, Tells}
-use Rattle.law_moves.specs.PacketKinds.{is_conn_a1, is_conn_c1, is_out_r1_a3, is_out_r1_a9, is_end_b1}
-use Rattle.law_moves.proofs.PacketKinds.Counts.{here_more, other_more, leg_here, leg_rises}
-use Rattle.law_role_outproxy.specs.Counted.{co_leg, os_leg}
-use Rattle.law_role_outproxy.proofs.Refusing.Told.{Seen, seen, Same, Told, Counts, IsBegun, same_ack, same_pdu, successor_more, begun_more, is_zero}
+use Rattle.law_moves.proofs.Vocabulary.{by_test, Cookie, TO_OUT_PROXY, Named, Leg, Count, FORWARDED_ROOM, Message, Pdu, Packet, Waiting, empty, OnLeg, of_leg, count_of, HasBegunOut, BeginsOut, packets, is_any, Tells, is_conn_a1, is_conn_c1, is_out_r1_a3, is_out_r1_a9, is_end_b1}
+use Rattle.law_moves.proofs.Lemmas.{last_one_so, here_more, other_more, leg_here, leg_rises}
+use Rattle.law_role_outproxy.proofs.Vocabulary.{Channel, OutProxy, joined, is_successor, is_client_marked, Done, is_first, is_second, is_joined, is_carrying, takes_pdus, taken, unexpected, forwarded, forwarded_by, passed_on, told_length, new_length, successor_length, opened, conn_c1_by, on_ack, on_ack_to, on_pdu, on_end_b1, on_out_r1_a9, on_co, on_os, co_leg, os_leg}
+use Rattle.law_role_outproxy.proofs.Refusing.Told.{seen, Same, Told, Counts, IsBegun, same_ack, same_pdu, successor_more, begun_more}
+use Rattle.law_role_outproxy.proofs.Counted.OutProxyOnce.{is_zero}
 use Rattle.law_role_outproxy.proofs.Refusing.Told as told
 
 module _ (n : ℕ) where

@@ -1,35 +1,9 @@
 -- what an out proxy's state tells of what came to it
-use Rattle.std.proofs.Common.{◌≡◌, ℕ, ◌≤◌, Bool, true, false, true≢false, List, [], ◌∷◌, ◌++◌, Ok, Err, is_some, refl, sym, ap, ◌∙◌, subst, arith, rules}
-use Rattle.std.specs.Prelude.{IfSome}
-use Rattle.std.specs.declared.option.Option.{Option}
-use Rattle.rh_window.specs.declared.recv_window.Ack.{Ack}
-use Rattle.rh_rts.specs.declared.command.Cookie.{Cookie}
-use Rattle.rh_line.specs.declared.leg.Leg.{Leg}
-use Rattle.rh_shell.specs.declared.answers.Count.{Count}
-use Rattle.rh_shell.specs.declared.answers.Count.TheVariants as count
-use Rattle.rh_shell.specs.declared.waiting.TheConstants.{FORWARDED_ROOM}
-use Rattle.rh_shell.specs.Rules.{Message}
-use Rattle.rh_shell.specs.Waiting.{Waiting, empty}
-use Rattle.rh_outproxy.specs.declared.state.Answer.{Answer}
-use Rattle.rh_outproxy.specs.declared.state.Channel.{Channel}
+use Rattle.law_order.proofs.Vocabulary.{◌≡◌, ℕ, ◌≤◌, Bool, true, false, true≢false, List, [], ◌∷◌, ◌++◌, Ok, Err, is_some, refl, sym, ap, ◌∙◌, subst, arith, rules, IfSome, Option}
 use Rattle.rh_outproxy.specs.declared.state.Channel.TheVariants as channels
-use Rattle.rh_outproxy.specs.declared.state.Mark.{Mark}
-use Rattle.rh_outproxy.specs.declared.state.Mark.TheVariants as marks
-use Rattle.rh_outproxy.specs.declared.state.OutProxyConfig.{OutProxyConfig}
-use Rattle.rh_outproxy.specs.OutProxy.{OutProxy, joined, is_successor, has_come, is_due}
-use Rattle.rh_outproxy.specs.Rows.{Done, is_first, taken}
-use Rattle.rh_outproxy.specs.Opening.{up, head}
-use Rattle.rh_outproxy.specs.Acknowledging.{on_ack, on_pdu}
-use Rattle.rh_outproxy.specs.Ending.{drawn, mark}
-use Rattle.rh_outproxy.specs.Putting.{Pick, answer_by, put_ping, put_first, ack_by}
-use Rattle.law_moves.specs.Moves.{OnLeg}
-use Rattle.law_moves.specs.Wires.{of_leg}
-use Rattle.law_moves.specs.Passages.Passing.{count_of, HasBegunOut, BeginsOut}
-use Rattle.law_moves.proofs.Passages.Messages.{count_append, one_more_so}
-use Rattle.law_moves.specs.Passages.Counted.{packets}
-use Rattle.law_moves.specs.PacketKinds.{is_conn_a1, is_conn_c1, is_out_r1_a3, is_out_r1_a9, is_end_b1}
-use Rattle.law_moves.proofs.PacketKinds.Counts.{here_more, other_more, leg_rises}
-use Rattle.law_role_outproxy.specs.Counted.{co_leg, os_leg}
+use Rattle.law_moves.proofs.Vocabulary.{Ack, Cookie, Leg, FORWARDED_ROOM, Message, Waiting, empty, OnLeg, of_leg, count_of, HasBegunOut, BeginsOut, packets, is_conn_a1, is_conn_c1, is_out_r1_a3, is_out_r1_a9, is_end_b1}
+use Rattle.law_moves.proofs.Lemmas.{count_append, one_more_so, here_more, other_more, leg_rises}
+use Rattle.law_role_outproxy.proofs.Vocabulary.{Answer, Channel, Mark, OutProxyConfig, OutProxy, joined, is_successor, has_come, Done, taken, up, head, on_ack, on_pdu, drawn, mark, Pick, answer_by, put_ping, put_first, ack_by, co_leg, os_leg}
 
 -- what the facts are about
 pub record Seen : Type 0 where
@@ -122,15 +96,6 @@ successor_more (channels.Successor connection predecessor cookie) all a1 a3 c1 m
       is ∙ h.1,
     )
 successor_more c all a1 a3 c1 more same other e h rise is = absurd cc
-
-pub is_zero : (number : Count) → is_first number ≡ true → number ≡ count.Zero
-is_zero count.Zero e = refl
-is_zero count.One e = absurd cc
-is_zero count.More e = absurd cc
-
-pub due_came : (m : Mark) → is_due m ≡ true → has_come m ≡ true
-due_came marks.Came e = refl
-due_came m e = absurd cc
 
 -- ---- the state
 

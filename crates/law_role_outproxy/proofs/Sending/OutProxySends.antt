@@ -1,48 +1,16 @@
 -- an out proxy sends to its client within the window there
-use Rattle.std.proofs.Common.{◌≡◌, ℕ, ◌==◌, Bool, true, false, ◌&&◌, List, [], ◌∷◌, length, Some, None, Ok, Err, inl, ◌<◌, ◌⊎◌, arith, refl, sym, ◌∙◌, ap, subst, rules}
-use Rattle.std.proofs.lemmas.Bool.{eqb-true}
-use Rattle.std.proofs.lemmas.Slice.Eq.{bytes_eq-Decides}
-use Rattle.std.specs.Prelude.{if◌then◌else◌, IfSome}
-use Rattle.std.specs.declared.option.Option.{Option}
-use Rattle.std.specs.declared.result.Result.{Result}
-use Rattle.rh_window.specs.Sides.{Sender}
-use Rattle.rh_window.specs.Sending.{may_send, after_acked, ack_verdict}
-use Rattle.rh_window.specs.declared.fault.BadAck.{BadAck}
-use Rattle.rh_window.specs.declared.range.TheConstants.{GREATEST_WINDOW}
-use Rattle.rh_window.specs.declared.recv_window.Ack.{Ack}
-use Rattle.law_order.proofs.ByNumber.{by_test}
-use Rattle.rh_rts.specs.declared.command.Cookie.{Cookie}
-use Rattle.rh_rts.specs.declared.command.TheConstants.{TO_OUT_PROXY}
-use Rattle.rh_sig.specs.declared.named.Named.{Named}
+use Rattle.law_order.proofs.Vocabulary.{◌≡◌, ℕ, ◌==◌, Bool, true, false, ◌&&◌, List, [], ◌∷◌, length, Some, None, Ok, Err, inl, ◌<◌, ◌⊎◌, arith, refl, sym, ◌∙◌, ap, subst, rules, eqb-true, bytes_eq-Decides, if◌then◌else◌, IfSome, Option, Result}
 use Rattle.rh_sig.specs.declared.named.Named.TheVariants as named
-use Rattle.rh_line.specs.declared.leg.Leg.{Leg}
-use Rattle.rh_shell.specs.declared.answers.Count.{Count}
 use Rattle.rh_shell.specs.declared.answers.Refused.TheVariants as refused
-use Rattle.rh_shell.specs.declared.due.Due.{Due}
-use Rattle.rh_shell.specs.Rules.{Message, Pdu, Packet}
-use Rattle.rh_outproxy.specs.declared.state.Answer.{Answer}
-use Rattle.rh_outproxy.specs.declared.state.Channel.{Channel}
 use Rattle.rh_outproxy.specs.declared.state.Channel.TheVariants as channels
-use Rattle.rh_outproxy.specs.declared.state.OutProxyConfig.{OutProxyConfig}
-use Rattle.rh_outproxy.specs.OutProxy.{OutProxy, is_server_first, is_known, joined, new_proxy}
-use Rattle.rh_outproxy.specs.Rows.{Done, is_co, is_os, is_first, same_cookie, unexpected, refuse, forwarded, passed_on}
-use Rattle.rh_outproxy.specs.Opening.{up, head, told_length, new_length, successor_length, on_out_r2_c1, conn_c1_by, first_packet}
-use Rattle.rh_outproxy.specs.Acknowledging.{acked, on_ack, on_ack_to, ack_due, ack_row}
 use Rattle.rh_outproxy.specs.Acknowledging as acks
-use Rattle.rh_outproxy.specs.OutReplacement.{on_out_r1_a9}
-use Rattle.rh_outproxy.specs.Ending.{drawn, mark, on_end_b1}
-use Rattle.rh_outproxy.specs.Putting.{Pick, or_else, answer_by, put_answer, waiting_by, put_waiting, pdu_by, put_pdu, put_end, put_handover, put_mark, put_ping, next_co, first_by, put_first, ack_by, put_ack, next_os}
-use Rattle.rh_outproxy.specs.Putting.{put as put_of}
-use Rattle.rh_outproxy.specs.Machine.{pdu, packet, on_co, on_os}
-use Rattle.rh_outproxy.specs.Machine.{rules as proxy_rules}
-use Rattle.law_moves.specs.Moves.{OnLeg, Move, started, all_moved}
-use Rattle.law_moves.specs.Wires.{of_leg}
-use Rattle.law_moves.specs.Passages.Passing.{pdu_bytes, HasBegunOut}
-use Rattle.law_moves.proofs.Passages.Logs.{RowKeeps, PutKeeps, StepsKeep, moves_keep}
-use Rattle.law_role_outproxy.specs.Sending.{co_leg, os_leg, OpensOnce, RefusesFalseAcks, IsInRange, IsNoWindow, SendsWithin}
-use Rattle.law_role_outproxy.proofs.Sending.Legs.{leg_is}
+use Rattle.law_moves.proofs.Vocabulary.{Sender, may_send, after_acked, ack_verdict, BadAck, GREATEST_WINDOW, Ack, by_test, Cookie, TO_OUT_PROXY, Named, Leg, Count, Due, Message, Pdu, Packet, OnLeg, Move, started, all_moved, of_leg, pdu_bytes, HasBegunOut}
+use Rattle.law_moves.proofs.Lemmas.{RowKeeps, PutKeeps, StepsKeep, moves_keep, leg_is}
+use Rattle.law_role_outproxy.proofs.Vocabulary.{Answer, Channel, OutProxyConfig, OutProxy, is_server_first, is_known, joined, new_proxy, Done, is_co, is_os, is_first, same_cookie, unexpected, refuse, forwarded, passed_on, up, head, told_length, new_length, successor_length, on_out_r2_c1, conn_c1_by, first_packet, acked, on_ack, on_ack_to, ack_due, ack_row, on_out_r1_a9, drawn, mark, on_end_b1, Pick, or_else, answer_by, put_answer, waiting_by, put_waiting, pdu_by, put_pdu}
+use Rattle.law_role_outproxy.proofs.Vocabulary.{put_end, put_handover, put_mark, put_ping, next_co, first_by, put_first, ack_by, put_ack, next_os, put as put_of, pdu, packet, on_co, on_os, rules as proxy_rules, OpensOnce, RefusesFalseAcks, IsInRange, IsNoWindow, SendsWithin}
 use Rattle.law_role_outproxy.proofs.Sending.Windows.{refused_same, IsFalse, verdict_false}
 use Rattle.law_role_outproxy.proofs.Sending.Sent.{Seen, Sends, IsBegun, joined_begun, told_less, came_one, opened_one, acked_one, still_put, pdu_put}
+use Rattle.law_role_outproxy.specs.Sending.{co_leg, os_leg}
 
 abbrev seen : OutProxy → Seen
 seen s = record { config = s.config; channel = s.channel; window = s.window }
@@ -133,7 +101,7 @@ ack_window : (s : OutProxy) (received available : ℕ) (cookie : Cookie)
     → IsNoWindow (on_ack s received available cookie).1
 ack_window s received available cookie = search rules
 
-os_window : (s : OutProxy) (m : Named) → IsNoWindow (on_os s m).1
+pub os_window : (s : OutProxy) (m : Named) → IsNoWindow (on_os s m).1
 os_window s (named.AckTo to received available cookie) =
     by_test (λ (x : Done). IsNoWindow x.1) (to == TO_OUT_PROXY) (on_ack s received available cookie)
     (passed_on s to (named.AckTo 0 received available cookie))
@@ -141,7 +109,7 @@ os_window s (named.AckTo to received available cookie) =
     (λ e. (passed_plain s to (named.AckTo 0 received available cookie)).1)
 os_window s m = (os_plain s m refl).1
 
-no_window : (s : OutProxy) (leg : Leg) (count : Count) (m : Named)
+pub no_window : (s : OutProxy) (leg : Leg) (count : Count) (m : Named)
     → IsNoWindow (packet s leg count m).1
 no_window s leg count m =
     by_test (λ (x : Done). IsNoWindow x.1) (is_co s leg) (on_co s count m)

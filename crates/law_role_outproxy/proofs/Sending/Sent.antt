@@ -1,28 +1,12 @@
 -- what an out proxy sent, and what it was told, as messages come and are put
-use Rattle.std.proofs.Common.{◌≡◌, ◌⊎◌, ℕ, ◌+◌, ◌≤◌, Bool, true, false, inl, inr, if◌then◌else◌, List, [], ◌∷◌, ◌++◌, length, refl, sym, ap, ◌∙◌, subst, arith}
-use Rattle.std.specs.Prelude.{IfSome}
-use Rattle.std.proofs.lemmas.Bool.Decides.{nat_tests}
-use Rattle.rh_window.specs.Sides.{Sender}
-use Rattle.rh_window.specs.Sending.{unsent, may_send, after_sent, after_acked}
-use Rattle.law_order.proofs.ByNumber.{by_test}
-use Rattle.rh_rts.specs.declared.command.Cookie.{Cookie}
-use Rattle.rh_rts.specs.declared.command.TheConstants.{TO_OUT_PROXY}
-use Rattle.rh_sig.specs.declared.named.Named.{Named}
-use Rattle.rh_sig.specs.declared.named.Named.TheVariants.{ConnA1, OutR1A3, AckTo}
-use Rattle.rh_line.specs.declared.leg.Leg.{Leg}
-use Rattle.rh_shell.specs.Rules.{Message, Text, Pdu, Packet}
-use Rattle.rh_shell.specs.Shells.{same_leg}
-use Rattle.rh_outproxy.specs.declared.state.Channel.{Channel}
+use Rattle.law_order.proofs.Vocabulary.{◌≡◌, ◌⊎◌, ℕ, ◌+◌, ◌≤◌, Bool, true, false, inl, inr, if◌then◌else◌, List, [], ◌∷◌, ◌++◌, length, refl, sym, ap, ◌∙◌, subst, arith, IfSome, nat_tests}
 use Rattle.rh_outproxy.specs.declared.state.Channel.TheVariants as channels
-use Rattle.rh_outproxy.specs.declared.state.OutProxyConfig.{OutProxyConfig}
-use Rattle.rh_outproxy.specs.OutProxy.{is_known, joined}
-use Rattle.law_moves.specs.Moves.{OnLeg}
-use Rattle.law_moves.specs.Wires.{of_leg}
-use Rattle.law_moves.specs.Passages.Passing.{pdu_bytes, count_of, Has, BeginsOut, HasBegunOut}
-use Rattle.law_moves.proofs.Passages.Messages.{leg_more, has_more, has_last, one_more_so, last_one_so, count_append, count_rises}
-use Rattle.law_role_outproxy.specs.Sending.{co_leg, os_leg, opens, OpensOnce, TellsWindow, MaySend}
-use Rattle.law_role_outproxy.proofs.Sending.Legs.{here_more, other_more, more_keeps, bytes_here, bytes_still}
+use Rattle.law_moves.proofs.Vocabulary.{Sender, unsent, may_send, after_sent, after_acked, by_test, Cookie, TO_OUT_PROXY, Named, ConnA1, OutR1A3, AckTo, Leg, Message, Text, Pdu, Packet, same_leg, OnLeg, of_leg, pdu_bytes, count_of, Has, BeginsOut, HasBegunOut}
+use Rattle.law_moves.proofs.Lemmas.{leg_more, has_more, has_last, one_more_so, last_one_so, count_append, count_rises, here_more, other_more}
+use Rattle.law_role_outproxy.proofs.Vocabulary.{Channel, OutProxyConfig, is_known, joined, opens, OpensOnce, TellsWindow, MaySend}
+use Rattle.law_role_outproxy.proofs.Sending.Legs.{more_keeps, bytes_here, bytes_still}
 use Rattle.law_role_outproxy.proofs.Sending.Windows.{acked_sent, acked_rises, acked_edge}
+use Rattle.law_role_outproxy.specs.Sending.{co_leg, os_leg}
 
 -- ---- the channel that began
 

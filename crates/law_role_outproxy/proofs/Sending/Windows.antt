@@ -1,13 +1,6 @@
 -- a send window, and what an acknowledgement does to it
-use Rattle.std.proofs.Common.{◌≡◌, ◌⊎◌, ℕ, ◌+◌, ◌≤◌, ◌<◌, nat_lt, nat_le, Bool, true, false, inl, inr, if◌then◌else◌, Ok, Err, refl, ap, arith, rules}
-use Rattle.std.specs.Prelude.{max, is_ok}
-use Rattle.std.specs.declared.result.Result.{Result}
-use Rattle.std.proofs.lemmas.Bool.Decides.{nat_tests}
-use Rattle.rh_window.specs.Sides.{Sender}
-use Rattle.rh_window.specs.Sending.{bad_ack, ack_verdict, after_acked}
-use Rattle.rh_window.specs.declared.fault.BadAck.{BadAck}
-use Rattle.rh_window.specs.declared.range.TheConstants.{GREATEST_WINDOW}
-use Rattle.law_order.proofs.ByNumber.{by_test}
+use Rattle.law_order.proofs.Vocabulary.{◌≡◌, ◌⊎◌, ℕ, ◌+◌, ◌≤◌, ◌<◌, nat_lt, nat_le, Bool, true, false, inl, inr, if◌then◌else◌, Ok, Err, refl, ap, arith, rules, max, is_ok, Result, nat_tests}
+use Rattle.law_moves.proofs.Vocabulary.{Sender, bad_ack, ack_verdict, after_acked, BadAck, GREATEST_WINDOW, by_test}
 
 module _ (w : Sender) (received available : ℕ) where
   pub acked_sent : (after_acked w received available).sent ≡ w.sent

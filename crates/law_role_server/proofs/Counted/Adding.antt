@@ -1,37 +1,14 @@
 -- which packets the steps of a server add to those that wait
-use Rattle.std.proofs.Common.{◌≡◌, ℕ, ◌+◌, ◌==◌, Bool, true, false, not, ◌&&◌, ◌||◌, Some, None, Ok, Err, refl, rules, sym, subst}
-use Rattle.std.specs.Prelude.{if◌then◌else◌, nat_lt}
-use Rattle.std.specs.declared.option.Option.{Option}
-use Rattle.std.specs.declared.result.Result.{Result}
-use Rattle.law_order.proofs.ByNumber.{by_test}
-use Rattle.rh_rts.specs.declared.command.Cookie.{Cookie}
-use Rattle.rh_sig.specs.declared.named.Named.{Named}
+use Rattle.law_order.proofs.Vocabulary.{◌≡◌, ℕ, ◌+◌, ◌==◌, Bool, true, false, not, ◌&&◌, ◌||◌, Some, None, Ok, Err, refl, rules, sym, subst, if◌then◌else◌, nat_lt, Option, Result}
 use Rattle.rh_sig.specs.declared.named.Named.TheVariants as named
-use Rattle.rh_line.specs.declared.which.Which.{Which}
-use Rattle.rh_line.specs.Lines.{after_finish, after_take}
-use Rattle.rh_shell.specs.declared.answers.Count.{Count}
 use Rattle.rh_shell.specs.declared.answers.Refused.TheVariants as refused
-use Rattle.rh_shell.specs.declared.end_role.RecycleRefused.{RecycleRefused}
-use Rattle.rh_shell.specs.declared.end_role.RecycleRefused.TheVariants.{Busy, Last}
-use Rattle.rh_shell.specs.Waiting.{Waiting, takes, forwarded}
-use Rattle.rh_server.specs.declared.state.Stage.{Stage}
 use Rattle.rh_server.specs.declared.state.Stage.TheVariants as stage
-use Rattle.rh_server.specs.declared.state.Edge.TheVariants.{Shut}
-use Rattle.rh_server.specs.declared.state.InStage.{InStage}
 use Rattle.rh_server.specs.declared.state.InStage.TheVariants as in_stage
-use Rattle.rh_server.specs.declared.state.InLeg.{InLeg}
 use Rattle.rh_server.specs.declared.out_line.Kind.TheVariants as kind
-use Rattle.rh_server.specs.declared.state.OutLeg.{OutLeg}
-use Rattle.rh_server.specs.declared.state.Replacement.{Replacement}
-use Rattle.rh_server.specs.declared.state.Replacement.TheVariants.{Steady, Asked, Answered, Confirmed}
-use Rattle.rh_server.specs.OutLines.{has, is_ack, is_kind, waits}
-use Rattle.rh_server.specs.States.{Server, is_open, is_fresh, same_cookie, in_leg, with_in, out_at, out_place, out_cookie}
-use Rattle.rh_server.specs.Opening.{Done, took, refuse, unexpected, is_first, opens, with_first_out, conn_a2_at, on_conn_a2, with_first_in, conn_b2_at, on_conn_b2}
-use Rattle.rh_server.specs.Acknowledging.{channel_at, forward_by, forwards, forwards_writing, forwards_to, channel_leg, is_full, out_server, on_ack_to}
-use Rattle.rh_server.specs.InReplacement.{opens_next, opens_leg, first_waiting, next_opened, becomes_current, moved_if, take, announced, in_r1_a2_by, in_r1_a2_at, on_in_r1_a2, has_fresh_below, leaves, hands_over, on_in_r1_a6, in_r2_a2_on, on_in_r2_a2}
-use Rattle.rh_server.specs.OutReplacement.{asks, recycle, is_under_way, last_number, wishes, wished, answered_by, answered_on, out_r1_a4_by, out_r1_a4_at, may_answer, on_out_r1_a4, confirms, out_r1_a8_at, on_out_r1_a8}
-use Rattle.rh_server.specs.Ending.{completed, settled, without_ack_of, with_ack_dropped}
-use Rattle.law_role_server.specs.Counted.Counting.{is_conn_c1, is_in_r1_a3, is_in_r2_a3}
+use Rattle.law_moves.proofs.Vocabulary.{by_test, Cookie, Named, Which, after_finish, after_take, Count, RecycleRefused, Busy, Last, Waiting, takes, forwarded}
+use Rattle.law_role_server.proofs.Vocabulary.{Stage, Shut, InStage, InLeg, OutLeg, Replacement, Steady, Asked, Answered, Confirmed, has, is_ack, is_kind, waits, Server, is_open, is_fresh, same_cookie, in_leg, with_in, out_at, out_place, out_cookie, Done, took, refuse, unexpected, is_first, opens, with_first_out, conn_a2_at, on_conn_a2, with_first_in, conn_b2_at, on_conn_b2, channel_at, forward_by, forwards, forwards_writing, forwards_to, channel_leg, is_full, out_server}
+use Rattle.law_role_server.proofs.Vocabulary.{on_ack_to, opens_next, opens_leg, first_waiting, next_opened, becomes_current, moved_if, take, announced, in_r1_a2_by, in_r1_a2_at, on_in_r1_a2, has_fresh_below, leaves, hands_over, on_in_r1_a6, in_r2_a2_on, on_in_r2_a2, asks, recycle, is_under_way, last_number, wishes, wished, answered_by, answered_on, out_r1_a4_by, out_r1_a4_at, may_answer, on_out_r1_a4, confirms, out_r1_a8_at, on_out_r1_a8, completed, settled, without_ack_of}
+use Rattle.law_role_server.proofs.Vocabulary.{with_ack_dropped, is_conn_c1, is_in_r1_a3, is_in_r2_a3}
 use Rattle.law_role_server.proofs.Counted.Dues.{Adds, adds_none, adds_own, adds_forwarded, adds_dropped}
 
 module _ (kind : Named → Bool) where
@@ -56,11 +33,11 @@ module _ (kind : Named → Bool) where
 
 -- ---- CONN/C1
 
-first_out_same : (s : Server) (cookie : Cookie) (lifetime window : ℕ)
+pub first_out_same : (s : Server) (cookie : Cookie) (lifetime window : ℕ)
     → (with_first_out s cookie lifetime window).waiting ≡ s.waiting
 first_out_same s cookie lifetime window = search rules
 
-first_in_same : (s : Server) (cookie : Cookie) → (with_first_in s cookie).waiting ≡ s.waiting
+pub first_in_same : (s : Server) (cookie : Cookie) → (with_first_in s cookie).waiting ≡ s.waiting
 first_in_same s cookie = search rules
 
 opens_adds : (s t : Server) (connection : Cookie) (window timeout : ℕ) → t.waiting ≡ s.waiting
@@ -290,7 +267,7 @@ wished_adds s =
     either_state of_out s (wishes s) (asks s) s
     (adds_own of_out (named.OutR1A1 0) refl s.waiting.due) (nothing of_out s)
 
-completed_same : (s : Server) → (completed s).waiting ≡ s.waiting
+pub completed_same : (s : Server) → (completed s).waiting ≡ s.waiting
 completed_same s = search rules
 
 pub settled_adds : (s : Server) → MayAdd of_out s (settled s)

@@ -1,24 +1,9 @@
 -- what keeps the answers to announcements right: packets that come and go
-use Rattle.std.proofs.Common.{◌≡◌, ℕ, ◌+◌, ◌≤◌, ◌<◌, ◌==◌, Bool, true, false, true≢false, if◌then◌else◌, List, [], ◌∷◌, ◌++◌, arith, refl, sym, ap, ◌∙◌, subst}
-use Rattle.std.proofs.lemmas.Bool.{false≢true}
-use Rattle.std.specs.List.{AllByRecursion}
-use Rattle.law_order.proofs.ByNumber.{same_number, other_number}
-use Rattle.rh_rts.specs.declared.command.Cookie.{Cookie}
+use Rattle.law_order.proofs.Vocabulary.{◌≡◌, ℕ, ◌+◌, ◌≤◌, ◌<◌, ◌==◌, Bool, true, false, true≢false, if◌then◌else◌, List, [], ◌∷◌, ◌++◌, arith, refl, sym, ap, ◌∙◌, subst, false≢true, AllByRecursion}
 use Rattle.rh_sig.specs.declared.named.Named.TheVariants as named
-use Rattle.rh_line.proofs.Queues.{each_push}
-use Rattle.rh_line.specs.declared.leg.LegKind.TheVariants.{OutServer, InServer}
-use Rattle.rh_shell.specs.declared.due.Due.{Due}
-use Rattle.rh_shell.specs.Rules.{Message, Packet}
-use Rattle.rh_shell.specs.Waiting.{own}
-use Rattle.rh_server.specs.declared.state.InStage.{InStage}
 use Rattle.rh_server.specs.declared.state.InStage.TheVariants as in_stage
-use Rattle.rh_server.specs.declared.state.InLeg.{InLeg}
-use Rattle.rh_server.specs.States.{is_fresh, is_waiting, stays}
-use Rattle.rh_server.specs.InReplacement.{has_fresh_below}
-use Rattle.law_moves.specs.Moves.{OnLeg}
-use Rattle.law_moves.specs.Passages.Passing.{count_of}
-use Rattle.law_role_server.specs.Counted.Counting.{is_in_r1_a2, is_in_r1_a3, is_in_r2_a2, is_in_r2_a3, often, often_at, leg_at, waiting_of}
-use Rattle.law_role_server.specs.Counted.Answering.{how_many, waits_on}
+use Rattle.law_moves.proofs.Vocabulary.{same_number, other_number, Cookie, each_push, OutServer, InServer, Due, Message, Packet, own, OnLeg, count_of}
+use Rattle.law_role_server.proofs.Vocabulary.{InStage, InLeg, is_fresh, is_waiting, stays, has_fresh_below, is_in_r1_a2, is_in_r1_a3, is_in_r2_a2, is_in_r2_a3, often, often_at, leg_at, waiting_of, how_many, waits_on}
 use Rattle.law_role_server.proofs.Counted.Logs.{often_more, often_at_more, at_most_often, at_here, at_other}
 use Rattle.law_role_server.proofs.Counted.Dues.{HaveOrigins, HasOrigin, push_waits}
 use Rattle.law_role_server.proofs.Counted.InLegs.{Ascends, ascends_higher, ascends_set, ascends_within, below_it, above_it, all_of, all_joined, each_of, both_so, one_leg, many_joined, AreOrdered, ordered_waits, none_fresh_below}

@@ -1,29 +1,12 @@
 -- how IN channels are announced and answered, by what came, what was put, and what waits
-use Rattle.std.proofs.Common.{◌≡◌, ◌⊎◌, inl, inr, ℕ, suc, ◌+◌, ◌≤◌, ◌<◌, ◌&&◌, ◌||◌, not, Bool, true, false, true≢false, if◌then◌else◌, List, [], ◌∷◌, ◌++◌, Some, None, arith, refl, sym, ap, ◌∙◌, subst}
-use Rattle.std.proofs.lemmas.Bool.{false≢true, and_parts}
-use Rattle.std.specs.List.{AllByRecursion}
-use Rattle.std.specs.declared.option.Option.{Option}
-use Rattle.law_order.proofs.ByNumber.{by_test}
-use Rattle.rh_sig.specs.declared.named.Named.{Named}
+use Rattle.law_order.proofs.Vocabulary.{◌≡◌, ◌⊎◌, inl, inr, ℕ, suc, ◌+◌, ◌≤◌, ◌<◌, ◌&&◌, ◌||◌, not, Bool, true, false, true≢false, if◌then◌else◌, List, [], ◌∷◌, ◌++◌, Some, None, arith, refl, sym, ap, ◌∙◌, subst, false≢true, and_parts, AllByRecursion, Option}
 use Rattle.rh_sig.specs.declared.named.Named.TheVariants as named
-use Rattle.rh_line.proofs.Queues.{each_push}
-use Rattle.rh_line.specs.Lines.{Line, after_take, after_finish, is_empty, released, moved_on}
-use Rattle.rh_line.specs.Lines.{settled as line_settled, taken as line_taken}
-use Rattle.rh_line.specs.declared.leg.LegKind.TheVariants.{OutServer, InServer}
-use Rattle.rh_shell.specs.declared.due.Due.{Due}
-use Rattle.rh_shell.specs.Waiting.{own}
-use Rattle.rh_server.specs.declared.state.Edge.TheVariants.{Shut}
-use Rattle.rh_server.specs.declared.state.InStage.{InStage}
+use Rattle.rh_line.specs.Lines.{taken as line_taken}
 use Rattle.rh_server.specs.declared.state.InStage.TheVariants as in_stage
 use Rattle.rh_server.specs.declared.state.Tells.TheVariants as tells
-use Rattle.rh_server.specs.declared.state.InLeg.{InLeg}
 use Rattle.rh_server.specs.declared.out_line.Kind.TheVariants as kind
-use Rattle.rh_server.specs.OutLines.{is_ack, is_kind, waits}
-use Rattle.rh_server.specs.States.{Server, is_fresh, is_waiting, stays, in_place, set_at}
-use Rattle.rh_server.specs.InReplacement.{opens_next, opens_leg, first_waiting, next_opened, becomes_current, moved_if}
-use Rattle.law_moves.specs.Moves.{OnLeg}
-use Rattle.law_role_server.specs.Counted.Counting.{is_in_r1_a2, is_in_r1_a3, is_in_r2_a2, is_in_r2_a3, often, often_at, waiting_of}
-use Rattle.law_role_server.specs.Counted.Answering.{how_many, waits_on}
+use Rattle.law_moves.proofs.Vocabulary.{by_test, Named, each_push, Line, after_take, after_finish, is_empty, released, moved_on, settled as line_settled, OutServer, InServer, Due, own, OnLeg}
+use Rattle.law_role_server.proofs.Vocabulary.{Shut, InStage, InLeg, is_ack, is_kind, waits, Server, is_fresh, is_waiting, stays, in_place, set_at, opens_next, opens_leg, first_waiting, next_opened, becomes_current, moved_if, is_in_r1_a2, is_in_r1_a3, is_in_r2_a2, is_in_r2_a3, often, often_at, waiting_of, how_many, waits_on}
 use Rattle.law_role_server.proofs.Counted.Dues.{Apart, IsOfKind, HaveOrigins, HasOrigin, push_waits, none_found}
 use Rattle.law_role_server.proofs.Counted.InLegs.{IsFound, IsFoundAs, found, Ascends, ascends_set, ascends_within, above_it, set_by_number, all_of, all_joined, each_of, both_so, one_leg, many_joined, IsNoWaiting, IsNoFresh, AreOrdered, none_before, ordered_set}
 

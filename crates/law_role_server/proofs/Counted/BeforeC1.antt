@@ -1,33 +1,11 @@
 -- before CONN/C1 is put, nothing goes on the OUT channel but acknowledgements to out proxies
-use Rattle.std.proofs.Common.{◌≡◌, ◌⊎◌, inl, inr, ℕ, zero, suc, ◌==◌, ◌&&◌, Bool, true, false, true≢false, if◌then◌else◌, nat_lt, List, [], ◌∷◌, ◌++◌, arith, refl, sym, ap, ◌∙◌, subst}
-use Rattle.std.proofs.lemmas.Bool.{false≢true, and_parts, and_from}
-use Rattle.std.proofs.lemmas.Bool.Decides.{nat_tests}
-use Rattle.std.specs.Prelude.{IfSome, slice_get, slice_set, remove}
-use Rattle.std.specs.List.{AllByRecursion, list_any}
-use Rattle.rh_window.specs.Sending.{may_send}
-use Rattle.rh_keep.specs.Meters.{Meter, started, may_put, fits}
-use Rattle.law_order.proofs.ByNumber.{by_test, same_number}
-use Rattle.rh_sig.specs.declared.named.Named.{Named}
+use Rattle.rh_keep.specs.Meters.{started}
+use Rattle.law_order.proofs.Vocabulary.{◌≡◌, ◌⊎◌, inl, inr, ℕ, zero, suc, ◌==◌, ◌&&◌, Bool, true, false, true≢false, if◌then◌else◌, nat_lt, List, [], ◌∷◌, ◌++◌, arith, refl, sym, ap, ◌∙◌, subst, false≢true, and_parts, and_from, nat_tests, IfSome, slice_get, slice_set, remove, AllByRecursion, list_any}
 use Rattle.rh_sig.specs.declared.named.Named.TheVariants as named
-use Rattle.rh_line.proofs.Queues.{each_push}
-use Rattle.rh_line.specs.declared.leg.LegKind.TheVariants.{OutServer}
-use Rattle.rh_shell.specs.declared.due.Due.{Due}
-use Rattle.rh_shell.specs.declared.due.Origin.TheVariants.{Forwarded}
-use Rattle.rh_shell.specs.Waiting.{Waiting, own, to_forward, takes, edge_of, better, merged, with_due, pushed, count, forwarded, without_first}
-use Rattle.rh_server.specs.declared.state.Stage.{Stage}
 use Rattle.rh_server.specs.declared.state.Stage.TheVariants as stage
-use Rattle.rh_server.specs.declared.state.OutLeg.{OutLeg}
-use Rattle.rh_server.specs.declared.state.Replacement.{Replacement}
-use Rattle.rh_server.specs.OutLines.{Gate, lets, lets_packet}
-use Rattle.rh_server.specs.OutLegs.{may_go, may_end}
-use Rattle.rh_server.specs.States.{Server, is_steady, same_cookie}
-use Rattle.rh_server.specs.Putting.{gate, counts, was_put}
-use Rattle.law_moves.specs.Moves.{OnLeg}
-use Rattle.law_moves.specs.Passages.Passing.{of_kind}
-use Rattle.law_moves.proofs.Passages.Messages.{all_append, kind_more}
-use Rattle.law_role_server.specs.Counted.Counting.{is_ack_to, is_conn_c1}
-use Rattle.law_role_server.specs.Counted.Opening.{since_open}
-use Rattle.law_role_server.specs.Counted.BeforeC1.{MayGoBefore}
+use Rattle.law_moves.proofs.Vocabulary.{may_send, Meter, may_put, fits, by_test, same_number, Named, each_push, OutServer, Due, Forwarded, Waiting, own, to_forward, takes, edge_of, better, merged, with_due, pushed, count, forwarded, without_first, OnLeg, of_kind}
+use Rattle.law_moves.proofs.Lemmas.{all_append, kind_more}
+use Rattle.law_role_server.proofs.Vocabulary.{Stage, OutLeg, Replacement, Gate, lets, lets_packet, may_go, may_end, Server, is_steady, same_cookie, gate, counts, was_put, is_ack_to, is_conn_c1, since_open, MayGoBefore}
 use Rattle.law_role_server.proofs.Counted.Dues.{FirstIsC1}
 
 -- ---- acknowledgements to out proxies alone
@@ -199,7 +177,7 @@ pub record LetsAcks (s : Server) (leg : OutLeg) : Type 0 where
 abbrev pub LetsC1Go : Server → OutLeg → Type 0
 LetsC1Go s leg = (due : Due) → is_conn_c1 due.packet ≡ true → lets (gate s leg) due ≡ true
 
-no_false : (b : Bool) → b && false ≡ true → ⊥
+pub no_false : (b : Bool) → b && false ≡ true → ⊥
 no_false true e = false≢true e
 no_false false e = false≢true e
 

@@ -1,31 +1,12 @@
 -- the rows of an open server before CONN/C1 is put
-use Rattle.std.proofs.Common.{◌≡◌, ◌⊎◌, inl, inr, ℕ, ◌+◌, ◌==◌, ◌&&◌, not, Bool, true, false, true≢false, nat_lt, List, [], ◌∷◌, ◌++◌, Some, None, Ok, Err, arith, refl, rules, sym, ap, ◌∙◌, subst}
-use Rattle.std.proofs.lemmas.Bool.{false≢true, and_parts}
-use Rattle.std.specs.List.{AllByRecursion}
-use Rattle.std.specs.declared.option.Option.{Option}
-use Rattle.law_order.proofs.ByNumber.{by_test, same_number}
-use Rattle.rh_rts.specs.declared.command.Cookie.{Cookie}
-use Rattle.rh_sig.specs.declared.named.Named.{Named}
-use Rattle.rh_line.specs.Lines.{after_take}
-use Rattle.rh_line.specs.declared.leg.LegKind.TheVariants.{OutServer, InServer}
-use Rattle.rh_shell.specs.declared.answers.Count.{Count}
+use Rattle.law_order.proofs.Vocabulary.{◌≡◌, ◌⊎◌, inl, inr, ℕ, ◌+◌, ◌==◌, ◌&&◌, not, Bool, true, false, true≢false, nat_lt, List, [], ◌∷◌, ◌++◌, Some, None, Ok, Err, arith, refl, rules, sym, ap, ◌∙◌, subst, false≢true, and_parts, AllByRecursion, Option}
 use Rattle.rh_shell.specs.declared.answers.Refused.TheVariants as refused
-use Rattle.rh_server.specs.declared.state.Stage.{Stage}
 use Rattle.rh_server.specs.declared.state.Stage.TheVariants as stage
-use Rattle.rh_server.specs.declared.state.OutLeg.{OutLeg}
-use Rattle.rh_server.specs.declared.state.Replacement.{Replacement}
-use Rattle.rh_server.specs.declared.state.Replacement.TheVariants.{Steady, Asked, Answered, Confirmed}
 use Rattle.rh_server.specs.declared.out_line.Kind.TheVariants as kind
-use Rattle.rh_server.specs.OutLines.{waits}
-use Rattle.rh_server.specs.States.{Server, is_open, is_steady, same_cookie, out_place, out_at, out_cookie}
-use Rattle.rh_server.specs.Opening.{Done, refuse, unexpected, is_first}
-use Rattle.rh_server.specs.InReplacement.{moved_if, take, in_r1_a2_at, on_in_r1_a2, has_fresh_below, on_in_r1_a6, on_in_r2_a2}
-use Rattle.rh_server.specs.OutReplacement.{answered_by, answered_on, out_r1_a4_by, out_r1_a4_at, may_answer, on_out_r1_a4, out_r1_a8_at, on_out_r1_a8}
-use Rattle.law_moves.specs.Moves.{OnLeg}
-use Rattle.law_moves.proofs.Passages.Logs.{RowKeeps}
-use Rattle.law_role_server.specs.Counted.Counting.{is_ack_to, is_conn_c1, is_in_r1_a3, often}
-use Rattle.law_role_server.specs.Counted.Opening.{since_open}
-use Rattle.law_role_server.specs.Counted.BeforeC1.{HasRoomIn, HaveRoom}
+use Rattle.law_moves.proofs.Vocabulary.{by_test, same_number, Cookie, Named, after_take, OutServer, InServer, Count, OnLeg}
+use Rattle.law_moves.proofs.Lemmas.{RowKeeps}
+use Rattle.law_role_server.proofs.Vocabulary.{Stage, OutLeg, Replacement, Steady, Asked, Answered, Confirmed, waits, Server, is_open, is_steady, same_cookie, out_place, out_at, out_cookie, Done, refuse, unexpected, is_first, moved_if, take, in_r1_a2_at, on_in_r1_a2, has_fresh_below, on_in_r1_a6, on_in_r2_a2, answered_by, answered_on, out_r1_a4_by, out_r1_a4_at, may_answer, on_out_r1_a4, out_r1_a8_at, on_out_r1_a8, is_ack_to, is_conn_c1, is_in_r1_a3, often, since_open}
+use Rattle.law_role_server.proofs.Vocabulary.{HasRoomIn, HaveRoom}
 use Rattle.law_role_server.proofs.Counted.Logs.{often_more}
 use Rattle.law_role_server.proofs.Counted.Replacing.{found_number}
 use Rattle.law_role_server.proofs.Counted.Adding.{MayAdd, of_out, take_adds, in_r1_a6_adds, out_r1_a4_adds, out_r1_a8_adds}
@@ -157,7 +138,7 @@ in_r1_a6_keeps s n a put h =
         (and_parts (not s.line.finished) _ (and_parts (n == s.current.leg) _ e).1).1).0 ∙ none)))
         (λ e. refl)
 
-take_stage : (s : Server) → (take s).stage ≡ s.stage
+pub take_stage : (s : Server) → (take s).stage ≡ s.stage
 take_stage s = search rules
 
 take_parts : (s : Server) → parts (take s) ≡ parts s

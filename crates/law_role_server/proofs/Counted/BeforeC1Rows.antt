@@ -1,35 +1,14 @@
 -- all rows of a server before CONN/C1 is put
-use Rattle.std.proofs.Common.{◌≡◌, inl, ℕ, ◌==◌, ◌&&◌, not, Bool, true, false, if◌then◌else◌, List, [], ◌∷◌, ◌++◌, Some, None, Ok, Err, arith, refl, rules, sym, ap, ◌∙◌, subst}
-use Rattle.std.specs.Prelude.{IfSome, slice_get, slice_set}
-use Rattle.std.specs.declared.option.Option.{Option}
-use Rattle.rh_window.specs.Sending.{after_acked}
-use Rattle.rh_keep.specs.Meters.{started, may_put}
-use Rattle.law_order.proofs.ByNumber.{by_test}
-use Rattle.rh_rts.specs.declared.command.Cookie.{Cookie}
-use Rattle.rh_sig.specs.declared.named.Named.{Named}
+use Rattle.rh_keep.specs.Meters.{started}
+use Rattle.law_order.proofs.Vocabulary.{◌≡◌, inl, ℕ, ◌==◌, ◌&&◌, not, Bool, true, false, if◌then◌else◌, List, [], ◌∷◌, ◌++◌, Some, None, Ok, Err, arith, refl, rules, sym, ap, ◌∙◌, subst, IfSome, slice_get, slice_set, Option}
 use Rattle.rh_sig.specs.declared.named.Named.TheVariants as named
-use Rattle.rh_line.specs.declared.leg.LegKind.{LegKind}
-use Rattle.rh_line.specs.declared.leg.LegKind.TheVariants.{ClientOut, OutServer, ClientIn, InServer}
-use Rattle.rh_shell.specs.declared.answers.Count.{Count}
 use Rattle.rh_shell.specs.declared.answers.Refused.TheVariants as refused
-use Rattle.rh_shell.specs.Rules.{Packet}
-use Rattle.rh_shell.specs.Waiting.{Waiting, takes, forwarded}
-use Rattle.rh_server.specs.declared.state.Stage.{Stage}
 use Rattle.rh_server.specs.declared.state.Stage.TheVariants as stage
-use Rattle.rh_server.specs.declared.state.OutLeg.{OutLeg}
 use Rattle.rh_server.specs.declared.out_line.Kind.TheVariants as kind
-use Rattle.rh_server.specs.OutLines.{has, is_ack, waits}
-use Rattle.rh_server.specs.Servers.{packet_by, on_is, on_os}
-use Rattle.rh_server.specs.States.{Server, same_cookie, out_place, out_at, out_cookie}
-use Rattle.rh_server.specs.Opening.{Done, took, refuse, unexpected, is_first, opens, first_out_at, with_first_out, conn_a2_at, on_conn_a2, with_first_in, conn_b2_at, on_conn_b2}
-use Rattle.rh_server.specs.Acknowledging.{forward_by, forwards, forwards_writing, forwards_to, channel_leg, is_full, out_server, on_ack_to, acked_at, acked_in, acked_cookie, on_ack, on_ping_traffic}
-use Rattle.rh_server.specs.InReplacement.{on_in_r1_a2, on_in_r1_a6, on_in_r2_a2}
-use Rattle.rh_server.specs.OutReplacement.{on_out_r1_a4, on_out_r1_a8}
-use Rattle.rh_server.specs.Ending.{on_end_a2}
-use Rattle.law_moves.specs.Moves.{OnLeg}
-use Rattle.law_moves.proofs.Passages.Logs.{RowKeeps}
-use Rattle.law_role_server.specs.Counted.Counting.{is_ack_to, is_in_r1_a3, is_in_r2_a3, often, leg_at}
-use Rattle.law_role_server.specs.Counted.Opening.{since_open}
+use Rattle.law_moves.proofs.Vocabulary.{after_acked, may_put, by_test, Cookie, Named, LegKind, ClientOut, OutServer, ClientIn, InServer, Count, Packet, Waiting, takes, forwarded, OnLeg}
+use Rattle.law_moves.proofs.Lemmas.{RowKeeps}
+use Rattle.law_role_server.proofs.Vocabulary.{Stage, OutLeg, has, is_ack, waits, packet_by, on_is, on_os, Server, same_cookie, out_place, out_at, out_cookie, Done, took, refuse, unexpected, is_first, opens, first_out_at, with_first_out, conn_a2_at, on_conn_a2, with_first_in, conn_b2_at, on_conn_b2, forward_by, forwards, forwards_writing, forwards_to, channel_leg, is_full, out_server, on_ack_to, acked_at, acked_in, acked_cookie, on_ack, on_ping_traffic, on_in_r1_a2}
+use Rattle.law_role_server.proofs.Vocabulary.{on_in_r1_a6, on_in_r2_a2, on_out_r1_a4, on_out_r1_a8, on_end_a2, is_ack_to, is_in_r1_a3, is_in_r2_a3, often, leg_at, since_open}
 use Rattle.law_role_server.proofs.Counted.Logs.{often_more}
 use Rattle.law_role_server.proofs.Counted.Dues.{FirstIsC1, adds_forwarded}
 use Rattle.law_role_server.proofs.Counted.Adding.{in_r1_a2_adds, in_r2_a2_adds}

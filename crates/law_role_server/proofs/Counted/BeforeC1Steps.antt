@@ -1,49 +1,13 @@
 -- what a server puts before CONN/C1, and its other steps
-use Rattle.std.proofs.Common.{◌≡◌, ◌⊎◌, inl, inr, ℕ, ◌&&◌, Bool, true, false, if◌then◌else◌, List, [], ◌∷◌, ◌++◌, Some, None, Ok, Err, arith, refl, rules, sym, ap, ◌∙◌, subst}
-use Rattle.std.proofs.lemmas.Bool.{false≢true, and_parts}
-use Rattle.std.specs.Prelude.{IfSome, slice_get, slice_set, find}
-use Rattle.std.specs.List.{AllByRecursion}
-use Rattle.std.specs.declared.option.Option.{Option}
-use Rattle.std.specs.declared.result.Result.{Result}
-use Rattle.rh_window.specs.declared.recv_window.Ack.{Ack}
-use Rattle.law_order.proofs.ByNumber.{by_test}
-use Rattle.rh_rts.specs.declared.command.Cookie.{Cookie}
-use Rattle.rh_sig.specs.declared.named.Named.{Named}
+use Rattle.law_order.proofs.Vocabulary.{◌≡◌, ◌⊎◌, inl, inr, ℕ, ◌&&◌, Bool, true, false, if◌then◌else◌, List, [], ◌∷◌, ◌++◌, Some, None, Ok, Err, arith, refl, rules, sym, ap, ◌∙◌, subst, false≢true, and_parts, IfSome, slice_get, slice_set, find, AllByRecursion, Option, Result}
 use Rattle.rh_sig.specs.declared.named.Named.TheVariants as named
-use Rattle.rh_line.proofs.Queues.{each_push}
-use Rattle.rh_line.specs.Queue.{front_length}
-use Rattle.rh_line.specs.declared.leg.Leg.{Leg}
-use Rattle.rh_line.specs.declared.leg.LegKind.{LegKind}
-use Rattle.rh_line.specs.declared.leg.LegKind.TheVariants.{ClientOut, OutServer, ClientIn, InServer}
-use Rattle.rh_shell.specs.declared.answers.Count.{Count}
 use Rattle.rh_shell.specs.declared.answers.Phase.TheVariants as phase
-use Rattle.rh_shell.specs.declared.due.Due.{Due}
-use Rattle.rh_shell.specs.declared.end_role.GiveRefused.{GiveRefused}
-use Rattle.rh_shell.specs.Rules.{Message, Text, Pdu, Packet}
-use Rattle.rh_shell.specs.Hearing.{greeting as greeting_text}
-use Rattle.rh_shell.specs.Waiting.{Waiting, taken}
-use Rattle.rh_server.specs.declared.state.Stage.{Stage}
 use Rattle.rh_server.specs.declared.state.Stage.TheVariants as stage
 use Rattle.rh_server.specs.declared.state.Greeting.TheVariants as greetings
-use Rattle.rh_server.specs.declared.state.Tells.{Tells}
-use Rattle.rh_server.specs.declared.state.Leaving.{Leaving}
-use Rattle.rh_server.specs.declared.state.InLeg.{InLeg}
-use Rattle.rh_server.specs.declared.state.OutLeg.{OutLeg}
-use Rattle.rh_server.specs.OutLines.{lets, is_ack_of}
-use Rattle.rh_server.specs.States.{Server, phase_of, is_open, is_due, in_leg, out_place, out_cookie, removed_at, without_in, without_out}
-use Rattle.rh_server.specs.Opening.{may_up_by, out_leg_up, up, up_by}
-use Rattle.rh_server.specs.InReplacement.{take}
-use Rattle.rh_server.specs.OutReplacement.{asks, recycle, wishes}
-use Rattle.rh_server.specs.Ending.{give, is_complete, completed, settled, drawn_by, in_is_drawn, mark_by, lost_in, without_ack_of, with_ack_dropped}
-use Rattle.rh_server.specs.Putting.{Pick, or_else, put_in_greeting, put_tells_by, put_tells, put_b1_by, put_b1, put_ack_by, put_ack, ack_due, put_in_by, out_greeting_at, put_out_greeting, was_put, waiting_by, waiting_at, put_waiting, gate, gate_at, may_go_at, may_end_at, is_end_due, pdu_by, put_pdu, put_end, put_pdu_or_end, next_out, settled_pick, put_open, put_out_at, put_by}
-use Rattle.rh_server.specs.Servers.{acts, first, pdu}
-use Rattle.rh_server.specs.Servers.{rules as server_rules}
-use Rattle.law_moves.specs.Moves.{OnLeg, EndMove, Moves, Gives, Takes, Closes, Recycles, EndPassage, AreAllowedAtEnd, MayEndMove, end_started, end_moved, all_end_moved, end_now_at, given_by, with_first}
-use Rattle.law_moves.specs.Passages.Passing.{of_kind}
-use Rattle.law_moves.proofs.Passages.Logs.{PutKeeps, StepsKeep, moves_keep}
-use Rattle.law_role_server.specs.Counted.Counting.{is_ack_to, is_conn_c1, in_came, out_put, often, leg_at}
-use Rattle.law_role_server.specs.Counted.Opening.{since_open}
-use Rattle.law_role_server.specs.Counted.BeforeC1.{HaveRoom, MayGoBefore}
+use Rattle.law_moves.proofs.Vocabulary.{Ack, by_test, Cookie, Named, each_push, front_length, Leg, LegKind, ClientOut, OutServer, ClientIn, InServer, Count, Due, GiveRefused, Message, Text, Pdu, Packet, greeting as greeting_text, Waiting, taken, OnLeg, EndMove, Moves, Gives, Takes, Closes, Recycles, EndPassage, AreAllowedAtEnd, MayEndMove, end_started, end_moved, all_end_moved, end_now_at, given_by, with_first, of_kind}
+use Rattle.law_moves.proofs.Lemmas.{PutKeeps, StepsKeep, moves_keep}
+use Rattle.law_role_server.proofs.Vocabulary.{Stage, Tells, Leaving, InLeg, OutLeg, lets, is_ack_of, Server, phase_of, is_open, is_due, in_leg, out_place, out_cookie, removed_at, without_in, without_out, may_up_by, out_leg_up, up, up_by, take, asks, recycle, wishes, give, is_complete, completed, settled, drawn_by, in_is_drawn, mark_by, lost_in, without_ack_of, with_ack_dropped, Pick, or_else, put_in_greeting, put_tells_by, put_tells, put_b1_by, put_b1, put_ack_by, put_ack}
+use Rattle.law_role_server.proofs.Vocabulary.{ack_due, put_in_by, out_greeting_at, put_out_greeting, was_put, waiting_by, waiting_at, put_waiting, gate, gate_at, may_go_at, may_end_at, is_end_due, pdu_by, put_pdu, put_end, put_pdu_or_end, next_out, settled_pick, put_open, put_out_at, put_by, acts, first, pdu, rules as server_rules, is_ack_to, is_conn_c1, in_came, out_put, often, leg_at, since_open, HaveRoom, MayGoBefore}
 use Rattle.law_role_server.proofs.Counted.Dues.{FirstIsC1, C1Goes, first_goes_c1, first_left, found_may}
 use Rattle.law_role_server.proofs.Counted.Adding.{of_out, settled_adds, recycle_adds, dropped_adds}
 use Rattle.law_role_server.proofs.Counted.Connecting.{settled_opens}
@@ -340,7 +304,7 @@ pdu_same s leg count bytes = search rules
 give_same : (s : Server) (bytes : List ℕ) → view (give s bytes).0 ≡ view s
 give_same s bytes = search rules
 
-recycle_stage : (s : Server) → (recycle s).0.stage ≡ s.stage
+pub recycle_stage : (s : Server) → (recycle s).0.stage ≡ s.stage
 recycle_stage s = search rules
 
 recycle_parts : (s : Server) → parts (recycle s).0 ≡ parts s

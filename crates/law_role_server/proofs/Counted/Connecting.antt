@@ -1,33 +1,13 @@
 -- the state of a server, how far it is with its opening, and with its IN channels
-use Rattle.std.proofs.Common.{◌≡◌, ℕ, suc, ◌+◌, ◌≤◌, ◌<◌, ◌==◌, ◌&&◌, ◌||◌, not, Bool, true, false, if◌then◌else◌, List, [], ◌∷◌, ◌++◌, zero, Some, None, Ok, Err, arith, refl, rules, sym, ap, ◌∙◌, subst}
-use Rattle.std.proofs.lemmas.Bool.{false≢true, and_parts}
-use Rattle.std.specs.Prelude.{slice_set, IfSome}
-use Rattle.std.specs.List.{AllByRecursion}
-use Rattle.std.specs.declared.option.Option.{Option}
-use Rattle.law_order.proofs.ByNumber.{by_test, same_number}
-use Rattle.rh_sig.specs.declared.named.Named.{Named}
+use Rattle.law_order.proofs.Vocabulary.{◌≡◌, ℕ, suc, ◌+◌, ◌≤◌, ◌<◌, ◌==◌, ◌&&◌, ◌||◌, not, Bool, true, false, if◌then◌else◌, List, [], ◌∷◌, ◌++◌, zero, Some, None, Ok, Err, arith, refl, rules, sym, ap, ◌∙◌, subst, false≢true, and_parts, slice_set, IfSome, AllByRecursion, Option}
 use Rattle.rh_sig.specs.declared.named.Named.TheVariants as named
-use Rattle.rh_line.specs.Lines.{after_take}
-use Rattle.rh_line.specs.declared.leg.LegKind.TheVariants.{OutServer, InServer}
-use Rattle.rh_server.specs.declared.state.Stage.{Stage}
 use Rattle.rh_server.specs.declared.state.Stage.TheVariants as stage
-use Rattle.rh_server.specs.declared.state.Edge.TheVariants.{Shut}
-use Rattle.rh_server.specs.declared.state.InStage.{InStage}
 use Rattle.rh_server.specs.declared.state.InStage.TheVariants as in_stage
 use Rattle.rh_server.specs.declared.state.Tells.TheVariants as tells
-use Rattle.rh_server.specs.declared.state.InLeg.{InLeg}
 use Rattle.rh_server.specs.declared.out_line.Kind.TheVariants as kind
-use Rattle.rh_server.specs.OutLines.{is_ack, waits}
-use Rattle.rh_server.specs.States.{Server, is_open, is_fresh, is_waiting, stays, in_place, set_at, with_in, without_in}
-use Rattle.rh_server.specs.Opening.{Done}
-use Rattle.rh_server.specs.InReplacement.{opens_next, opens_leg, first_waiting, next_opened, becomes_current, moved_if, take}
-use Rattle.rh_server.specs.Ending.{is_complete, completed, settled}
-use Rattle.law_moves.specs.Moves.{OnLeg}
-use Rattle.law_moves.specs.Passages.Passing.{of_kind}
-use Rattle.law_moves.proofs.Passages.Logs.{RowKeeps}
-use Rattle.law_role_server.specs.Counted.Counting.{is_conn_a2, is_conn_b2, is_conn_b3, is_conn_c1, is_in_r1_a2, is_in_r1_a3, is_in_r2_a2, is_in_r2_a3, often}
-use Rattle.law_role_server.specs.Counted.Answering.{how_many}
-use Rattle.law_role_server.specs.Counted.Opening.{since_conn_a2, since_conn_b2, since_open, IsText}
+use Rattle.law_moves.proofs.Vocabulary.{by_test, same_number, Named, after_take, OutServer, InServer, OnLeg, of_kind}
+use Rattle.law_moves.proofs.Lemmas.{RowKeeps}
+use Rattle.law_role_server.proofs.Vocabulary.{Stage, Shut, InStage, InLeg, is_ack, waits, Server, is_open, is_fresh, is_waiting, stays, in_place, set_at, with_in, without_in, Done, opens_next, opens_leg, first_waiting, next_opened, becomes_current, moved_if, take, is_complete, completed, settled, is_conn_a2, is_conn_b2, is_conn_b3, is_conn_c1, is_in_r1_a2, is_in_r1_a3, is_in_r2_a2, is_in_r2_a3, often, how_many, since_conn_a2, since_conn_b2, since_open, IsText}
 use Rattle.law_role_server.proofs.Counted.Dues.{Apart}
 use Rattle.law_role_server.proofs.Counted.InLegs.{IsFound, IsFoundAs, all_of, one_leg, many_step, many_joined}
 use Rattle.law_role_server.proofs.Counted.Openings.{owes_b3, Opening, opening_stays, opening_came, opening_put}
@@ -35,6 +15,7 @@ use Rattle.law_role_server.proofs.Counted.Announcing.{Look, look, heard, Placed,
 use Rattle.law_role_server.proofs.Counted.Announced.{came_other, put_keeps, dues_keep}
 use Rattle.law_role_server.proofs.Counted.LegsKept.{leg_set, leg_gone}
 use Rattle.law_role_server.proofs.Counted.Adding.{MayAdd, of_out, settled_adds, take_adds}
+use Rattle.law_role_server.proofs.Counted.BeforeC1Open.{take_stage}
 
 -- ---- what the facts are about
 
@@ -407,9 +388,6 @@ opening_opens s t came put at adds owes h =
       conn_b3 = owes;
     })
     h
-
-take_stage : (s : Server) → (take s).stage ≡ s.stage
-take_stage s = search rules
 
 pub take_keeps : (s : Server) → Keeps s (take s)
 take_keeps s came put h = record {

@@ -1,21 +1,9 @@
 -- the packets that wait, and how many of a kind they are
-use Rattle.std.proofs.Common.{◌≡◌, ◌⊎◌, inl, inr, subst, ◌==◌, ℕ, suc, ◌+◌, ◌||◌, ◌&&◌, Bool, true, false, true≢false, nat_lt, if◌then◌else◌, List, [], ◌∷◌, ◌++◌, Some, None, arith, refl, sym, ap, ◌∙◌}
-use Rattle.std.proofs.lemmas.Bool.{false≢true, and_parts}
-use Rattle.std.specs.Prelude.{IfSome, find}
-use Rattle.std.specs.List.{AllByRecursion, list_any}
-use Rattle.std.specs.declared.option.Option.{Option}
-use Rattle.law_order.proofs.ByNumber.{by_test, same_number}
-use Rattle.rh_rts.specs.declared.command.Cookie.{Cookie}
-use Rattle.rh_sig.specs.declared.named.Named.{Named}
+use Rattle.law_order.proofs.Vocabulary.{◌≡◌, ◌⊎◌, inl, inr, subst, ◌==◌, ℕ, suc, ◌+◌, ◌||◌, ◌&&◌, Bool, true, false, true≢false, nat_lt, if◌then◌else◌, List, [], ◌∷◌, ◌++◌, Some, None, arith, refl, sym, ap, ◌∙◌, false≢true, and_parts, IfSome, find, AllByRecursion, list_any, Option}
 use Rattle.rh_sig.specs.declared.named.Named.TheVariants as named
-use Rattle.rh_line.proofs.Queues.{each_push}
-use Rattle.rh_shell.specs.declared.due.Due.{Due}
-use Rattle.rh_shell.specs.declared.due.Origin.TheVariants.{Own, Forwarded}
-use Rattle.rh_shell.specs.Waiting.{Waiting, key_of, are_one, is_of, own, to_forward, takes, edge_of, better, merged, with_due, pushed, count, forwarded, without_first, taken}
-use Rattle.rh_server.specs.declared.out_line.Kind.{Kind}
-use Rattle.rh_server.specs.OutLines.{is_ack, is_ack_of, is_kind, is_own, has}
-use Rattle.rh_server.specs.States.{is_some}
-use Rattle.law_role_server.specs.Counted.Counting.{is_ack_to, is_conn_c1, waiting_of}
+use Rattle.rh_shell.specs.Waiting.{is_of}
+use Rattle.law_moves.proofs.Vocabulary.{by_test, same_number, Cookie, Named, each_push, Due, Own, Forwarded, Waiting, key_of, are_one, own, to_forward, takes, edge_of, better, merged, with_due, pushed, count, forwarded, without_first, taken}
+use Rattle.law_role_server.proofs.Vocabulary.{Kind, is_ack, is_ack_of, is_kind, is_own, has, is_some, is_ack_to, is_conn_c1, waiting_of}
 
 -- no packet passes both tests
 abbrev pub Apart : (Named → Bool) → (Named → Bool) → Type 0

@@ -1,17 +1,8 @@
 -- what ends a channel comes once at most on its is leg
-use Rattle.std.proofs.Common.{◌≡◌, ℕ, suc, ◌≤◌, ◌==◌, ◌&&◌, Bool, true, false, nat_eq, if◌then◌else◌, List, [], ◌∷◌, ◌++◌, arith, refl, sym, ap, subst}
-use Rattle.std.proofs.lemmas.Bool.Decides.{nat_tests}
-use Rattle.law_order.specs.Items.{Item, Piece, Stop, Handover, IsBehindEnd, IsChannel}
+use Rattle.law_order.proofs.Vocabulary.{◌≡◌, ℕ, suc, ◌≤◌, ◌==◌, ◌&&◌, Bool, true, false, nat_eq, if◌then◌else◌, List, [], ◌∷◌, ◌++◌, arith, refl, sym, ap, subst, nat_tests, Item, Piece, Stop, Handover, IsBehindEnd, IsChannel}
 use Rattle.rh_sig.specs.declared.named.Named.TheVariants as named
-use Rattle.rh_line.specs.declared.leg.LegKind.{LegKind}
-use Rattle.rh_line.specs.declared.leg.LegKind.TheVariants.{ClientOut, OutServer, ClientIn, InServer}
-use Rattle.rh_shell.specs.Rules.{Message, Text, Pdu, Packet}
-use Rattle.rh_shell.specs.Shells.{same_leg, is_of}
-use Rattle.law_moves.specs.Moves.{OnLeg}
-use Rattle.law_moves.specs.Wires.{of_leg}
-use Rattle.law_moves.specs.Passages.Passing.{count_of}
-use Rattle.law_role_server.specs.Order.{in_items, items_if, items_on}
-use Rattle.law_role_server.specs.Counted.Counting.{is_end_a2, is_in_r1_a6, often_at, leg_at}
+use Rattle.law_moves.proofs.Vocabulary.{LegKind, ClientOut, OutServer, ClientIn, InServer, Message, Text, Pdu, Packet, same_leg, is_of, OnLeg, of_leg, count_of}
+use Rattle.law_role_server.proofs.Vocabulary.{in_items, items_if, items_on, is_end_a2, is_in_r1_a6, often_at, leg_at}
 
 -- how many of the items are handover marks, and how many END
 abbrev handovers : List Item → ℕ
@@ -49,7 +40,7 @@ channel_once (Handover ∷ items) h =
 
 -- ---- on a leg
 
-same_bool : (kind : LegKind) (k n : ℕ)
+pub same_bool : (kind : LegKind) (k n : ℕ)
     → same_leg (leg_at kind k) (leg_at InServer n) ≡ is_of InServer (leg_at kind k) && nat_eq n k
 same_bool ClientOut k n = refl
 same_bool OutServer k n = refl

@@ -1,23 +1,15 @@
 -- the is legs that a server keeps: one of them changes or is gone
-use Rattle.std.proofs.Common.{◌≡◌, ℕ, suc, ◌+◌, ◌<◌, ◌≤◌, ◌==◌, ◌&&◌, cond, nat_lt, Bool, true, false, true≢false, not, if◌then◌else◌, List, [], ◌∷◌, ◌++◌, length, Some, None, arith, refl, sym, ap, ◌∙◌, subst}
-use Rattle.std.proofs.lemmas.Bool.{or_parts}
-use Rattle.std.proofs.lemmas.Bool.Decides.{nat_tests}
-use Rattle.std.specs.Prelude.{position}
-use Rattle.std.specs.List.{AllByRecursion, position_or_len}
-use Rattle.std.specs.declared.option.Option.{Option}
-use Rattle.law_order.proofs.ByNumber.{test_same, test_other}
-use Rattle.rh_server.specs.declared.state.InLeg.{InLeg}
-use Rattle.rh_server.specs.States.{is_fresh, is_waiting, in_place, in_at, set_at, removed_at}
-use Rattle.rh_server.specs.InReplacement.{is_fresh_below, has_fresh_below}
-use Rattle.law_role_server.specs.Counted.Answering.{how_many}
+use Rattle.law_order.proofs.Vocabulary.{◌≡◌, ℕ, suc, ◌+◌, ◌<◌, ◌≤◌, ◌==◌, ◌&&◌, cond, nat_lt, Bool, true, false, true≢false, not, if◌then◌else◌, List, [], ◌∷◌, ◌++◌, length, Some, None, arith, refl, sym, ap, ◌∙◌, subst, or_parts, nat_tests, position, AllByRecursion, position_or_len, Option}
+use Rattle.law_moves.proofs.Vocabulary.{test_same, test_other}
+use Rattle.law_role_server.proofs.Vocabulary.{InLeg, is_fresh, is_waiting, in_place, in_at, set_at, removed_at, is_fresh_below, has_fresh_below, how_many}
 
 -- ---- places
 
-abbrev next_place : Option ℕ → Option ℕ
+abbrev pub next_place : Option ℕ → Option ℕ
 next_place None = None
 next_place (Some place) = Some (suc place)
 
-place_step : {X : Type 0} (test : X → Bool) (x : X) (xs : List X)
+pub place_step : {X : Type 0} (test : X → Bool) (x : X) (xs : List X)
     → position test (x ∷ xs) ≡ cond (test x) (Some 0) (next_place (position test xs))
 place_step test x xs = by (test x)
   where

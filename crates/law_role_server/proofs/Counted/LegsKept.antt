@@ -1,11 +1,7 @@
 -- is legs change, and the answers to announcements stay right
-use Rattle.std.proofs.Common.{◌≡◌, ℕ, ◌+◌, ◌<◌, Bool, true, false, true≢false, if◌then◌else◌, List, [], ◌∷◌, ◌++◌, arith, refl, sym, ap, ◌∙◌, subst}
-use Rattle.std.specs.List.{AllByRecursion}
-use Rattle.rh_line.proofs.Queues.{each_push}
-use Rattle.rh_server.specs.declared.state.InLeg.{InLeg}
-use Rattle.rh_server.specs.States.{is_fresh, is_waiting, stays}
-use Rattle.law_moves.specs.Moves.{OnLeg}
-use Rattle.law_role_server.specs.Counted.Answering.{how_many, waits_on}
+use Rattle.law_order.proofs.Vocabulary.{◌≡◌, ℕ, ◌+◌, ◌<◌, Bool, true, false, true≢false, if◌then◌else◌, List, [], ◌∷◌, ◌++◌, arith, refl, sym, ap, ◌∙◌, subst, AllByRecursion}
+use Rattle.law_moves.proofs.Vocabulary.{each_push, OnLeg}
+use Rattle.law_role_server.proofs.Vocabulary.{InLeg, is_fresh, is_waiting, stays, how_many, waits_on}
 use Rattle.law_role_server.proofs.Counted.InLegs.{Ascends, ascends_push, ascends_set, ascends_removed, ascends_above, all_of, all_joined, all_removed, both_so, one_leg, many_joined, many_pushed, AreOrdered, ordered_set, ordered_removed, ordered_push}
 use Rattle.law_role_server.proofs.Counted.Announcing.{Look, Placed, ArePlaced, Answering}
 

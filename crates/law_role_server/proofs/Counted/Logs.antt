@@ -1,18 +1,8 @@
 -- a message more, and how often packets passed
-use Rattle.std.proofs.Common.{◌≡◌, ℕ, suc, ◌+◌, ◌≤◌, ◌<◌, ◌==◌, Bool, true, false, true≢false, if◌then◌else◌, List, [], ◌∷◌, ◌++◌, arith, refl, sym, ap, ◌∙◌, subst}
-use Rattle.std.proofs.lemmas.Bool.Decides.{nat_tests}
-use Rattle.law_order.proofs.ByNumber.{same_number, other_number, test_same, test_other}
-use Rattle.rh_sig.specs.declared.named.Named.{Named}
-use Rattle.rh_line.specs.declared.leg.Leg.{Leg}
-use Rattle.rh_line.specs.declared.leg.LegKind.{LegKind}
-use Rattle.rh_line.specs.declared.leg.LegKind.TheVariants.{ClientOut, OutServer, ClientIn, InServer}
-use Rattle.rh_shell.specs.Rules.{Message}
-use Rattle.rh_shell.specs.Shells.{same_leg, is_of}
-use Rattle.law_moves.specs.Moves.{OnLeg}
-use Rattle.law_moves.specs.Wires.{of_leg}
-use Rattle.law_moves.specs.Passages.Passing.{count_of, of_kind}
-use Rattle.law_moves.proofs.Passages.Messages.{count_append, leg_more, kind_more}
-use Rattle.law_role_server.specs.Counted.Counting.{often, often_at, leg_at, IsOnEachFrom}
+use Rattle.law_order.proofs.Vocabulary.{◌≡◌, ℕ, suc, ◌+◌, ◌≤◌, ◌<◌, ◌==◌, Bool, true, false, true≢false, if◌then◌else◌, List, [], ◌∷◌, ◌++◌, arith, refl, sym, ap, ◌∙◌, subst, nat_tests}
+use Rattle.law_moves.proofs.Vocabulary.{same_number, other_number, test_same, test_other, Named, Leg, LegKind, ClientOut, OutServer, ClientIn, InServer, Message, same_leg, is_of, OnLeg, of_leg, count_of, of_kind}
+use Rattle.law_moves.proofs.Lemmas.{count_append, leg_more, kind_more}
+use Rattle.law_role_server.proofs.Vocabulary.{often, often_at, leg_at, IsOnEachFrom}
 
 -- on the legs of a kind, and on one of them
 pub often_more : (test : Named → Bool) (kind : LegKind) (log : List OnLeg) (one : OnLeg)

@@ -1,29 +1,14 @@
 -- CONN/A2 and CONN/B2 come to a server
-use Rattle.std.proofs.Common.{◌≡◌, ℕ, ◌+◌, ◌≤◌, ◌==◌, ◌&&◌, not, List, [], ◌∷◌, ◌++◌, Some, None, arith, refl, rules, sym, ap, ◌∙◌, subst}
-use Rattle.std.specs.declared.option.Option.{Option}
-use Rattle.law_order.proofs.ByNumber.{by_test}
-use Rattle.rh_rts.specs.declared.command.Cookie.{Cookie}
-use Rattle.rh_sig.specs.declared.named.Named.{Named}
+use Rattle.law_order.proofs.Vocabulary.{◌≡◌, ℕ, ◌+◌, ◌≤◌, ◌==◌, ◌&&◌, not, List, [], ◌∷◌, ◌++◌, Some, None, arith, refl, rules, sym, ap, ◌∙◌, subst, Option}
 use Rattle.rh_sig.specs.declared.named.Named.TheVariants as named
-use Rattle.rh_line.specs.declared.leg.LegKind.TheVariants.{OutServer, InServer}
-use Rattle.rh_line.proofs.Queues.{each_push}
-use Rattle.rh_shell.specs.declared.answers.Count.{Count}
 use Rattle.rh_shell.specs.declared.answers.Refused.TheVariants as refused
-use Rattle.rh_shell.specs.Rules.{Packet}
-use Rattle.rh_shell.specs.Waiting.{Waiting, own}
-use Rattle.rh_server.specs.declared.state.Stage.{Stage}
 use Rattle.rh_server.specs.declared.state.Stage.TheVariants as stage
 use Rattle.rh_server.specs.declared.state.InStage.TheVariants as in_stage
 use Rattle.rh_server.specs.declared.state.Tells.TheVariants as tells
-use Rattle.rh_server.specs.declared.state.InLeg.{InLeg}
 use Rattle.rh_server.specs.declared.out_line.Kind.TheVariants as kind
-use Rattle.rh_server.specs.OutLines.{waits}
-use Rattle.rh_server.specs.States.{Server, same_cookie, in_leg}
-use Rattle.rh_server.specs.Opening.{Done, took, refuse, unexpected, is_first, opens, with_first_out, conn_a2_at, on_conn_a2, first_in, with_first_in, conn_b2_at, on_conn_b2}
-use Rattle.law_moves.specs.Moves.{OnLeg}
-use Rattle.law_moves.proofs.Passages.Logs.{RowKeeps}
-use Rattle.law_role_server.specs.Counted.Counting.{is_conn_a2, is_conn_b2, is_conn_c1, is_in_r1_a2, is_in_r1_a3, is_in_r2_a2, is_in_r2_a3, often, leg_at, waiting_of}
-use Rattle.law_role_server.specs.Counted.Answering.{how_many}
+use Rattle.law_moves.proofs.Vocabulary.{by_test, Cookie, Named, each_push, OutServer, InServer, Count, Packet, Waiting, own, OnLeg}
+use Rattle.law_moves.proofs.Lemmas.{RowKeeps}
+use Rattle.law_role_server.proofs.Vocabulary.{Stage, InLeg, waits, Server, same_cookie, in_leg, Done, took, refuse, unexpected, is_first, opens, with_first_out, conn_a2_at, on_conn_a2, first_in, with_first_in, conn_b2_at, on_conn_b2, is_conn_a2, is_conn_b2, is_conn_c1, is_in_r1_a2, is_in_r1_a3, is_in_r2_a2, is_in_r2_a3, often, leg_at, waiting_of, how_many}
 use Rattle.law_role_server.proofs.Counted.Dues.{HasOrigin, push_waits}
 use Rattle.law_role_server.proofs.Counted.InLegs.{IsFoundAs, found, one_leg, many_joined}
 use Rattle.law_role_server.proofs.Counted.Openings.{owes_b3, Opening, Comes, opening_came}

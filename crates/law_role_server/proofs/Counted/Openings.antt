@@ -1,19 +1,10 @@
 -- how far the opening of a connection is, by what came, what was put, and what waits
-use Rattle.std.proofs.Common.{◌≡◌, ◌+◌, ◌≤◌, Bool, true, false, List, [], ◌∷◌, ◌++◌, arith, refl, sym, ◌∙◌, subst}
-use Rattle.std.specs.List.{AllByRecursion}
-use Rattle.rh_line.specs.declared.leg.LegKind.TheVariants.{OutServer, InServer}
-use Rattle.rh_shell.specs.declared.due.Due.{Due}
-use Rattle.rh_server.specs.declared.state.Stage.{Stage}
+use Rattle.law_order.proofs.Vocabulary.{◌≡◌, ◌+◌, ◌≤◌, Bool, true, false, List, [], ◌∷◌, ◌++◌, arith, sym, ◌∙◌, subst, AllByRecursion}
 use Rattle.rh_server.specs.declared.state.Stage.TheVariants as stage
-use Rattle.rh_server.specs.declared.state.InLeg.{InLeg}
-use Rattle.rh_server.specs.declared.state.Tells.{Tells}
 use Rattle.rh_server.specs.declared.state.Tells.TheVariants as tells
-use Rattle.law_moves.specs.Moves.{OnLeg}
-use Rattle.law_moves.specs.Passages.Passing.{of_kind}
-use Rattle.law_moves.proofs.Passages.Messages.{all_append, kind_more}
-use Rattle.law_role_server.specs.Counted.Counting.{is_conn_a2, is_conn_b2, is_conn_b3, is_conn_c1, is_in_r1_a2, is_in_r2_a2, often, waiting_of}
-use Rattle.law_role_server.specs.Counted.Answering.{how_many}
-use Rattle.law_role_server.specs.Counted.Opening.{since_conn_a2, since_conn_b2, since_open, IsText}
+use Rattle.law_moves.proofs.Vocabulary.{OutServer, InServer, Due, OnLeg, of_kind}
+use Rattle.law_moves.proofs.Lemmas.{all_append, kind_more}
+use Rattle.law_role_server.proofs.Vocabulary.{Stage, InLeg, Tells, is_conn_a2, is_conn_b2, is_conn_b3, is_conn_c1, is_in_r1_a2, is_in_r2_a2, often, waiting_of, how_many, since_conn_a2, since_conn_b2, since_open, IsText}
 use Rattle.law_role_server.proofs.Counted.Logs.{often_more}
 
 -- CONN/B3 is still to be put on the leg
@@ -41,13 +32,7 @@ pub record Opening (at : Stage) (dues : List Due) (ins : List InLeg) (came put :
   pub early : since_open at ≡ 0 → Early came put
 
 pub opening_starts : Opening stage.Waits [] [] [] []
-opening_starts = record {
-  conn_a2 = refl;
-  conn_b2 = refl;
-  conn_c1 = refl;
-  conn_b3 = omega arith;
-  early = λ e. record { greetings = tt; conn_b3 = refl; in_r1_a2 = refl; in_r2_a2 = refl };
-}
+opening_starts = grind arith
 
 -- no packet passed: the stage counts as before, as many CONN/C1 wait, and no more CONN/B3
 pub record Stays (at new : Stage) (dues others : List Due) (ins legs : List InLeg) : Type 0 where

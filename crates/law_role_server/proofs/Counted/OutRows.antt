@@ -1,38 +1,13 @@
 -- the rows of a server, and how far it is with the replacement of OUT channels
-use Rattle.std.proofs.Common.{◌≡◌, ℕ, ◌+◌, ◌==◌, Bool, true, false, not, ◌&&◌, if◌then◌else◌, List, [], ◌∷◌, ◌++◌, Some, None, Ok, Err, refl, rules, sym, subst}
-use Rattle.std.proofs.lemmas.Bool.{and_parts, or_parts, not-true, not-false}
-use Rattle.std.specs.Prelude.{nat_lt}
-use Rattle.std.specs.declared.option.Option.{Option}
-use Rattle.std.specs.declared.result.Result.{Result}
-use Rattle.law_order.proofs.ByNumber.{by_test, same_number}
-use Rattle.rh_rts.specs.declared.command.Cookie.{Cookie}
-use Rattle.rh_sig.specs.declared.named.Named.{Named}
+use Rattle.law_order.proofs.Vocabulary.{◌≡◌, ℕ, ◌+◌, ◌==◌, Bool, true, false, not, ◌&&◌, if◌then◌else◌, List, [], ◌∷◌, ◌++◌, Some, None, Ok, Err, refl, rules, sym, subst, and_parts, or_parts, not-true, not-false, nat_lt, Option, Result}
 use Rattle.rh_sig.specs.declared.named.Named.TheVariants as named
-use Rattle.rh_line.specs.declared.leg.LegKind.{LegKind}
-use Rattle.rh_line.specs.declared.leg.LegKind.TheVariants.{ClientOut, OutServer, ClientIn, InServer}
-use Rattle.rh_shell.specs.declared.answers.Count.{Count}
 use Rattle.rh_shell.specs.declared.answers.Refused.TheVariants as refused
-use Rattle.rh_shell.specs.declared.end_role.RecycleRefused.{RecycleRefused}
-use Rattle.rh_shell.specs.declared.end_role.RecycleRefused.TheVariants.{Busy, Last}
-use Rattle.rh_shell.specs.Rules.{Packet}
-use Rattle.rh_shell.specs.Waiting.{Waiting}
-use Rattle.rh_server.specs.declared.state.Stage.{Stage}
 use Rattle.rh_server.specs.declared.state.Stage.TheVariants as stage
-use Rattle.rh_server.specs.declared.state.OutLeg.{OutLeg}
-use Rattle.rh_server.specs.declared.state.Replacement.{Replacement}
-use Rattle.rh_server.specs.declared.state.Replacement.TheVariants.{Steady, Asked, Answered, Confirmed}
 use Rattle.rh_server.specs.declared.out_line.Kind.TheVariants as kind
-use Rattle.rh_server.specs.OutLines.{is_ack, waits}
-use Rattle.rh_server.specs.States.{Server, is_open, is_steady, same_cookie, out_at, out_place, out_cookie}
-use Rattle.rh_server.specs.Opening.{Done, took, refuse, unexpected, is_first, on_conn_a2, on_conn_b2}
-use Rattle.rh_server.specs.Acknowledging.{out_server, on_ack_to, on_ack, on_ping_traffic}
-use Rattle.rh_server.specs.InReplacement.{on_in_r1_a2, on_in_r1_a6, on_in_r2_a2}
-use Rattle.rh_server.specs.OutReplacement.{asks, recycle, is_under_way, last_number, wishes, wished, answered_by, answered_on, out_r1_a4_by, out_r1_a4_at, is_asked, may_answer, on_out_r1_a4, confirms, out_r1_a8_at, on_out_r1_a8}
-use Rattle.rh_server.specs.Ending.{on_end_a2, completed, settled}
-use Rattle.rh_server.specs.Servers.{packet_by, on_is, on_os}
-use Rattle.law_moves.specs.Moves.{OnLeg}
-use Rattle.law_moves.proofs.Passages.Logs.{RowKeeps}
-use Rattle.law_role_server.specs.Counted.Counting.{is_conn_c1, is_in_r1_a3, is_in_r2_a3, is_out_r1_a1, is_out_r1_a5, leg_at, waiting_of}
+use Rattle.law_moves.proofs.Vocabulary.{by_test, same_number, Cookie, Named, LegKind, ClientOut, OutServer, ClientIn, InServer, Count, RecycleRefused, Busy, Last, Packet, Waiting, OnLeg}
+use Rattle.law_moves.proofs.Lemmas.{RowKeeps}
+use Rattle.law_role_server.proofs.Vocabulary.{Stage, OutLeg, Replacement, Steady, Asked, Answered, Confirmed, is_ack, waits, Server, is_open, is_steady, same_cookie, out_at, out_place, out_cookie, Done, took, refuse, unexpected, is_first, on_conn_a2, on_conn_b2, out_server, on_ack_to, on_ack, on_ping_traffic, on_in_r1_a2, on_in_r1_a6, on_in_r2_a2, asks, recycle, is_under_way, last_number, wishes, wished, answered_by, answered_on, out_r1_a4_by, out_r1_a4_at, is_asked}
+use Rattle.law_role_server.proofs.Vocabulary.{may_answer, on_out_r1_a4, confirms, out_r1_a8_at, on_out_r1_a8, on_end_a2, completed, settled, packet_by, on_is, on_os, is_conn_c1, is_in_r1_a3, is_in_r2_a3, is_out_r1_a1, is_out_r1_a5, leg_at, waiting_of}
 use Rattle.law_role_server.proofs.Counted.Dues.{none_waits}
 use Rattle.law_role_server.proofs.Counted.Adding.{MayAdd, conn_a2_adds, conn_b2_adds, in_r1_a2_adds, in_r1_a6_adds, in_r2_a2_adds, ack_to_adds}
 use Rattle.law_role_server.proofs.Counted.Stages.{Kept, IsQuiet, came_quiet, others_wait, asks_kept, begins_kept, confirms_kept}

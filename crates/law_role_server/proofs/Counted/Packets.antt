@@ -1,11 +1,9 @@
 -- packets of the replacement of OUT channels, and others
-use Rattle.std.proofs.Common.{◌≡◌, Bool, true, refl}
-use Rattle.std.proofs.lemmas.Bool.{false≢true}
-use Rattle.rh_sig.specs.declared.named.Named.{Named}
+use Rattle.law_order.proofs.Vocabulary.{◌≡◌, Bool, true, refl, false≢true}
 use Rattle.rh_sig.specs.declared.named.Named.TheVariants as named
 use Rattle.rh_server.specs.declared.out_line.Kind.TheVariants as kind
-use Rattle.rh_server.specs.OutLines.{is_ack, is_kind}
-use Rattle.law_role_server.specs.Counted.Counting.{is_conn_c1, is_in_r1_a3, is_in_r2_a3, is_out_r1_a1, is_out_r1_a5, is_out_r1_a9}
+use Rattle.law_moves.proofs.Vocabulary.{Named}
+use Rattle.law_role_server.proofs.Vocabulary.{is_ack, is_kind, is_conn_c1, is_in_r1_a3, is_in_r2_a3, is_out_r1_a1, is_out_r1_a5, is_out_r1_a9}
 use Rattle.law_role_server.proofs.Counted.Dues.{Apart, IsOfKind}
 
 -- ---- packets

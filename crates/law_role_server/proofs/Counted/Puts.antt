@@ -1,39 +1,14 @@
 -- what a server puts: how far it is with its opening, and with its IN channels
-use Rattle.std.proofs.Common.{◌≡◌, ℕ, ◌+◌, ◌≤◌, ◌==◌, ◌&&◌, Bool, true, true≢false, if◌then◌else◌, List, [], ◌∷◌, ◌++◌, Some, None, arith, refl, rules, sym, ap, ◌∙◌}
-use Rattle.std.proofs.lemmas.Bool.{false≢true}
-use Rattle.std.specs.Prelude.{IfSome, slice_get, find}
-use Rattle.std.specs.declared.option.Option.{Option}
-use Rattle.rh_window.specs.declared.recv_window.Ack.{Ack}
-use Rattle.law_order.proofs.ByNumber.{by_test}
-use Rattle.rh_sig.specs.declared.named.Named.{Named}
+use Rattle.law_order.proofs.Vocabulary.{◌≡◌, ℕ, ◌+◌, ◌≤◌, ◌==◌, ◌&&◌, Bool, true, true≢false, if◌then◌else◌, List, [], ◌∷◌, ◌++◌, Some, None, arith, refl, rules, sym, ap, ◌∙◌, false≢true, IfSome, slice_get, find, Option}
 use Rattle.rh_sig.specs.declared.named.Named.TheVariants as named
-use Rattle.rh_line.specs.Lines.{after_tell, after_told}
-use Rattle.rh_line.specs.Queue.{front_length}
-use Rattle.rh_line.specs.declared.leg.LegKind.{LegKind}
-use Rattle.rh_line.specs.declared.leg.LegKind.TheVariants.{ClientOut, OutServer, ClientIn, InServer}
-use Rattle.rh_line.specs.declared.which.Which.TheVariants.{Current}
-use Rattle.rh_shell.specs.declared.due.Due.{Due}
-use Rattle.rh_shell.specs.Hearing.{greeting as greeting_text}
-use Rattle.rh_shell.specs.Rules.{Message, Text, Packet}
-use Rattle.rh_shell.specs.Waiting.{Waiting, taken}
-use Rattle.rh_server.specs.declared.state.Stage.{Stage}
 use Rattle.rh_server.specs.declared.state.Stage.TheVariants as stage
-use Rattle.rh_server.specs.declared.state.Tells.{Tells}
 use Rattle.rh_server.specs.declared.state.Tells.TheVariants as tells
-use Rattle.rh_server.specs.declared.state.Leaving.{Leaving}
 use Rattle.rh_server.specs.declared.state.Leaving.TheVariants as leaving
-use Rattle.rh_server.specs.declared.state.Edge.TheVariants.{Told}
 use Rattle.rh_server.specs.declared.state.Greeting.TheVariants as greetings
-use Rattle.rh_server.specs.declared.state.InLeg.{InLeg}
-use Rattle.rh_server.specs.declared.state.OutLeg.{OutLeg}
-use Rattle.rh_server.specs.OutLines.{Gate, lets, length_of}
-use Rattle.rh_server.specs.States.{Server, is_open, is_due, is_shut, stays, in_leg, out_place, with_in}
-use Rattle.rh_server.specs.Putting.{Pick, or_else, put_in_greeting, was_current, put_tells_by, put_tells, put_b1_by, put_b1, put_ack_by, put_ack, ack_due, put_in_by, out_greeting_at, put_out_greeting, counts, was_put, waiting_by, waiting_at, put_waiting, gate_at, with_out, pdu_by, put_pdu, put_end, put_pdu_or_end, next_out, settled_pick, put_open, put_out_at, put_by}
-use Rattle.law_moves.specs.Moves.{OnLeg}
-use Rattle.law_moves.proofs.Passages.Logs.{PutKeeps}
-use Rattle.law_role_server.specs.Counted.Counting.{is_conn_b3, is_conn_c1, is_in_r1_a3, is_in_r2_a3, often, leg_at, waiting_of}
-use Rattle.law_role_server.specs.Counted.Answering.{how_many}
-use Rattle.law_role_server.specs.Counted.Opening.{since_open}
+use Rattle.law_moves.proofs.Vocabulary.{Ack, by_test, Named, after_tell, after_told, front_length, LegKind, ClientOut, OutServer, ClientIn, InServer, Current, Due, greeting as greeting_text, Message, Text, Packet, Waiting, taken, OnLeg}
+use Rattle.law_moves.proofs.Lemmas.{PutKeeps}
+use Rattle.law_role_server.proofs.Vocabulary.{Stage, Tells, Leaving, Told, InLeg, OutLeg, Gate, lets, length_of, Server, is_open, is_due, is_shut, stays, in_leg, out_place, with_in, Pick, or_else, put_in_greeting, was_current, put_tells_by, put_tells, put_b1_by, put_b1, put_ack_by, put_ack, ack_due, put_in_by, out_greeting_at, put_out_greeting, counts, was_put, waiting_by, waiting_at, put_waiting, gate_at, with_out, pdu_by, put_pdu, put_end, put_pdu_or_end, next_out}
+use Rattle.law_role_server.proofs.Vocabulary.{settled_pick, put_open, put_out_at, put_by, is_conn_b3, is_conn_c1, is_in_r1_a3, is_in_r2_a3, often, leg_at, waiting_of, how_many, since_open}
 use Rattle.law_role_server.proofs.Counted.Dues.{Went, one_waits, first_goes, others_have}
 use Rattle.law_role_server.proofs.Counted.InLegs.{IsFoundAs, found, one_leg, many_joined}
 use Rattle.law_role_server.proofs.Counted.Openings.{is_conn_b3_due, owes_b3, opening_put}

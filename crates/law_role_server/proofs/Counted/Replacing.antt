@@ -1,38 +1,10 @@
 -- a server replaces OUT channels one by one
-use Rattle.std.proofs.Common.{◌≡◌, ℕ, ◌==◌, Bool, true, List, [], ◌∷◌, ◌++◌, Some, None, arith, refl, rules, sym, ap, ◌∙◌, subst}
-use Rattle.std.proofs.lemmas.List.Quantifiers.{position-Some}
-use Rattle.std.proofs.lemmas.Option.{get_or_from_slice_get}
-use Rattle.std.specs.Prelude.{IfSome, slice_get, find}
-use Rattle.std.specs.declared.option.Option.{Option}
-use Rattle.rh_window.specs.declared.recv_window.Ack.{Ack}
-use Rattle.law_order.proofs.ByNumber.{by_test, same_number}
-use Rattle.rh_rts.specs.declared.command.Cookie.{Cookie}
-use Rattle.rh_sig.specs.declared.named.Named.{Named}
+use Rattle.law_order.proofs.Vocabulary.{◌≡◌, ℕ, ◌==◌, Bool, true, List, [], ◌∷◌, ◌++◌, Some, None, arith, refl, rules, sym, ap, ◌∙◌, subst, position-Some, get_or_from_slice_get, IfSome, slice_get, find, Option}
 use Rattle.rh_sig.specs.declared.named.Named.TheVariants as named
-use Rattle.rh_line.specs.Queue.{front_length}
-use Rattle.rh_line.specs.declared.leg.Leg.{Leg}
-use Rattle.rh_line.specs.declared.leg.LegKind.{LegKind}
-use Rattle.rh_line.specs.declared.leg.LegKind.TheVariants.{ClientOut, OutServer, ClientIn, InServer}
-use Rattle.rh_shell.specs.declared.answers.Count.{Count}
-use Rattle.rh_shell.specs.declared.due.Due.{Due}
-use Rattle.rh_shell.specs.Rules.{Message, Pdu, Packet}
-use Rattle.rh_shell.specs.Waiting.{Waiting, taken}
-use Rattle.rh_server.specs.declared.state.InLeg.{InLeg}
-use Rattle.rh_server.specs.declared.state.OutLeg.{OutLeg}
-use Rattle.rh_server.specs.declared.state.Leaving.{Leaving}
-use Rattle.rh_server.specs.declared.state.Tells.{Tells}
-use Rattle.rh_server.specs.OutLines.{lets, length_of, is_ack}
-use Rattle.rh_server.specs.States.{Server, is_open, in_leg, out_place, without_in, without_out}
-use Rattle.rh_server.specs.Opening.{up}
-use Rattle.rh_server.specs.InReplacement.{take}
-use Rattle.rh_server.specs.Ending.{give, settled, drawn_by, in_is_drawn, mark_by, lost_in, with_ack_dropped}
-use Rattle.rh_server.specs.Putting.{Pick, or_else, put_in_greeting, put_tells_by, put_tells, put_b1_by, put_b1, put_ack_by, put_ack, ack_due, put_in_by, out_greeting_at, put_out_greeting, counts, was_put, waiting_by, waiting_at, put_waiting, gate, gate_at, pdu_by, put_pdu, put_end, put_pdu_or_end, next_out, settled_pick, put_open, put_out_at, put_by}
-use Rattle.rh_server.specs.Servers.{acts, first, pdu}
-use Rattle.rh_server.specs.Servers.{rules as server_rules}
-use Rattle.law_moves.specs.Moves.{OnLeg, Passage, EndMove, end_started, all_end_moved}
-use Rattle.law_moves.proofs.Passages.Logs.{PutKeeps, StepsKeep, ActsKeep, end_moves_keep}
-use Rattle.law_role_server.specs.Counted.Counting.{is_in_r1_a3, is_out_r1_a1, is_out_r1_a5, is_out_r1_a9, leg_at}
-use Rattle.law_role_server.specs.Counted.Replacing.{AreReplaced, AreInTurn, ArePutInTurn}
+use Rattle.law_moves.proofs.Vocabulary.{Ack, by_test, same_number, Cookie, Named, front_length, Leg, LegKind, ClientOut, OutServer, ClientIn, InServer, Count, Due, Message, Pdu, Packet, Waiting, taken, OnLeg, Passage, EndMove, end_started, all_end_moved}
+use Rattle.law_moves.proofs.Lemmas.{PutKeeps, StepsKeep, ActsKeep, end_moves_keep}
+use Rattle.law_role_server.proofs.Vocabulary.{InLeg, OutLeg, Leaving, Tells, lets, length_of, is_ack, Server, is_open, in_leg, out_place, without_in, without_out, up, take, give, settled, drawn_by, in_is_drawn, mark_by, lost_in, with_ack_dropped, Pick, or_else, put_in_greeting, put_tells_by, put_tells, put_b1_by, put_b1, put_ack_by, put_ack, ack_due, put_in_by, out_greeting_at, put_out_greeting, counts, was_put, waiting_by, waiting_at, put_waiting, gate, gate_at, pdu_by}
+use Rattle.law_role_server.proofs.Vocabulary.{put_pdu, put_end, put_pdu_or_end, next_out, settled_pick, put_open, put_out_at, put_by, acts, first, pdu, rules as server_rules, is_in_r1_a3, is_out_r1_a1, is_out_r1_a5, is_out_r1_a9, leg_at, AreReplaced, AreInTurn, ArePutInTurn}
 use Rattle.law_role_server.proofs.Counted.Dues.{Went, first_goes, found_may, others_have}
 use Rattle.law_role_server.proofs.Counted.Adding.{take_adds, dropped_adds}
 use Rattle.law_role_server.proofs.Counted.Stages.{Kept, IsQuiet, IsQuietPut, starts, asked_once, put_quiet, goes_kept, at_behind, writing_behind}

@@ -1,41 +1,15 @@
 -- the rows of a server: how far it is with its opening, and with its IN channels
-use Rattle.std.proofs.Common.{◌≡◌, ℕ, ◌+◌, ◌≤◌, ◌==◌, ◌&&◌, ◌||◌, not, Bool, true, false, true≢false, List, [], ◌∷◌, ◌++◌, nat_lt, Some, None, arith, refl, rules, sym, ap, ◌∙◌, subst}
-use Rattle.std.proofs.lemmas.Bool.{false≢true, and_parts, not-true, not-false, or_parts}
-use Rattle.std.specs.declared.option.Option.{Option}
-use Rattle.law_order.proofs.ByNumber.{by_test, same_number}
-use Rattle.rh_rts.specs.declared.command.Cookie.{Cookie}
-use Rattle.rh_sig.specs.declared.named.Named.{Named}
+use Rattle.law_order.proofs.Vocabulary.{◌≡◌, ℕ, ◌+◌, ◌≤◌, ◌==◌, ◌&&◌, ◌||◌, not, Bool, true, false, true≢false, List, [], ◌∷◌, ◌++◌, nat_lt, Some, None, arith, refl, rules, sym, ap, ◌∙◌, subst, false≢true, and_parts, not-true, not-false, or_parts, Option}
 use Rattle.rh_sig.specs.declared.named.Named.TheVariants as named
-use Rattle.rh_line.specs.Lines.{Line, after_end, after_finish}
-use Rattle.rh_line.specs.declared.leg.LegKind.{LegKind}
-use Rattle.rh_line.specs.declared.leg.LegKind.TheVariants.{ClientOut, OutServer, ClientIn, InServer}
-use Rattle.rh_line.specs.declared.which.Which.{Which}
-use Rattle.rh_line.specs.declared.which.Which.TheVariants.{Current, Next}
-use Rattle.rh_shell.specs.declared.answers.Count.{Count}
 use Rattle.rh_shell.specs.declared.answers.Refused.TheVariants as refused
-use Rattle.rh_shell.specs.Rules.{Packet}
-use Rattle.rh_shell.specs.Waiting.{own}
-use Rattle.rh_server.specs.declared.state.Stage.{Stage}
 use Rattle.rh_server.specs.declared.state.Stage.TheVariants as stage
-use Rattle.rh_server.specs.declared.state.InStage.{InStage}
 use Rattle.rh_server.specs.declared.state.InStage.TheVariants as in_stage
 use Rattle.rh_server.specs.declared.state.Leaving.TheVariants as leaving
-use Rattle.rh_server.specs.declared.state.InLeg.{InLeg}
 use Rattle.rh_server.specs.declared.out_line.Kind.TheVariants as kind
-use Rattle.rh_server.specs.OutLines.{is_ack, waits}
-use Rattle.rh_server.specs.States.{Server, is_open, is_fresh, is_waiting, same_cookie, in_leg, with_in}
-use Rattle.rh_server.specs.Opening.{Done, took, refuse, unexpected, is_first}
-use Rattle.rh_server.specs.Acknowledging.{channel_at, on_ack_to, on_ack, on_ping_traffic}
-use Rattle.rh_server.specs.InReplacement.{next_opened, moved_if, announced, in_r1_a2_by, in_r1_a2_at, on_in_r1_a2, has_fresh_below, leaves_by, hands_over, on_in_r1_a6, in_r2_a2_on, on_in_r2_a2, opens_leg, first_waiting, carries_next}
-use Rattle.rh_server.specs.OutReplacement.{on_out_r1_a4, on_out_r1_a8}
-use Rattle.rh_server.specs.Ending.{is_over_on, end_a2_on_leg, end_a2_waiting, end_a2_at, on_end_a2}
-use Rattle.rh_server.specs.Servers.{packet_by, on_is, on_os}
-use Rattle.law_moves.specs.Moves.{OnLeg}
-use Rattle.law_moves.specs.Passages.Passing.{count_of}
-use Rattle.law_moves.proofs.Passages.Logs.{RowKeeps}
-use Rattle.law_role_server.specs.Counted.Counting.{is_conn_a2, is_conn_b2, is_conn_c1, is_in_r1_a2, is_in_r1_a3, is_in_r2_a2, often, leg_at, waiting_of}
-use Rattle.law_role_server.specs.Counted.Answering.{how_many}
-use Rattle.law_role_server.specs.Counted.Opening.{since_open}
+use Rattle.law_moves.proofs.Vocabulary.{by_test, same_number, Cookie, Named, Line, after_end, after_finish, LegKind, ClientOut, OutServer, ClientIn, InServer, Which, Current, Next, Count, Packet, own, OnLeg, count_of}
+use Rattle.law_moves.proofs.Lemmas.{RowKeeps}
+use Rattle.law_role_server.proofs.Vocabulary.{Stage, InStage, InLeg, is_ack, waits, Server, is_open, is_fresh, is_waiting, same_cookie, in_leg, with_in, Done, took, refuse, unexpected, is_first, channel_at, on_ack_to, on_ack, on_ping_traffic, next_opened, moved_if, announced, in_r1_a2_by, in_r1_a2_at, on_in_r1_a2, has_fresh_below, leaves_by, hands_over, on_in_r1_a6, in_r2_a2_on, on_in_r2_a2, opens_leg, first_waiting, carries_next, on_out_r1_a4, on_out_r1_a8, is_over_on}
+use Rattle.law_role_server.proofs.Vocabulary.{end_a2_on_leg, end_a2_waiting, end_a2_at, on_end_a2, packet_by, on_is, on_os, is_conn_a2, is_conn_b2, is_conn_c1, is_in_r1_a2, is_in_r1_a3, is_in_r2_a2, often, leg_at, waiting_of, how_many, since_open}
 use Rattle.law_role_server.proofs.Counted.Dues.{push_waits, none_waits}
 use Rattle.law_role_server.proofs.Counted.InLegs.{IsFoundAs, found, one_leg, many_joined}
 use Rattle.law_role_server.proofs.Counted.Openings.{owes_b3, Opening, opening_came}

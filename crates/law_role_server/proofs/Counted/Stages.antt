@@ -1,23 +1,8 @@
 -- how far the replacement of OUT channels is, by what came, what was put, and what waits
-use Rattle.std.proofs.Common.{◌≡◌, ℕ, suc, ◌+◌, ◌≤◌, Bool, true, ◌&&◌, List, [], ◌∷◌, ◌++◌, arith, refl, ◌∙◌}
-use Rattle.std.proofs.lemmas.Bool.{false≢true, and_parts}
-use Rattle.rh_keep.specs.Meters.{fits}
-use Rattle.rh_rts.specs.declared.command.Cookie.{Cookie}
-use Rattle.rh_sig.specs.declared.named.Named.{Named}
+use Rattle.law_order.proofs.Vocabulary.{◌≡◌, ℕ, suc, ◌+◌, ◌≤◌, Bool, true, ◌&&◌, List, [], ◌∷◌, ◌++◌, arith, refl, ◌∙◌, false≢true, and_parts}
 use Rattle.rh_sig.specs.declared.named.Named.TheVariants as named
-use Rattle.rh_line.proofs.Queues.{each_push}
-use Rattle.rh_line.specs.declared.leg.LegKind.TheVariants.{OutServer, InServer}
-use Rattle.rh_shell.specs.declared.due.Due.{Due}
-use Rattle.rh_shell.specs.Rules.{Packet}
-use Rattle.rh_shell.specs.Waiting.{own}
-use Rattle.rh_server.specs.declared.state.Replacement.{Replacement}
-use Rattle.rh_server.specs.declared.state.Replacement.TheVariants.{Steady, Asked, Answered, Confirmed}
-use Rattle.rh_server.specs.OutLines.{Gate, lets_packet}
-use Rattle.rh_server.specs.States.{is_steady}
-use Rattle.rh_server.specs.OutReplacement.{is_asked}
-use Rattle.law_moves.specs.Moves.{OnLeg}
-use Rattle.law_role_server.specs.Counted.Counting.{is_out_r1_a1, is_out_r1_a4, is_out_r1_a5, is_out_r1_a8, is_out_r1_a9, often, leg_at, IsOnEachFrom, waiting_of}
-use Rattle.law_role_server.specs.Counted.Replacing.{since_asked, since_answered, since_confirmed}
+use Rattle.law_moves.proofs.Vocabulary.{fits, Cookie, Named, each_push, OutServer, InServer, Due, Packet, own, OnLeg}
+use Rattle.law_role_server.proofs.Vocabulary.{Replacement, Steady, Asked, Answered, Confirmed, Gate, lets_packet, is_steady, is_asked, is_out_r1_a1, is_out_r1_a4, is_out_r1_a5, is_out_r1_a8, is_out_r1_a9, often, leg_at, IsOnEachFrom, waiting_of, since_asked, since_answered, since_confirmed}
 use Rattle.law_role_server.proofs.Counted.Logs.{often_more, on_none, on_other, on_next}
 use Rattle.law_role_server.proofs.Counted.Dues.{Adds, HaveOrigins, HasOrigin, push_waits, one_waits}
 use Rattle.law_role_server.proofs.Counted.Packets.{LeavesAlone}

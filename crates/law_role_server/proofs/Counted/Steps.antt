@@ -1,33 +1,11 @@
 -- the steps of a server: how far it is with its opening, and with its IN channels
-use Rattle.std.proofs.Common.{◌≡◌, ℕ, ◌+◌, ◌≤◌, ◌==◌, ◌&&◌, Bool, true, false, true≢false, if◌then◌else◌, List, [], ◌∷◌, ◌++◌, Some, None, arith, refl, rules, sym, ap, ◌∙◌}
-use Rattle.std.proofs.lemmas.Bool.{false≢true, and_parts}
-use Rattle.std.specs.declared.option.Option.{Option}
-use Rattle.law_order.proofs.ByNumber.{by_test, same_number}
-use Rattle.rh_rts.specs.declared.command.Cookie.{Cookie}
-use Rattle.rh_line.specs.declared.leg.Leg.{Leg}
-use Rattle.rh_line.specs.declared.leg.LegKind.{LegKind}
-use Rattle.rh_line.specs.declared.leg.LegKind.TheVariants.{ClientOut, OutServer, ClientIn, InServer}
-use Rattle.rh_shell.specs.declared.answers.Count.{Count}
+use Rattle.law_order.proofs.Vocabulary.{◌≡◌, ℕ, ◌+◌, ◌≤◌, ◌==◌, ◌&&◌, Bool, true, false, true≢false, if◌then◌else◌, List, [], ◌∷◌, ◌++◌, Some, None, arith, refl, rules, sym, ap, ◌∙◌, false≢true, and_parts, Option}
 use Rattle.rh_shell.specs.declared.answers.Phase.TheVariants as phase
-use Rattle.rh_shell.specs.declared.due.Due.{Due}
-use Rattle.rh_shell.specs.Rules.{Pdu}
-use Rattle.rh_server.specs.declared.state.Stage.{Stage}
 use Rattle.rh_server.specs.declared.state.Stage.TheVariants as stage
-use Rattle.rh_server.specs.declared.state.Leaving.{Leaving}
 use Rattle.rh_server.specs.declared.state.Leaving.TheVariants as leaving
-use Rattle.rh_server.specs.declared.state.InLeg.{InLeg}
-use Rattle.rh_server.specs.OutLines.{is_ack}
-use Rattle.rh_server.specs.States.{Server, phase_of, is_waiting, stays, has_left, in_leg, without_in, without_out}
-use Rattle.rh_server.specs.Opening.{has_room, in_leg_up, may_up_by, up, up_by}
-use Rattle.rh_server.specs.OutReplacement.{recycle}
-use Rattle.rh_server.specs.Ending.{give, settled, drawn_by, in_is_drawn, mark_by, lost_in, with_ack_dropped}
-use Rattle.rh_server.specs.Servers.{acts, first, pdu}
-use Rattle.rh_server.specs.Servers.{rules as server_rules}
-use Rattle.law_moves.specs.Moves.{OnLeg, Passage, EndMove, end_started, all_end_moved}
-use Rattle.law_moves.proofs.Passages.Logs.{StepsKeep, ActsKeep, end_moves_keep}
-use Rattle.law_role_server.specs.Counted.Counting.{is_conn_b2, is_conn_b3, often}
-use Rattle.law_role_server.specs.Counted.Answering.{how_many, AreAnswered, BeginOnce}
-use Rattle.law_role_server.specs.Counted.Opening.{since_conn_a2, since_conn_b2, since_open, OpensOnce}
+use Rattle.law_moves.proofs.Vocabulary.{by_test, same_number, Cookie, Leg, LegKind, ClientOut, OutServer, ClientIn, InServer, Count, Due, Pdu, OnLeg, Passage, EndMove, end_started, all_end_moved}
+use Rattle.law_moves.proofs.Lemmas.{StepsKeep, ActsKeep, end_moves_keep}
+use Rattle.law_role_server.proofs.Vocabulary.{Stage, Leaving, InLeg, is_ack, Server, phase_of, is_waiting, stays, has_left, in_leg, without_in, without_out, has_room, in_leg_up, may_up_by, up, up_by, recycle, give, settled, drawn_by, in_is_drawn, mark_by, lost_in, with_ack_dropped, acts, first, pdu, rules as server_rules, is_conn_b2, is_conn_b3, often, how_many, AreAnswered, BeginOnce, since_conn_a2, since_conn_b2, since_open, OpensOnce}
 use Rattle.law_role_server.proofs.Counted.Logs.{at_most_in}
 use Rattle.law_role_server.proofs.Counted.InLegs.{IsFoundAs, found, many_pushed}
 use Rattle.law_role_server.proofs.Counted.Openings.{owes_b3, Opening, opening_starts, opening_stays}
@@ -38,6 +16,7 @@ use Rattle.law_role_server.proofs.Counted.Adding.{of_out, recycle_adds, dropped_
 use Rattle.law_role_server.proofs.Counted.Connecting.{seen, Holds, same_holds, row_keeps, IsQuiet, Keeps, ack_alone, out_alone, alike, rest, added_keeps, settled_keeps, has_number, stays_placed, is_placed, leg_keeps, gone_keeps, take_keeps}
 use Rattle.law_role_server.proofs.Counted.Rows.{packet_row}
 use Rattle.law_role_server.proofs.Counted.Puts.{puts}
+use Rattle.law_role_server.proofs.Counted.BeforeC1Steps.{recycle_stage}
 
 -- ---- legs come up, are drawn, and lost
 
@@ -137,9 +116,6 @@ give_same s bytes = search rules
 
 recycle_rest : (s : Server) → rest (recycle s).0 ≡ rest s
 recycle_rest s = search rules
-
-recycle_stage : (s : Server) → (recycle s).0.stage ≡ s.stage
-recycle_stage s = search rules
 
 -- ---- the role
 

@@ -1,41 +1,20 @@
 -- what was put on an is leg, by what the server keeps of it
-use Rattle.std.proofs.Common.{◌≡◌, ℕ, ◌==◌, ◌<◌, ◌+◌, ◌&&◌, Bool, true, false, true≢false, List, [], ◌∷◌, ◌++◌, Some, None, arith, refl, sym, ap, ◌∙◌, subst}
-use Rattle.std.proofs.lemmas.Bool.{false≢true}
-use Rattle.std.specs.declared.option.Option.{Option}
-use Rattle.law_order.proofs.ByNumber.{same_number, test_same, test_other}
-use Rattle.rh_rts.specs.declared.command.Cookie.{Cookie}
-use Rattle.rh_line.specs.declared.leg.LegKind.TheVariants.{InServer}
-use Rattle.rh_shell.specs.Rules.{Message}
-use Rattle.rh_server.specs.declared.state.Greeting.TheVariants.{Put}
-use Rattle.rh_server.specs.declared.state.InLeg.{InLeg}
-use Rattle.rh_server.specs.declared.state.InStage.{InStage}
+use Rattle.law_order.proofs.Vocabulary.{◌≡◌, ℕ, ◌==◌, ◌<◌, ◌+◌, ◌&&◌, Bool, true, false, true≢false, List, [], ◌∷◌, ◌++◌, Some, None, arith, refl, sym, ap, ◌∙◌, subst, false≢true, Option}
 use Rattle.rh_server.specs.declared.state.InStage.TheVariants as in_stage
-use Rattle.rh_server.specs.declared.state.Leaving.{Leaving}
 use Rattle.rh_server.specs.declared.state.Leaving.TheVariants as leaving
-use Rattle.rh_server.specs.declared.state.Stage.{Stage}
 use Rattle.rh_server.specs.declared.state.Stage.TheVariants as stage
-use Rattle.rh_server.specs.declared.state.Tells.{Tells}
 use Rattle.rh_server.specs.declared.state.Tells.TheVariants as tells
-use Rattle.rh_server.specs.States.{has_left, is_fresh, in_place, removed_at, set_at}
-use Rattle.rh_server.specs.Opening.{in_leg_up}
-use Rattle.law_moves.specs.Moves.{OnLeg}
-use Rattle.law_role_server.specs.Counted.Counting.{is_conn_b2, is_in_r1_a2, is_in_r1_a6}
+use Rattle.law_moves.proofs.Vocabulary.{same_number, test_same, test_other, Cookie, InServer, Message, OnLeg}
+use Rattle.law_role_server.proofs.Vocabulary.{Put, InLeg, InStage, Leaving, Stage, Tells, has_left, is_fresh, in_place, removed_at, set_at, in_leg_up, is_conn_b2, is_in_r1_a2, is_in_r1_a6}
 use Rattle.law_role_server.proofs.Numbered.{Absent, Once, absent_at, absent_push, absent_removed, absent_set, once_at, once_first, once_map, once_push, once_removed, once_set}
-use Rattle.law_role_server_rows.specs.Putting.Copying.{Begins, CameAt}
+use Rattle.law_role_server.proofs.TakesKept.{has_begun as is_begun}
 use Rattle.law_role_server_rows.proofs.Putting.Each.{came_more}
-use Rattle.law_role_server_rows.specs.InTurn.Answers.{Came, AnswersOn}
 use Rattle.law_role_server_rows.proofs.InTurn.InLogs.{Base, Written, answers_so, came_so, written_so}
 use Rattle.law_role_server_rows.proofs.InTurn.InPlaces.{Found, Placed, placed}
 use Rattle.law_role_server_rows.proofs.InTurn.InView.{InView}
 use Rattle.law_role_server_rows.proofs.InTurn.Quiet.{is_opening}
-
--- CONN/B2 came
-abbrev pub is_begun : Stage → Bool
-is_begun stage.Waits = false
-is_begun (stage.OutCame connection) = false
-is_begun (stage.InCame connection window timeout) = true
-is_begun (stage.Open connection) = true
-is_begun stage.Ended = true
+use Rattle.law_role_server_rows.specs.Putting.Copying.{Begins, CameAt}
+use Rattle.law_role_server_rows.specs.InTurn.Answers.{Came, AnswersOn}
 
 pub begun_if : (x : Stage) → is_opening x ≡ false → is_begun x ≡ true
 begun_if stage.Waits e = absurd (true≢false e)

@@ -1,21 +1,11 @@
 -- what was put on an is leg, and a message more
-use Rattle.std.proofs.Common.{◌≡◌, ◌⊎◌, ℕ, suc, ◌+◌, ◌≤◌, List, [], ◌∷◌, ◌++◌, Bool, true, false, inl, inr, arith, refl, sym, ap, ◌∙◌, subst}
-use Rattle.std.specs.List.{AllByRecursion}
-use Rattle.rh_rts.specs.declared.command.Cookie.{Cookie}
-use Rattle.rh_sig.specs.declared.named.Named.{Named}
+use Rattle.law_order.proofs.Vocabulary.{◌≡◌, ◌⊎◌, ℕ, suc, ◌+◌, ◌≤◌, List, [], ◌∷◌, ◌++◌, Bool, true, false, inl, inr, arith, refl, sym, ap, ◌∙◌, subst, AllByRecursion}
 use Rattle.rh_sig.specs.declared.named.Named.TheVariants as named
-use Rattle.rh_line.specs.declared.leg.LegKind.TheVariants.{InServer}
-use Rattle.rh_shell.specs.Hearing.{greeting as greeting_text}
-use Rattle.rh_shell.specs.Rules.{Message, Text, Packet}
-use Rattle.rh_server.specs.declared.state.Greeting.{Greeting}
-use Rattle.rh_server.specs.declared.state.Greeting.TheVariants.{Due, Put}
-use Rattle.law_moves.specs.Moves.{OnLeg}
-use Rattle.law_moves.specs.Wires.{of_leg}
-use Rattle.law_moves.specs.Passages.Passing.{Has, count_of}
-use Rattle.law_moves.proofs.Passages.Messages.{all_append, count_append, leg_more}
-use Rattle.law_role_server.specs.Counted.Counting.{is_conn_b2, is_conn_b3, is_in_r1_a2, is_in_r1_a6, leg_at, often_at}
-use Rattle.law_role_server_rows.specs.Putting.Copying.{Begins, CameAt}
+use Rattle.law_moves.proofs.Vocabulary.{Cookie, Named, InServer, greeting as greeting_text, Message, Text, Packet, OnLeg, of_leg, Has, count_of}
+use Rattle.law_moves.proofs.Lemmas.{all_append, count_append, leg_more}
+use Rattle.law_role_server.proofs.Vocabulary.{Greeting, Due, Put, is_conn_b2, is_conn_b3, is_in_r1_a2, is_in_r1_a6, leg_at, often_at}
 use Rattle.law_role_server_rows.proofs.Putting.Each.{came_more}
+use Rattle.law_role_server_rows.specs.Putting.Copying.{Begins, CameAt}
 use Rattle.law_role_server_rows.specs.InTurn.Answers.{Came, TellsAt, AcksAt, LeavesAt, AcksOn, TellsOn, AnswersOn, is_in_r1_b1, is_in_r1_b2}
 
 -- ---- how far it is

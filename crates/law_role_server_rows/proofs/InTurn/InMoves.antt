@@ -1,34 +1,10 @@
 -- a server's moves keep what it knows of its is legs
-use Rattle.std.proofs.Common.{◌≡◌, ℕ, ◌+◌, ◌==◌, ◌&&◌, Bool, true, false, List, [], ◌∷◌, Some, None, Ok, Err, refl, rules, subst}
-use Rattle.std.proofs.lemmas.Bool.{false≢true, and_parts}
-use Rattle.std.specs.Prelude.{IfSome, IsTrue}
-use Rattle.std.specs.declared.option.Option.{Option}
-use Rattle.std.specs.declared.result.Result.{Result}
-use Rattle.law_order.proofs.ByNumber.{by_test, same_number}
-use Rattle.rh_rts.specs.declared.command.Cookie.{Cookie}
-use Rattle.rh_line.specs.Lines.{after_take}
-use Rattle.rh_line.specs.declared.leg.Leg.{Leg}
-use Rattle.rh_line.specs.declared.leg.LegKind.{LegKind}
-use Rattle.rh_line.specs.declared.leg.LegKind.TheVariants.{ClientOut, OutServer, ClientIn, InServer}
-use Rattle.rh_shell.specs.declared.end_role.GiveRefused.{GiveRefused}
-use Rattle.rh_shell.specs.Rules.{Message, Pdu, Packet, Row}
-use Rattle.rh_server.specs.declared.state.InLeg.{InLeg}
-use Rattle.rh_server.specs.declared.state.Leaving.{Leaving}
+use Rattle.law_order.proofs.Vocabulary.{◌≡◌, ℕ, ◌+◌, ◌==◌, ◌&&◌, Bool, true, false, List, [], ◌∷◌, Some, None, Ok, Err, refl, rules, subst, false≢true, and_parts, IfSome, IsTrue, Option, Result}
 use Rattle.rh_server.specs.declared.state.Leaving.TheVariants as leaving
-use Rattle.rh_server.specs.States.{Server, has_left, is_waiting, stays, in_leg, in_place, with_in, without_in, without_out}
-use Rattle.rh_server.specs.Opening.{has_room, may_up_by, up, up_by}
-use Rattle.rh_server.specs.InReplacement.{take}
-use Rattle.rh_server.specs.OutReplacement.{recycle}
-use Rattle.rh_server.specs.Ending.{give, settled, in_is_drawn, drawn_by, lost_in, mark_by, with_ack_dropped}
-use Rattle.rh_server.specs.Putting.{Pick}
-use Rattle.rh_server.specs.Servers.{acts, first}
-use Rattle.rh_server.specs.Servers.{rules as server_rules}
-use Rattle.law_moves.proofs.Passages.Logs.{RowKeeps, PutKeeps}
-use Rattle.law_moves.specs.Moves.{OnLeg, Move, Up, HeadCame, PduCame, PacketCame, Puts, IsDrawn, Marks, Pings, MayMove, Passage, EndMove, Moves, Gives, Takes, Closes, Recycles, EndPassage, MayEndMove, AreAllowedAtEnd, is_at_work, is_in_use, moved, taken_by, put_by, end_moved, end_now_at, end_started, given_by, with_first, all_end_moved}
-use Rattle.law_moves.specs.Wires.{of_leg}
-use Rattle.law_role_server.specs.Counted.Counting.{leg_at}
-use Rattle.law_role_server_rows.specs.Putting.Greeting.{is}
-use Rattle.law_role_server_rows.specs.InTurn.Answers.{AnswersOn, AnswersInOrder}
+use Rattle.law_moves.proofs.Vocabulary.{by_test, same_number, Cookie, after_take, Leg, LegKind, ClientOut, OutServer, ClientIn, InServer, GiveRefused, Message, Pdu, Packet, Row, OnLeg, Move, Up, HeadCame, PduCame, PacketCame, Puts, IsDrawn, Marks, Pings, MayMove, Passage, EndMove, Moves, Gives, Takes, Closes, Recycles, EndPassage, MayEndMove, AreAllowedAtEnd, is_at_work, is_in_use, moved, taken_by, put_by, end_moved, end_now_at, end_started, given_by, with_first}
+use Rattle.law_moves.proofs.Vocabulary.{all_end_moved, of_leg}
+use Rattle.law_moves.proofs.Lemmas.{RowKeeps, PutKeeps}
+use Rattle.law_role_server.proofs.Vocabulary.{InLeg, Leaving, Server, has_left, is_waiting, stays, in_leg, in_place, with_in, without_in, without_out, has_room, may_up_by, up, up_by, take, recycle, give, settled, in_is_drawn, drawn_by, lost_in, mark_by, with_ack_dropped, Pick, acts, first, rules as server_rules, leg_at}
 use Rattle.law_role_server_rows.proofs.InTurn.InView.{view}
 use Rattle.law_role_server_rows.proofs.InTurn.InLogs.{Written, answers_begun, answers_for, answers_tell, leaves_for, leaves_once}
 use Rattle.law_role_server_rows.proofs.InTurn.InPlaces.{Found, found_at}
@@ -38,6 +14,8 @@ use Rattle.law_role_server_rows.proofs.InTurn.InTakes.{Holds, packet_row, pdu_ro
 use Rattle.law_role_server_rows.proofs.InTurn.InPuts.{puts, settled_fine}
 use Rattle.law_role_server_rows.proofs.InTurn.Quiet.{is_opening, quiet_opening, Quiet}
 use Rattle.law_role_server_rows.proofs.InTurn.Reaching.{reached_keep}
+use Rattle.law_role_server_rows.specs.Putting.Greeting.{is}
+use Rattle.law_role_server_rows.specs.InTurn.Answers.{AnswersOn, AnswersInOrder}
 
 give_same : (s : Server) (bytes : List ℕ) → view (give s bytes).0 ≡ view s
 give_same s bytes = search rules

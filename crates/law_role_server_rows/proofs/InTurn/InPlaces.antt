@@ -1,12 +1,7 @@
 -- the place of an is leg that is kept
-use Rattle.std.proofs.Common.{◌≡◌, ℕ, zero, suc, ◌+◌, ◌<◌, ◌==◌, cond, nat_lt, not, Bool, true, false, List, [], ◌∷◌, length, Some, None, arith, refl, sym, ap, ◌∙◌, subst}
-use Rattle.std.proofs.lemmas.Bool.Decides.{nat_tests}
-use Rattle.std.specs.Prelude.{IfSome, slice_get}
-use Rattle.std.specs.List.{position_or_len}
-use Rattle.std.specs.declared.option.Option.{Option}
-use Rattle.law_order.proofs.ByNumber.{test_same}
-use Rattle.rh_server.specs.declared.state.InLeg.{InLeg}
-use Rattle.rh_server.specs.States.{in_at, in_place}
+use Rattle.law_order.proofs.Vocabulary.{◌≡◌, ℕ, zero, suc, ◌+◌, ◌<◌, ◌==◌, cond, nat_lt, not, Bool, true, false, List, [], ◌∷◌, length, Some, None, arith, refl, sym, ap, ◌∙◌, subst, nat_tests, IfSome, slice_get, position_or_len, Option}
+use Rattle.law_moves.proofs.Vocabulary.{test_same}
+use Rattle.law_role_server.proofs.Vocabulary.{InLeg, in_at, in_place}
 use Rattle.law_role_server_rows.proofs.Putting.Each.{number_found}
 
 pub record Found (legs : List InLeg) (leg : InLeg) : Type 0 where
@@ -29,12 +24,12 @@ pub record Placed (legs : List InLeg) (number : ℕ) : Type 0 where
   pub at : slice_get legs place ≡ Some leg
   pub same : leg.number ≡ number
 
-there_is : (legs : List InLeg) (place : ℕ) → place < length legs → slice_get legs place ≡ None → ⊥
+pub there_is : (legs : List InLeg) (place : ℕ) → place < length legs → slice_get legs place ≡ None → ⊥
 there_is [] place less e = absurd (omega (arith, less))
 there_is (x ∷ legs) zero less e = absurd (cc)
 there_is (x ∷ legs) (suc place) less e = there_is legs place (omega (arith, less)) e
 
-less_so : (test : InLeg → Bool) (legs : List InLeg) (i : ℕ) (leg : InLeg)
+pub less_so : (test : InLeg → Bool) (legs : List InLeg) (i : ℕ) (leg : InLeg)
     → slice_get legs i ≡ Some leg → test leg ≡ true → position_or_len test legs < length legs
 less_so test [] i leg at passes = absurd (cc)
 less_so test (x ∷ legs) zero leg at passes =

@@ -1,55 +1,27 @@
 -- what a server puts keeps what it knows of its is legs
-use Rattle.std.proofs.Common.{◌≡◌, ℕ, ◌==◌, ◌&&◌, Bool, true, false, not, List, [], ◌∷◌, ◌++◌, Some, None, refl, rules, sym, ap, ◌∙◌, subst}
-use Rattle.std.proofs.lemmas.Bool.{false≢true, true≢false, and_parts, or_parts}
-use Rattle.std.proofs.lemmas.List.{append-nil}
-use Rattle.std.specs.Prelude.{IfSome, slice_get}
-use Rattle.std.specs.declared.option.Option.{Option}
-use Rattle.rh_window.specs.declared.recv_window.Ack.{Ack}
-use Rattle.law_order.proofs.ByNumber.{by_test, same_number, test_same, other_number}
-use Rattle.rh_rts.specs.declared.command.Cookie.{Cookie}
+use Rattle.law_order.proofs.Vocabulary.{◌≡◌, ℕ, ◌==◌, ◌&&◌, Bool, true, false, not, List, [], ◌∷◌, ◌++◌, Some, None, refl, rules, sym, ap, ◌∙◌, subst, false≢true, true≢false, and_parts, or_parts, append-nil, IfSome, slice_get, Option}
 use Rattle.rh_sig.specs.declared.named.Named.TheVariants as named
-use Rattle.rh_line.specs.Lines.{after_tell, after_told, due}
-use Rattle.rh_line.specs.declared.leg.LegKind.{LegKind}
-use Rattle.rh_line.specs.declared.leg.LegKind.TheVariants.{ClientOut, OutServer, ClientIn, InServer}
-use Rattle.rh_line.specs.declared.which.Which.TheVariants.{Current}
-use Rattle.rh_shell.specs.Hearing.{greeting as greeting_text}
-use Rattle.rh_shell.specs.NearEnds.{is_ended}
-use Rattle.rh_shell.specs.Rules.{Message, Text, Packet}
-use Rattle.rh_server.specs.declared.state.Edge.TheVariants.{Told}
-use Rattle.rh_server.specs.declared.state.Greeting.{Greeting}
-use Rattle.rh_server.specs.declared.state.Greeting.TheVariants.{Due, Put}
-use Rattle.rh_server.specs.declared.state.InLeg.{InLeg}
-use Rattle.rh_server.specs.declared.state.InStage.{InStage}
 use Rattle.rh_server.specs.declared.state.InStage.TheVariants as in_stage
-use Rattle.rh_server.specs.declared.state.Leaving.{Leaving}
 use Rattle.rh_server.specs.declared.state.Leaving.TheVariants as leaving
-use Rattle.rh_server.specs.declared.state.OutLeg.{OutLeg}
-use Rattle.rh_server.specs.declared.state.Stage.{Stage}
 use Rattle.rh_server.specs.declared.state.Stage.TheVariants as stage
-use Rattle.rh_server.specs.declared.state.Tells.{Tells}
 use Rattle.rh_server.specs.declared.state.Tells.TheVariants as tells
-use Rattle.rh_server.specs.States.{Server, has_left, is_due, is_open, is_shut, phase_of, stays, in_leg, in_place, out_place, with_in}
-use Rattle.rh_server.specs.OutReplacement.{wished}
-use Rattle.rh_server.specs.Ending.{completed, is_complete, settled}
-use Rattle.rh_server.specs.Putting.{Pick, or_else, told_by, was_current, put_tells_by, put_tells, put_b1_by, put_b1, ack_due, put_ack_by, put_ack, put_in_by, out_greeting_at, put_out_greeting, next_out, settled_pick, put_open, put_out_at, put_by as put_by_kind}
-use Rattle.rh_server.specs.Servers.{rules as server_rules}
-use Rattle.law_moves.proofs.Passages.Logs.{PutKeeps}
-use Rattle.law_moves.proofs.Passages.Messages.{leg_more}
-use Rattle.law_moves.specs.Moves.{OnLeg, is_at_work}
-use Rattle.law_moves.specs.Wires.{of_leg}
-use Rattle.law_role_server.specs.Counted.Counting.{leg_at}
+use Rattle.law_moves.proofs.Vocabulary.{Ack, by_test, same_number, test_same, other_number, Cookie, after_tell, after_told, due, LegKind, ClientOut, OutServer, ClientIn, InServer, Current, greeting as greeting_text, is_ended, Message, Text, Packet, OnLeg, is_at_work, of_leg}
+use Rattle.law_moves.proofs.Lemmas.{PutKeeps, leg_more}
+use Rattle.law_role_server.proofs.Vocabulary.{Told, Greeting, Due, Put, InLeg, InStage, Leaving, OutLeg, Stage, Tells, Server, has_left, is_due, is_open, is_shut, phase_of, stays, in_leg, in_place, out_place, with_in, wished, completed, is_complete, settled, Pick, or_else, told_by, was_current, put_tells_by, put_tells, put_b1_by, put_b1, ack_due, put_ack_by, put_ack, put_in_by, out_greeting_at, put_out_greeting, next_out, settled_pick, put_open, put_out_at}
+use Rattle.law_role_server.proofs.Vocabulary.{put_by as put_by_kind, rules as server_rules, leg_at}
 use Rattle.law_role_server.proofs.Numbered.{once_map}
-use Rattle.law_role_server_rows.specs.Putting.Copying.{Begins, CameAt}
-use Rattle.law_role_server_rows.specs.Putting.Greeting.{is}
+use Rattle.law_role_server.proofs.TakesKept.{has_begun as is_begun}
 use Rattle.law_role_server_rows.proofs.Putting.Each.{number_found}
-use Rattle.law_role_server_rows.specs.InTurn.Answers.{AcksAt, AnswersOn, TellsAt}
 use Rattle.law_role_server_rows.proofs.InTurn.InView.{Alone, view, out_alone}
 use Rattle.law_role_server_rows.proofs.InTurn.InLogs.{Base, IsTold, Written, acked, base_answers, greeted, left, told, told_answers}
 use Rattle.law_role_server_rows.proofs.InTurn.InPlaces.{Found, found_at}
-use Rattle.law_role_server_rows.proofs.InTurn.InKept.{is_begun, is_opened, is_nothing, is_told, BegunBy, Kept, LeavesBy, So, TellsBy, Top, begun_if, leg_at_place, number_of, put_kept, set_kept, top_of}
+use Rattle.law_role_server_rows.proofs.InTurn.InKept.{is_opened, is_nothing, is_told, BegunBy, Kept, LeavesBy, So, TellsBy, Top, begun_if, leg_at_place, number_of, put_kept, set_kept, top_of}
 use Rattle.law_role_server_rows.proofs.InTurn.InRows.{Alive, Fine, same_fine, stage_fine}
 use Rattle.law_role_server_rows.proofs.InTurn.InTakes.{Holds}
 use Rattle.law_role_server_rows.proofs.InTurn.Quiet.{is_opening, no_ack, Quiet}
+use Rattle.law_role_server_rows.specs.Putting.Copying.{Begins, CameAt}
+use Rattle.law_role_server_rows.specs.Putting.Greeting.{is}
+use Rattle.law_role_server_rows.specs.InTurn.Answers.{AcksAt, AnswersOn, TellsAt}
 
 due_is : (g : Greeting) → is_due g ≡ true → g ≡ Due
 due_is Due e = refl
@@ -68,7 +40,7 @@ opening_if (stage.InCame connection window timeout) work shut = refl
 opening_if (stage.Open connection) work shut = absurd (true≢false shut)
 opening_if stage.Ended work shut = absurd (false≢true work)
 
-open_begun : (x : Stage) → is_open x ≡ true → true ≡ is_begun x
+pub open_begun : (x : Stage) → is_open x ≡ true → true ≡ is_begun x
 open_begun stage.Waits e = absurd (false≢true e)
 open_begun (stage.OutCame connection) e = absurd (false≢true e)
 open_begun (stage.InCame connection window timeout) e = absurd (false≢true e)

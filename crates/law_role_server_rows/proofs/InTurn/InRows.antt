@@ -1,44 +1,23 @@
 -- a server's rows keep what it knows of its is legs
-use Rattle.std.proofs.Common.{◌≡◌, ℕ, ◌+◌, ◌&&◌, ◌||◌, Bool, true, false, not, if◌then◌else◌, List, [], ◌∷◌, ◌++◌, Some, None, arith, refl, sym, ap, ◌∙◌, subst}
-use Rattle.std.proofs.lemmas.Bool.{false≢true, true≢false}
-use Rattle.std.specs.Prelude.{IfSome, IsTrue}
-use Rattle.std.specs.declared.option.Option.{Option}
-use Rattle.law_order.proofs.ByNumber.{by_test}
-use Rattle.rh_rts.specs.declared.command.Cookie.{Cookie}
-use Rattle.rh_sig.specs.declared.named.Named.{Named}
-use Rattle.rh_line.specs.declared.leg.LegKind.TheVariants.{InServer}
-use Rattle.rh_shell.specs.Rules.{Message, Packet}
-use Rattle.rh_server.specs.declared.state.Edge.TheVariants.{Shut}
-use Rattle.rh_server.specs.declared.state.InLeg.{InLeg}
-use Rattle.rh_server.specs.declared.state.InStage.{InStage}
+use Rattle.law_order.proofs.Vocabulary.{◌≡◌, ℕ, ◌+◌, ◌&&◌, ◌||◌, Bool, true, false, not, if◌then◌else◌, List, [], ◌∷◌, ◌++◌, Some, None, arith, refl, sym, ap, ◌∙◌, subst, false≢true, true≢false, IfSome, IsTrue, Option}
 use Rattle.rh_server.specs.declared.state.InStage.TheVariants as in_stage
-use Rattle.rh_server.specs.declared.state.Leaving.{Leaving}
 use Rattle.rh_server.specs.declared.state.Leaving.TheVariants as leaving
-use Rattle.rh_server.specs.declared.state.Stage.{Stage}
-use Rattle.rh_server.specs.declared.state.Tells.{Tells}
 use Rattle.rh_server.specs.declared.state.Tells.TheVariants as tells
 use Rattle.rh_server.specs.declared.out_line.Kind.TheVariants as kinds
-use Rattle.rh_server.specs.OutLines.{waits}
-use Rattle.rh_server.specs.States.{Server, has_left, is_fresh, is_lost, in_leg, with_in}
-use Rattle.rh_server.specs.Opening.{first_in}
-use Rattle.rh_server.specs.InReplacement.{opens_next, opens_leg, first_waiting, waiting_place, next_opened, becomes_current, moved_if, announced}
-use Rattle.rh_server.specs.Ending.{in_is_done}
-use Rattle.rh_server.specs.Servers.{rules as server_rules}
-use Rattle.law_moves.specs.Passages.Passing.{count_of}
-use Rattle.law_moves.proofs.Passages.Messages.{count_append, leg_more}
-use Rattle.law_moves.specs.Moves.{OnLeg, is_at_work, is_in_use}
-use Rattle.law_moves.specs.Wires.{of_leg}
-use Rattle.law_role_server.specs.Counted.Counting.{is_conn_b2, is_in_r1_a2, is_in_r1_a6, leg_at, often_at}
-use Rattle.law_role_server_rows.specs.Putting.Copying.{Begins, CameAt}
+use Rattle.law_moves.proofs.Vocabulary.{by_test, Cookie, Named, InServer, Message, Packet, count_of, OnLeg, is_at_work, is_in_use, of_leg}
+use Rattle.law_moves.proofs.Lemmas.{count_append, leg_more}
+use Rattle.law_role_server.proofs.Vocabulary.{Shut, InLeg, InStage, Leaving, Stage, Tells, waits, Server, has_left, is_fresh, is_lost, in_leg, with_in, first_in, opens_next, opens_leg, first_waiting, waiting_place, next_opened, becomes_current, moved_if, announced, in_is_done, rules as server_rules, is_conn_b2, is_in_r1_a2, is_in_r1_a6, leg_at, often_at}
+use Rattle.law_role_server.proofs.TakesKept.{has_begun as is_begun}
 use Rattle.law_role_server_rows.proofs.Putting.Each.{came_last, has_one, own_leg}
-use Rattle.law_role_server_rows.specs.InTurn.Answers.{Came}
 use Rattle.law_role_server_rows.proofs.InTurn.InView.{InView, view, view_at}
 use Rattle.law_role_server_rows.proofs.InTurn.InPlaces.{Found, found_at}
 use Rattle.law_role_server_rows.proofs.InTurn.InLogs.{Written}
-use Rattle.law_role_server_rows.proofs.InTurn.InKept.{is_begun, is_opened, is_nothing, is_told, Top, top_of, BegunBy, TellsBy, LeavesBy, So, Kept, leaves_on, top_kept, stage_kept, set_kept}
+use Rattle.law_role_server_rows.proofs.InTurn.InKept.{is_opened, is_nothing, is_told, Top, top_of, BegunBy, TellsBy, LeavesBy, So, Kept, leaves_on, top_kept, stage_kept, set_kept}
 use Rattle.law_role_server_rows.proofs.InTurn.Quiet.{is_opening}
+use Rattle.law_role_server_rows.specs.Putting.Copying.{Begins, CameAt}
+use Rattle.law_role_server_rows.specs.InTurn.Answers.{Came}
 
-fresh_unopened : (x : InStage) → is_fresh x ≡ true → is_opened x ≡ false
+pub fresh_unopened : (x : InStage) → is_fresh x ≡ true → is_opened x ≡ false
 fresh_unopened in_stage.Fresh e = refl
 fresh_unopened (in_stage.Waits window timeout ended) e = refl
 fresh_unopened in_stage.Opened e = absurd (false≢true e)

@@ -1,48 +1,25 @@
 -- what a server takes keeps what it knows of its is legs
-use Rattle.std.proofs.Common.{◌≡◌, ℕ, ◌+◌, ◌==◌, ◌&&◌, Bool, true, false, not, if◌then◌else◌, List, [], ◌∷◌, ◌++◌, Some, None, Ok, Err, refl, rules, sym, ap, ◌∙◌, subst}
-use Rattle.std.proofs.lemmas.Bool.{false≢true, true≢false, and_parts, not-false}
-use Rattle.std.specs.Prelude.{IfSome}
-use Rattle.std.specs.declared.option.Option.{Option}
-use Rattle.law_order.proofs.ByNumber.{by_test, same_number}
-use Rattle.rh_rts.specs.declared.command.Cookie.{Cookie}
-use Rattle.rh_sig.specs.declared.named.Named.{Named}
+use Rattle.law_order.proofs.Vocabulary.{◌≡◌, ℕ, ◌+◌, ◌==◌, ◌&&◌, Bool, true, false, not, if◌then◌else◌, List, [], ◌∷◌, ◌++◌, Some, None, Ok, Err, refl, rules, sym, ap, ◌∙◌, subst, false≢true, true≢false, and_parts, not-false, IfSome, Option}
 use Rattle.rh_sig.specs.declared.named.Named.TheVariants as named
-use Rattle.rh_line.specs.Lines.{after_finish}
-use Rattle.rh_line.specs.declared.leg.Leg.{Leg}
-use Rattle.rh_line.specs.declared.leg.LegKind.{LegKind}
-use Rattle.rh_line.specs.declared.leg.LegKind.TheVariants.{ClientOut, OutServer, ClientIn, InServer}
-use Rattle.rh_line.specs.declared.which.Which.{Which}
-use Rattle.rh_line.specs.declared.which.Which.TheVariants.{Current, Next}
-use Rattle.rh_shell.specs.declared.answers.Count.{Count}
 use Rattle.rh_shell.specs.declared.answers.Refused.TheVariants as refused
-use Rattle.rh_shell.specs.Rules.{Pdu, Packet}
-use Rattle.rh_shell.specs.Waiting.{Waiting, forwarded, takes}
-use Rattle.rh_server.specs.declared.state.InLeg.{InLeg}
-use Rattle.rh_server.specs.declared.state.InStage.{InStage}
+use Rattle.rh_server.specs.Servers.{pdu_by}
 use Rattle.rh_server.specs.declared.state.InStage.TheVariants as in_stage
-use Rattle.rh_server.specs.declared.state.Stage.{Stage}
 use Rattle.rh_server.specs.declared.state.Stage.TheVariants as stage
 use Rattle.rh_server.specs.declared.out_line.Kind.TheVariants as kinds
-use Rattle.rh_server.specs.OutLines.{has, waits}
-use Rattle.rh_server.specs.States.{Server, is_fresh, same_cookie, in_leg, in_place}
-use Rattle.rh_server.specs.Opening.{Done, took, refuse, unexpected, is_first, opens, with_first_in, with_first_out, conn_a2_at, on_conn_a2, conn_b2_at, on_conn_b2}
-use Rattle.rh_server.specs.Acknowledging.{channel_at, channel_leg, forward_by, forwards, forwards_to, forwards_writing, is_full, on_ack_to, out_server}
-use Rattle.rh_server.specs.InReplacement.{announced, in_r1_a2_by, in_r1_a2_at, on_in_r1_a2, leaves_by, leaves, hands_over, on_in_r1_a6, in_r2_a2_on, on_in_r2_a2}
-use Rattle.rh_server.specs.Ending.{end_a2_on_leg, end_a2_waiting, is_over_on, end_a2_at, on_end_a2}
-use Rattle.rh_server.specs.Servers.{on_is, on_os, packet_by, pdu_by}
-use Rattle.law_moves.proofs.Passages.Logs.{RowKeeps}
-use Rattle.law_moves.specs.Moves.{OnLeg}
-use Rattle.law_moves.specs.Wires.{of_leg}
-use Rattle.law_role_server.specs.Counted.Counting.{is_conn_b2, is_in_r1_a2, is_in_r1_a6, leg_at}
-use Rattle.law_role_server_rows.specs.Putting.Copying.{Begins, CameAt}
-use Rattle.law_role_server_rows.specs.Putting.Greeting.{is}
+use Rattle.law_moves.proofs.Vocabulary.{by_test, same_number, Cookie, Named, after_finish, Leg, LegKind, ClientOut, OutServer, ClientIn, InServer, Which, Current, Next, Count, Pdu, Packet, Waiting, forwarded, takes, OnLeg, of_leg}
+use Rattle.law_moves.proofs.Lemmas.{RowKeeps}
+use Rattle.law_role_server.proofs.Vocabulary.{InLeg, InStage, Stage, has, waits, Server, is_fresh, same_cookie, in_leg, in_place, Done, took, refuse, unexpected, is_first, opens, with_first_in, with_first_out, conn_a2_at, on_conn_a2, conn_b2_at, on_conn_b2, channel_at, channel_leg, forward_by, forwards, forwards_to, forwards_writing, is_full, on_ack_to, out_server, announced, in_r1_a2_by, in_r1_a2_at, on_in_r1_a2, leaves_by, leaves, hands_over, on_in_r1_a6, in_r2_a2_on}
+use Rattle.law_role_server.proofs.Vocabulary.{on_in_r2_a2, end_a2_on_leg, end_a2_waiting, is_over_on, end_a2_at, on_end_a2, on_is, on_os, packet_by, is_conn_b2, is_in_r1_a2, is_in_r1_a6, leg_at}
+use Rattle.law_role_server.proofs.TakesKept.{has_begun as is_begun}
 use Rattle.law_role_server_rows.proofs.Putting.Each.{number_found}
-use Rattle.law_role_server_rows.specs.InTurn.Answers.{Came}
 use Rattle.law_role_server_rows.proofs.InTurn.InView.{view, view_at}
 use Rattle.law_role_server_rows.proofs.InTurn.InPlaces.{Found, found_at}
-use Rattle.law_role_server_rows.proofs.InTurn.InKept.{is_begun, is_opened, Kept, begun_if, top_of, BegunBy, more_kept, newer_kept, set_kept}
+use Rattle.law_role_server_rows.proofs.InTurn.InKept.{is_opened, Kept, begun_if, top_of, BegunBy, more_kept, newer_kept, set_kept}
 use Rattle.law_role_server_rows.proofs.InTurn.InRows.{Alive, Fine, announces, begins_now, came_now, first_fine, leaves_fine, moved_fine, same_fine, stage_fine, waits_so}
 use Rattle.law_role_server_rows.proofs.InTurn.Quiet.{is_opening, Quiet}
+use Rattle.law_role_server_rows.specs.Putting.Copying.{Begins, CameAt}
+use Rattle.law_role_server_rows.specs.Putting.Greeting.{is}
+use Rattle.law_role_server_rows.specs.InTurn.Answers.{Came}
 
 out_view : (s : Server) (new : Stage) (b : Cookie) (c d : ℕ)
     → view_at new (with_first_out s b c d) ≡ view_at new s

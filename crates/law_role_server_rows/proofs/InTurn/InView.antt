@@ -1,21 +1,10 @@
 -- what the laws of is legs are about, which a put on an os leg leaves alone
-use Rattle.std.proofs.Common.{◌≡◌, ℕ, ◌==◌, ◌&&◌, List, Some, None, refl, rules}
-use Rattle.std.specs.Prelude.{IfSome, slice_get}
-use Rattle.std.specs.declared.option.Option.{Option}
-use Rattle.law_order.proofs.ByNumber.{by_test}
-use Rattle.rh_sig.specs.declared.named.Named.{Named}
+use Rattle.law_order.proofs.Vocabulary.{◌≡◌, ℕ, ◌==◌, ◌&&◌, List, Some, None, refl, rules, IfSome, slice_get, Option}
 use Rattle.rh_sig.specs.declared.named.Named.TheVariants as named
-use Rattle.rh_line.specs.Queue.{front_length}
-use Rattle.rh_shell.specs.declared.due.Due.{Due}
-use Rattle.rh_shell.specs.Rules.{Message, Packet}
-use Rattle.rh_shell.specs.Waiting.{Waiting, taken}
-use Rattle.rh_server.specs.declared.state.EndMark.TheVariants as end_mark
 use Rattle.rh_server.specs.declared.state.InChannel.{InChannel}
-use Rattle.rh_server.specs.declared.state.InLeg.{InLeg}
-use Rattle.rh_server.specs.declared.state.Stage.{Stage}
-use Rattle.rh_server.specs.OutLines.{Gate, lets, length_of}
-use Rattle.rh_server.specs.States.{Server}
-use Rattle.rh_server.specs.Putting.{Pick, or_else, gate_at, counts, was_put, waiting_by, waiting_at, put_waiting, may_go_at, pdu_by, put_pdu, is_end_due, may_end_at, put_end, put_pdu_or_end, next_out}
+use Rattle.rh_server.specs.declared.state.EndMark.TheVariants as end_mark
+use Rattle.law_moves.proofs.Vocabulary.{by_test, Named, front_length, Due, Message, Packet, Waiting, taken}
+use Rattle.law_role_server.proofs.Vocabulary.{InLeg, Stage, Gate, lets, length_of, Server, Pick, or_else, gate_at, counts, was_put, waiting_by, waiting_at, put_waiting, may_go_at, pdu_by, put_pdu, is_end_due, may_end_at, put_end, put_pdu_or_end, next_out}
 
 pub record InView : Type 0 where
   pub at : Stage

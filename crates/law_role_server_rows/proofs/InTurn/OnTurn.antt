@@ -1,24 +1,13 @@
 -- what stands on an os leg whose turn it is not, and behind END/B1
-use Rattle.std.proofs.Common.{◌≡◌, ◌⊎◌, ℕ, suc, ◌+◌, ◌<◌, ◌≤◌, ◌==◌, List, [], ◌∷◌, ◌++◌, Bool, true, false, true≢false, if◌then◌else◌, inl, inr, arith, refl, sym, ap, ◌∙◌, subst}
-use Rattle.std.specs.List.{AllByRecursion}
-use Rattle.law_order.proofs.ByNumber.{by_test}
-use Rattle.rh_sig.specs.declared.named.Named.{Named}
+use Rattle.law_order.proofs.Vocabulary.{◌≡◌, ◌⊎◌, ℕ, suc, ◌+◌, ◌<◌, ◌≤◌, ◌==◌, List, [], ◌∷◌, ◌++◌, Bool, true, false, true≢false, if◌then◌else◌, inl, inr, arith, refl, sym, ap, ◌∙◌, subst, AllByRecursion}
 use Rattle.rh_sig.specs.declared.named.Named.TheVariants as named
-use Rattle.rh_line.specs.declared.leg.Leg.{Leg}
-use Rattle.rh_line.specs.declared.leg.LegKind.TheVariants.{OutServer, InServer}
-use Rattle.rh_shell.specs.Rules.{Message, Text, Pdu, Packet}
-use Rattle.rh_shell.specs.Shells.{is_of, same_leg}
-use Rattle.rh_server.specs.States.{Server}
-use Rattle.law_moves.specs.Moves.{OnLeg, Passage}
-use Rattle.law_moves.specs.Wires.{of_leg}
-use Rattle.law_moves.specs.Passages.Passing.{count_of, of_kind}
-use Rattle.law_moves.proofs.Passages.Messages.{count_append, count_rises}
-use Rattle.law_role_server.specs.Counted.Counting.{is_out_r1_a9, often}
-use Rattle.law_role_server.specs.Counted.BeforeC1.{MayGoBefore}
+use Rattle.law_moves.proofs.Vocabulary.{by_test, Named, Leg, OutServer, InServer, Message, Text, Pdu, Packet, is_of, same_leg, OnLeg, Passage, of_leg, count_of, of_kind}
+use Rattle.law_moves.proofs.Lemmas.{count_append, count_rises}
+use Rattle.law_role_server.proofs.Vocabulary.{Server, is_out_r1_a9, often, MayGoBefore}
+use Rattle.law_role_server_rows.proofs.InTurn.Splits.{kind_append, leg_is, split}
 use Rattle.law_role_server_rows.specs.Putting.Greeting.{IsFrame, MayGreet, GreetsFirst}
 use Rattle.law_role_server_rows.specs.Putting.Puts.{Turn, behind, behind_all, first_turn, os, Stands, StandFrom, WritesInTurn}
 use Rattle.law_role_server_rows.specs.InTurn.Channels.{IsWritten, IsToOutProxy, MayFollowEnd, WritesOnBegun}
-use Rattle.law_role_server_rows.proofs.InTurn.Splits.{kind_append, leg_is, split}
 
 abbrev out_r1_a9s : List OnLeg → ℕ
 out_r1_a9s log = often is_out_r1_a9 OutServer log

@@ -1,46 +1,20 @@
 -- an acknowledgement to an out proxy is put on the leg of its channel
-use Rattle.std.proofs.Common.{◌≡◌, ◌⊎◌, ℕ, ◌==◌, ◌&&◌, List, [], ◌∷◌, ◌++◌, Bool, true, false, if◌then◌else◌, Some, None, Ok, Err, inl, inr, refl, sym, ap, ◌∙◌, subst}
-use Rattle.std.proofs.lemmas.Bool.{false≢true}
-use Rattle.std.proofs.lemmas.Slice.Eq.{bytes_eq-Decides}
-use Rattle.std.specs.Prelude.{IfSome, slice_get, find}
-use Rattle.std.specs.List.{AllByRecursion}
-use Rattle.std.specs.Str.{bytes_eq}
-use Rattle.std.specs.declared.option.Option.{Option}
-use Rattle.std.specs.declared.result.Result.{Result}
-use Rattle.rh_keep.specs.Meters.{may_put}
-use Rattle.law_order.proofs.ByNumber.{by_test}
-use Rattle.rh_rts.specs.declared.command.Cookie.{Cookie}
-use Rattle.rh_sig.specs.declared.named.Named.{Named}
+use Rattle.law_order.proofs.Vocabulary.{◌≡◌, ◌⊎◌, ℕ, ◌==◌, ◌&&◌, List, [], ◌∷◌, ◌++◌, Bool, true, false, if◌then◌else◌, Some, None, Ok, Err, inl, inr, refl, sym, ap, ◌∙◌, subst, false≢true, bytes_eq-Decides, IfSome, slice_get, find, AllByRecursion, bytes_eq, Option, Result}
 use Rattle.rh_sig.specs.declared.named.Named.TheVariants as named
-use Rattle.rh_line.specs.Queue.{front_length}
-use Rattle.rh_line.specs.declared.leg.Leg.{Leg}
-use Rattle.rh_line.specs.declared.leg.LegKind.{LegKind}
-use Rattle.rh_line.specs.declared.leg.LegKind.TheVariants.{ClientOut, OutServer, ClientIn, InServer}
 use Rattle.rh_shell.specs.declared.answers.Count.TheVariants.{One}
 use Rattle.rh_shell.specs.declared.answers.Refused.TheVariants as refused
-use Rattle.rh_shell.specs.declared.due.Due.{Due}
-use Rattle.rh_shell.specs.declared.end_role.GiveRefused.{GiveRefused}
-use Rattle.rh_shell.specs.Rules.{Message, Pdu, Packet, Row}
-use Rattle.rh_shell.specs.Shells.{same_leg}
-use Rattle.rh_shell.specs.Waiting.{taken}
-use Rattle.rh_server.specs.declared.state.OutLeg.{OutLeg}
-use Rattle.rh_server.specs.OutLines.{lets, lets_packet}
-use Rattle.rh_server.specs.States.{Server, same_cookie, is_due, is_open, no_cookie, out_at, out_place, out_cookie, cookie_by}
-use Rattle.rh_server.specs.Acknowledging.{acked_cookie}
-use Rattle.rh_server.specs.Putting.{Pick, or_else, cookie_or_none, out_greeting_at, put_out_greeting, gate, gate_at, waiting_by, waiting_at, put_waiting, may_go_at, pdu_by, put_pdu, is_end_due, may_end_at, put_end, put_pdu_or_end, next_out, settled_pick, put_open, put_out_place, put_out_at, put_by as put_by_kind}
-use Rattle.rh_server.specs.Servers.{acts, first}
-use Rattle.rh_server.specs.Servers.{rules as server_rules}
-use Rattle.law_moves.specs.Moves.{OnLeg, Move, Up, HeadCame, PduCame, PacketCame, Puts, IsDrawn, Marks, Pings, Passage, EndMove, Moves, Gives, Takes, Closes, Recycles, EndPassage, AreAllowedAtEnd, moved, taken_by, put_by, end_moved, end_now_at, end_started, given_by, with_first, all_end_moved}
-use Rattle.law_moves.specs.Wires.{of_leg}
-use Rattle.law_moves.specs.Passages.Passing.{Has, HasOne}
-use Rattle.law_moves.proofs.Passages.Messages.{all_append, leg_more, one_more_so}
+use Rattle.law_moves.proofs.Vocabulary.{may_put, by_test, Cookie, Named, front_length, Leg, LegKind, ClientOut, OutServer, ClientIn, InServer, Due, GiveRefused, Message, Pdu, Packet, Row, same_leg, taken, OnLeg, Move, Up, HeadCame, PduCame, PacketCame, Puts, IsDrawn, Marks, Pings, Passage, EndMove, Moves, Gives, Takes, Closes, Recycles, EndPassage, AreAllowedAtEnd, moved, taken_by, put_by, end_moved, end_now_at, end_started, given_by, with_first, all_end_moved, of_leg, Has}
+use Rattle.law_moves.proofs.Vocabulary.{HasOne}
+use Rattle.law_moves.proofs.Lemmas.{all_append, leg_more, one_more_so}
+use Rattle.law_role_server.proofs.Vocabulary.{OutLeg, lets, lets_packet, Server, same_cookie, is_due, is_open, no_cookie, out_at, out_place, out_cookie, cookie_by, acked_cookie, Pick, or_else, cookie_or_none, out_greeting_at, put_out_greeting, gate, gate_at, waiting_by, waiting_at, put_waiting, may_go_at, pdu_by, put_pdu, is_end_due, may_end_at, put_end, put_pdu_or_end, next_out, settled_pick, put_open, put_out_place, put_out_at, put_by as put_by_kind, acts, first}
+use Rattle.law_role_server.proofs.Vocabulary.{rules as server_rules}
+use Rattle.law_role_server.proofs.Counted.Dues.{found_may}
+use Rattle.law_role_server_rows.proofs.InTurn.Reaching.{reached_keep}
+use Rattle.law_role_server_rows.proofs.InTurn.Splits.{leg_is}
 use Rattle.law_role_server_rows.specs.Putting.Puts.{os}
 use Rattle.law_role_server_rows.specs.Refusing.Cookies.{OpensOut, IsOutChannel}
 use Rattle.law_role_server_rows.specs.Refusing.Refusing.{RefusesFor}
 use Rattle.law_role_server_rows.specs.InTurn.Acks.{PassesOnOwn}
-use Rattle.law_role_server_rows.proofs.InTurn.Found.{found_may}
-use Rattle.law_role_server_rows.proofs.InTurn.Reaching.{reached_keep}
-use Rattle.law_role_server_rows.proofs.InTurn.Splits.{leg_is}
 
 -- ---- the cookie of an OUT channel came: a server that got another one would refuse it
 
@@ -105,13 +79,6 @@ all_owned came one ((leg, m) ∷ put) h =
 abbrev PickOwns : List OnLeg → LegKind → ℕ → Pick → Type 0
 PickOwns came kind n pick =
     IfSome pick (λ (one : Server × Message). OwnsAt came kind n one.1)
-
-other_kind : (came : List OnLeg) (kind : LegKind) (n : ℕ) (m : Message)
-    → (kind ≡ OutServer → ⊥) → OwnsAt came kind n m
-other_kind came OutServer n m other = absurd (other refl)
-other_kind came InServer n m other = tt
-other_kind came ClientIn n m other = tt
-other_kind came ClientOut n m other = tt
 
 module _ (s : Server) (came : List OnLeg) (n : ℕ)
     (knows : (cookie : Cookie) → out_cookie n s.outs ≡ Some cookie

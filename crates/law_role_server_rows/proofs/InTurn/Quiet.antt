@@ -1,46 +1,18 @@
 -- while a server opens, nothing came on its line, and no acknowledgement is due
-use Rattle.std.proofs.Common.{◌≡◌, ℕ, ◌==◌, ◌&&◌, List, [], Bool, true, false, not, nat_lt, Some, None, Ok, Err, arith, refl, rules, sym, ap, ◌∙◌, subst}
-use Rattle.std.proofs.lemmas.Bool.{false≢true, true≢false, and_parts}
-use Rattle.std.proofs.lemmas.Bool.Decides.{nat_tests}
-use Rattle.std.specs.Prelude.{IfSome, slice_get}
-use Rattle.std.specs.declared.option.Option.{Option}
-use Rattle.rh_window.specs.Sides.{Receiver}
 use Rattle.rh_window.specs.Receiving as windows
-use Rattle.rh_window.specs.declared.recv_window.Ack.{Ack}
-use Rattle.law_order.proofs.ByNumber.{by_test}
-use Rattle.rh_rts.specs.declared.command.Cookie.{Cookie}
-use Rattle.rh_sig.specs.declared.named.Named.{Named}
+use Rattle.law_order.proofs.Vocabulary.{◌≡◌, ℕ, ◌==◌, ◌&&◌, List, [], Bool, true, false, not, nat_lt, Some, None, Ok, Err, arith, refl, rules, sym, ap, ◌∙◌, subst, false≢true, true≢false, and_parts, nat_tests, IfSome, slice_get, Option}
 use Rattle.rh_sig.specs.declared.named.Named.TheVariants as named
-use Rattle.rh_line.specs.Lines.{Line, due, after_end, after_tell, after_take, taken as line_taken}
-use Rattle.rh_line.specs.declared.leg.Leg.{Leg}
-use Rattle.rh_line.specs.declared.leg.LegKind.{LegKind}
-use Rattle.rh_line.specs.declared.leg.LegKind.TheVariants.{ClientOut, OutServer, ClientIn, InServer}
-use Rattle.rh_line.specs.declared.which.Which.{Which}
-use Rattle.rh_line.specs.declared.which.Which.TheVariants.{Current, Next}
-use Rattle.rh_shell.specs.declared.answers.Count.{Count}
-use Rattle.rh_shell.specs.Rules.{Message, Pdu, Packet}
-use Rattle.rh_server.specs.declared.state.InLeg.{InLeg}
-use Rattle.rh_server.specs.declared.state.OutLeg.{OutLeg}
-use Rattle.rh_server.specs.declared.state.Edge.TheVariants.{Told}
-use Rattle.rh_server.specs.declared.state.Leaving.{Leaving}
+use Rattle.rh_line.specs.Lines.{taken as line_taken}
+use Rattle.rh_server.specs.Servers.{pdu_by}
 use Rattle.rh_server.specs.declared.state.Leaving.TheVariants as leaving
-use Rattle.rh_server.specs.declared.state.Stage.{Stage}
 use Rattle.rh_server.specs.declared.state.Stage.TheVariants as stage
-use Rattle.rh_server.specs.declared.state.Tells.{Tells}
 use Rattle.rh_server.specs.declared.state.Tells.TheVariants as tells
 use Rattle.rh_server.specs.declared.out_line.Kind.TheVariants as kinds
-use Rattle.rh_server.specs.OutLines.{waits}
-use Rattle.rh_server.specs.States.{Server, is_open, is_due, is_shut, same_cookie, in_leg, out_place, without_in, without_out}
-use Rattle.rh_server.specs.Opening.{Done, took, unexpected, is_first, up, opens, with_first_out, with_first_in, conn_a2_at, on_conn_a2, conn_b2_at, on_conn_b2}
-use Rattle.rh_server.specs.Acknowledging.{on_pdu, channel_at}
-use Rattle.rh_server.specs.InReplacement.{take, moved_if, in_r1_a2_at, on_in_r1_a2, on_in_r1_a6}
-use Rattle.rh_server.specs.OutReplacement.{recycle, wished}
-use Rattle.rh_server.specs.Ending.{give, settled, completed, is_complete, drawn_by, in_is_drawn, lost_in, mark_by, with_ack_dropped, is_over_on, end_a2_waiting, end_a2_at, on_end_a2}
-use Rattle.rh_server.specs.Putting.{Pick, or_else, put_in_greeting, told_by, was_current, put_tells_by, put_tells, put_b1_by, put_b1, put_ack_by, put_ack, ack_due, put_in_by, put_out_greeting, out_greeting_at, next_out, settled_pick, put_open, put_out_at, put_by as put_by_kind}
-use Rattle.rh_server.specs.Servers.{acts, first, on_is, on_os, packet_by, pdu_by}
-use Rattle.rh_server.specs.Servers.{rules as server_rules}
-use Rattle.law_moves.proofs.Passages.Logs.{RowKeeps, PutKeeps, StepsKeep, ActsKeep, end_moves_keep}
-use Rattle.law_moves.specs.Moves.{OnLeg, EndMove, end_started, all_end_moved}
+use Rattle.law_moves.proofs.Vocabulary.{Receiver, Ack, by_test, Cookie, Named, Line, due, after_end, after_tell, after_take, Leg, LegKind, ClientOut, OutServer, ClientIn, InServer, Which, Current, Next, Count, Message, Pdu, Packet, OnLeg, EndMove, end_started, all_end_moved}
+use Rattle.law_moves.proofs.Lemmas.{RowKeeps, PutKeeps, StepsKeep, ActsKeep, end_moves_keep}
+use Rattle.law_role_server.proofs.Vocabulary.{InLeg, OutLeg, Told, Leaving, Stage, Tells, waits, Server, is_open, is_due, is_shut, same_cookie, in_leg, out_place, without_in, without_out, Done, took, unexpected, is_first, up, opens, with_first_out, with_first_in, conn_a2_at, on_conn_a2, conn_b2_at, on_conn_b2, on_pdu, channel_at, take, moved_if, in_r1_a2_at, on_in_r1_a2, on_in_r1_a6, recycle, wished, give, settled, completed, is_complete, drawn_by, in_is_drawn, lost_in}
+use Rattle.law_role_server.proofs.Vocabulary.{mark_by, with_ack_dropped, is_over_on, end_a2_waiting, end_a2_at, on_end_a2, Pick, or_else, put_in_greeting, told_by, was_current, put_tells_by, put_tells, put_b1_by, put_b1, put_ack_by, put_ack, ack_due, put_in_by, put_out_greeting, out_greeting_at, next_out, settled_pick, put_open, put_out_at, put_by as put_by_kind, acts, first, on_is, on_os, packet_by, rules as server_rules}
+use Rattle.law_role_server.proofs.Counted.BeforeC1Open.{take_stage}
 use Rattle.law_role_server_rows.proofs.InTurn.InView.{InView, Alone, out_alone}
 
 abbrev pub is_opening : Stage → Bool
@@ -112,9 +84,6 @@ settled_fine s h =
     wished_same t = search rules
 
 -- ---- rows
-
-RowFine : Done → Type 0
-RowFine x = Fine x.0
 
 out_line : (s : Server) (b : Cookie) (c d : ℕ) → (with_first_out s b c d).line ≡ s.line
 out_line s b c d = search rules
@@ -390,9 +359,6 @@ pub take_quiet : (s : Server) → Quiet s.line → take s ≡ s
 take_quiet s q =
     ap (λ (l : Line). moved_if s.line.has_next (record s { line = l })) (none_taken s.line q)
     ∙ ap (λ (b : Bool). moved_if b s) q.alone
-
-take_stage : (s : Server) → (take s).stage ≡ s.stage
-take_stage s = search rules
 
 take_fine : (s : Server) → Fine s → Fine (take s)
 take_fine s h e =

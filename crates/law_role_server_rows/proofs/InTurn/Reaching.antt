@@ -1,7 +1,6 @@
 -- what each allowed move of an end keeps where it was reached by such moves
-use Rattle.std.proofs.Common.{◌≡◌, List, [], ◌∷◌, ◌++◌, refl, sym, ap, ◌∙◌, subst}
-use Rattle.rh_shell.specs.Rules.{Rules, Acts}
-use Rattle.law_moves.specs.Moves.{EndMove, EndPassage, MayEndMove, AreAllowedAtEnd, end_moved, all_end_moved}
+use Rattle.law_order.proofs.Vocabulary.{◌≡◌, List, [], ◌∷◌, ◌++◌, refl, sym, ap, ◌∙◌, subst}
+use Rattle.law_moves.proofs.Vocabulary.{Rules, Acts, EndMove, EndPassage, MayEndMove, AreAllowedAtEnd, end_moved, all_end_moved}
 
 module _ {S : Type 0} (rules : Rules S) (acts : Acts S) where
   all_more : (p : EndPassage S) (moves : List EndMove) (move : EndMove)

@@ -1,47 +1,16 @@
 -- a number is left for the successor of an OUT channel that is asked for
-use Rattle.std.proofs.Common.{◌≡◌, ℕ, ◌+◌, ◌<◌, ◌≤◌, ◌==◌, ◌&&◌, List, true, nat_lt, not, if◌then◌else◌, Some, None, Ok, Err, arith, refl, rules, sym, ◌∙◌, subst}
-use Rattle.std.proofs.lemmas.Bool.{false≢true, and_parts}
-use Rattle.std.proofs.lemmas.Bool.Decides.{nat_tests}
-use Rattle.std.specs.Prelude.{IfSome, slice_get, find}
-use Rattle.std.specs.declared.option.Option.{Option}
-use Rattle.std.specs.declared.result.Result.{Result}
-use Rattle.law_order.proofs.ByNumber.{by_test, other_number}
-use Rattle.rh_rts.specs.declared.command.Cookie.{Cookie}
-use Rattle.rh_sig.specs.declared.named.Named.{Named}
+use Rattle.law_order.proofs.Vocabulary.{◌≡◌, ℕ, ◌+◌, ◌<◌, ◌≤◌, ◌==◌, ◌&&◌, List, true, nat_lt, not, if◌then◌else◌, Some, None, Ok, Err, arith, refl, rules, sym, ◌∙◌, subst, false≢true, and_parts, nat_tests, IfSome, slice_get, find, Option, Result}
 use Rattle.rh_sig.specs.declared.named.Named.TheVariants as named
-use Rattle.rh_line.specs.Queue.{front_length}
-use Rattle.rh_line.specs.declared.leg.Leg.{Leg}
-use Rattle.rh_line.specs.declared.leg.LegKind.{LegKind}
-use Rattle.rh_line.specs.declared.leg.LegKind.TheVariants.{ClientOut, OutServer, ClientIn, InServer}
-use Rattle.rh_shell.specs.declared.answers.Count.{Count}
 use Rattle.rh_shell.specs.declared.answers.Refused.TheVariants as refused
-use Rattle.rh_shell.specs.declared.due.Due.{Due}
-use Rattle.rh_shell.specs.declared.end_role.RecycleRefused.{RecycleRefused}
-use Rattle.rh_shell.specs.declared.end_role.RecycleRefused.TheVariants.{Busy, Last}
-use Rattle.rh_shell.specs.Rules.{Message, Pdu, Packet}
-use Rattle.rh_shell.specs.Waiting.{Waiting, taken}
-use Rattle.rh_server.specs.declared.state.OutLeg.{OutLeg}
-use Rattle.rh_server.specs.declared.state.Replacement.{Replacement}
-use Rattle.rh_server.specs.declared.state.Replacement.TheVariants.{Steady, Asked, Answered, Confirmed}
-use Rattle.rh_server.specs.declared.state.Stage.{Stage}
 use Rattle.rh_server.specs.declared.state.Stage.TheVariants as stage
 use Rattle.rh_server.specs.declared.out_line.Kind.TheVariants as kind
-use Rattle.rh_server.specs.OutLines.{lets, lets_packet, length_of, waits}
-use Rattle.rh_server.specs.States.{Server, is_open, is_due, is_confirmed, same_cookie, in_leg, out_at, out_place, out_cookie, without_out}
-use Rattle.rh_server.specs.Opening.{Done, took, refuse, unexpected, is_first, up}
-use Rattle.rh_server.specs.Acknowledging.{out_server}
-use Rattle.rh_server.specs.InReplacement.{take}
-use Rattle.rh_server.specs.OutReplacement.{last_number, asks, is_asked, is_under_way, wishes, wished, recycle, answered_by, answered_on, out_r1_a4_by, out_r1_a4_at, may_answer, on_out_r1_a4, confirms, out_r1_a8_at, on_out_r1_a8}
-use Rattle.rh_server.specs.Ending.{give, completed, settled, drawn_by, in_is_drawn, lost_in, mark_by, with_ack_dropped}
-use Rattle.rh_server.specs.States.{without_in}
-use Rattle.rh_server.specs.Putting.{Pick, or_else, put_in, out_greeting_at, put_out_greeting, gate, gate_at, counts, was_put, waiting_by, waiting_at, put_waiting, may_go_at, pdu_by, put_pdu, is_end_due, may_end_at, put_end, put_pdu_or_end, next_out, settled_pick, put_open, put_out_at, put_by as put_by_kind}
-use Rattle.rh_server.specs.Servers.{acts, first, on_is, on_os, packet_by, pdu}
-use Rattle.rh_server.specs.Servers.{rules as server_rules}
-use Rattle.law_moves.specs.Moves.{OnLeg, EndMove, end_started, all_end_moved}
-use Rattle.law_moves.proofs.Passages.Logs.{RowKeeps, PutKeeps, StepsKeep, ActsKeep, end_moves_keep}
-use Rattle.law_role_server.specs.Counted.Replacing.{since_asked, AreReplaced}
+use Rattle.law_moves.proofs.Vocabulary.{by_test, other_number, Cookie, Named, front_length, Leg, LegKind, ClientOut, OutServer, ClientIn, InServer, Count, Due, RecycleRefused, Busy, Last, Message, Pdu, Packet, Waiting, taken, OnLeg, EndMove, end_started, all_end_moved}
+use Rattle.law_moves.proofs.Lemmas.{RowKeeps, PutKeeps, StepsKeep, ActsKeep, end_moves_keep}
+use Rattle.law_role_server.proofs.Vocabulary.{OutLeg, Replacement, Steady, Asked, Answered, Confirmed, Stage, lets, lets_packet, length_of, waits, Server, is_open, is_due, is_confirmed, same_cookie, in_leg, out_at, out_place, out_cookie, without_out, Done, took, refuse, unexpected, is_first, up, out_server, take, last_number, asks, is_asked, is_under_way, wishes, wished, recycle, answered_by, answered_on, out_r1_a4_by, out_r1_a4_at, may_answer, on_out_r1_a4, confirms}
+use Rattle.law_role_server.proofs.Vocabulary.{out_r1_a8_at, on_out_r1_a8, give, completed, settled, drawn_by, in_is_drawn, lost_in, mark_by, with_ack_dropped, without_in, Pick, or_else, put_in, out_greeting_at, put_out_greeting, gate, gate_at, counts, was_put, waiting_by, waiting_at, put_waiting, may_go_at, pdu_by, put_pdu, is_end_due, may_end_at, put_end, put_pdu_or_end, next_out, settled_pick, put_open, put_out_at, put_by as put_by_kind, acts, first, on_is, on_os, packet_by}
+use Rattle.law_role_server.proofs.Vocabulary.{pdu, rules as server_rules, since_asked, AreReplaced}
+use Rattle.law_role_server.proofs.Counted.Dues.{found_may}
 use Rattle.law_role_server_rows.specs.InTurn.Numbers.{HasNumbers}
-use Rattle.law_role_server_rows.proofs.InTurn.Found.{found_may}
 
 record Seen : Type 0 where
   writing : ℕ

@@ -1,23 +1,8 @@
 -- a message among those of a leg, and in the log
-use Rattle.std.proofs.Common.{◌≡◌, ℕ, ◌==◌, List, [], ◌∷◌, ◌++◌, Bool, true, false, if◌then◌else◌, refl, sym, ap, ◌∙◌, subst}
-use Rattle.std.proofs.lemmas.Bool.{false≢true, and_parts}
-use Rattle.law_order.proofs.ByNumber.{by_test, same_number}
-use Rattle.rh_line.specs.declared.leg.Leg.{Leg}
-use Rattle.rh_line.specs.declared.leg.LegKind.{LegKind}
-use Rattle.rh_line.specs.declared.leg.LegKind.TheVariants.{ClientOut, OutServer, ClientIn, InServer}
-use Rattle.rh_shell.specs.Rules.{Message}
-use Rattle.rh_shell.specs.Shells.{kind_number, is_of, same_leg}
-use Rattle.law_moves.specs.Moves.{OnLeg}
-use Rattle.law_moves.specs.Wires.{of_leg}
-use Rattle.law_moves.specs.Passages.Passing.{of_kind}
-use Rattle.law_role_server.specs.Counted.Counting.{leg_at}
-
-kind_is : (a b : LegKind) → (kind_number a == kind_number b) ≡ true → a ≡ b
-kind_is ClientOut ClientOut e = refl
-kind_is OutServer OutServer e = refl
-kind_is ClientIn ClientIn e = refl
-kind_is InServer InServer e = refl
-kind_is a b e = absurd (false≢true e)
+use Rattle.law_order.proofs.Vocabulary.{◌≡◌, ℕ, ◌==◌, List, [], ◌∷◌, ◌++◌, Bool, true, false, if◌then◌else◌, refl, sym, ap, ◌∙◌, subst, false≢true, and_parts}
+use Rattle.law_moves.proofs.Vocabulary.{by_test, same_number, Leg, LegKind, Message, is_of, same_leg, OnLeg, of_leg, of_kind}
+use Rattle.law_moves.proofs.Lemmas.{kind_is}
+use Rattle.law_role_server.proofs.Vocabulary.{leg_at}
 
 pub leg_is : (kind : LegKind) (n : ℕ) (leg : Leg) → same_leg leg (leg_at kind n) ≡ true
     → leg ≡ leg_at kind n

@@ -1,34 +1,14 @@
 -- what a server keeps of what came, to copy it
-use Rattle.std.proofs.Common.{◌≡◌, ◌⊎◌, ℕ, ◌&&◌, ◌||◌, Bool, true, false, not, List, ◌++◌, [], ◌∷◌, Some, None, inl, inr, refl, rules, ◌∙◌}
-use Rattle.std.specs.Prelude.{IfSome}
-use Rattle.std.specs.List.{AllByRecursion}
-use Rattle.std.specs.declared.option.Option.{Option}
-use Rattle.law_order.proofs.ByNumber.{by_test}
-use Rattle.rh_rts.specs.declared.command.Cookie.{Cookie}
-use Rattle.rh_sig.specs.declared.named.Named.{Named}
+use Rattle.law_order.proofs.Vocabulary.{◌≡◌, ◌⊎◌, ℕ, ◌&&◌, ◌||◌, Bool, true, false, not, List, ◌++◌, [], ◌∷◌, Some, None, inl, inr, refl, rules, ◌∙◌, IfSome, AllByRecursion, Option}
 use Rattle.rh_sig.specs.declared.named.Named.TheVariants as named
-use Rattle.rh_line.specs.Lines.{Line, after_open_next, after_take, after_finish}
-use Rattle.rh_line.proofs.Queues.{each_push}
-use Rattle.rh_line.specs.declared.leg.LegKind.{LegKind}
-use Rattle.rh_line.specs.declared.leg.LegKind.TheVariants.{InServer}
-use Rattle.rh_shell.specs.declared.due.Due.{Due}
-use Rattle.rh_shell.specs.Waiting.{Waiting, added, own}
 use Rattle.rh_server.specs.declared.out_line.Kind.TheVariants as kinds
-use Rattle.rh_server.specs.declared.state.Stage.{Stage}
 use Rattle.rh_server.specs.declared.state.Stage.TheVariants as stage
-use Rattle.rh_server.specs.declared.state.Edge.TheVariants.{Shut}
-use Rattle.rh_server.specs.declared.state.InStage.{InStage}
 use Rattle.rh_server.specs.declared.state.InStage.TheVariants as in_stage
 use Rattle.rh_server.specs.declared.state.Tells.TheVariants as tells
-use Rattle.rh_server.specs.declared.state.InLeg.{InLeg}
-use Rattle.rh_server.specs.OutLines.{waits}
-use Rattle.rh_server.specs.States.{Server, no_cookie, in_leg, in_place, set_at, removed_at, with_in, without_in}
-use Rattle.rh_server.specs.InReplacement.{ended_if, opens_next, opens_leg, first_waiting, waiting_place, next_opened, becomes_current, moved_if, take}
-use Rattle.rh_server.specs.OutReplacement.{asks, wishes, wished}
-use Rattle.rh_server.specs.Ending.{is_complete, completed, settled}
-use Rattle.law_moves.specs.Moves.{OnLeg}
-use Rattle.law_role_server_rows.specs.Putting.Copying.{IsConnB2, IsInR1A2, Begins, CameAt, CopiesAt}
+use Rattle.law_moves.proofs.Vocabulary.{by_test, Cookie, Named, each_push, Line, after_open_next, after_take, after_finish, LegKind, InServer, Due, Waiting, added, own, OnLeg}
+use Rattle.law_role_server.proofs.Vocabulary.{Stage, Shut, InStage, InLeg, waits, Server, no_cookie, in_leg, in_place, set_at, removed_at, with_in, without_in, ended_if, opens_next, opens_leg, first_waiting, waiting_place, next_opened, becomes_current, moved_if, take, asks, wishes, wished, is_complete, completed, settled}
 use Rattle.law_role_server_rows.proofs.Putting.Each.{each_in, each_set, each_removed, came_more, copies_more}
+use Rattle.law_role_server_rows.specs.Putting.Copying.{IsConnB2, IsInR1A2, Begins, CameAt, CopiesAt}
 
 -- ---- what is kept
 

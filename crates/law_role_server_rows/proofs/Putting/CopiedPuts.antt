@@ -1,52 +1,20 @@
 -- a server's packets copy what came
-use Rattle.std.proofs.Common.{◌≡◌, ℕ, ◌==◌, ◌&&◌, not, List, ◌++◌, [], ◌∷◌, Some, None, Ok, Err, inr, refl, sym, ◌∙◌, subst}
-use Rattle.std.proofs.lemmas.Bool.{and_parts}
-use Rattle.std.specs.Prelude.{IfSome, nat_le, slice_get, find}
-use Rattle.std.specs.List.{AllByRecursion}
-use Rattle.std.specs.declared.option.Option.{Option}
-use Rattle.std.specs.declared.result.Result.{Result}
-use Rattle.rh_window.specs.declared.recv_window.Ack.{Ack}
-use Rattle.law_order.proofs.ByNumber.{by_test, same_number}
-use Rattle.rh_pdu.specs.Checking.{pdu_fault}
-use Rattle.rh_pdu.specs.declared.fault.PduFault.{PduFault}
-use Rattle.rh_rts.specs.declared.command.Cookie.{Cookie}
-use Rattle.rh_sig.specs.declared.named.Named.{Named}
+use Rattle.law_order.proofs.Vocabulary.{◌≡◌, ℕ, ◌==◌, ◌&&◌, not, List, ◌++◌, [], ◌∷◌, Some, None, Ok, Err, inr, refl, sym, ◌∙◌, subst, and_parts, IfSome, nat_le, slice_get, find, AllByRecursion, Option, Result}
 use Rattle.rh_sig.specs.declared.named.Named.TheVariants as named
-use Rattle.rh_line.specs.Lines.{after_tell, after_told, due}
-use Rattle.rh_line.specs.Queue.{front_length, queue_bytes}
-use Rattle.rh_line.specs.declared.leg.LegKind.{LegKind}
-use Rattle.rh_line.specs.declared.leg.LegKind.TheVariants.{ClientOut, OutServer, ClientIn, InServer}
-use Rattle.rh_line.specs.declared.which.Which.TheVariants.{Current}
-use Rattle.rh_line.proofs.Queues.{each_push}
-use Rattle.rh_shell.specs.declared.answers.Count.{Count}
-use Rattle.rh_shell.specs.declared.due.Due.{Due}
-use Rattle.rh_shell.specs.declared.end_role.GiveRefused.{GiveRefused}
-use Rattle.rh_shell.specs.Rules.{Pdu, Packet}
-use Rattle.rh_shell.specs.Waiting.{taken}
-use Rattle.rh_server.specs.declared.state.EndMark.TheVariants as end_mark
-use Rattle.rh_server.specs.declared.state.Edge.TheVariants.{Told}
-use Rattle.rh_server.specs.declared.state.Greeting.TheVariants as greeting
-use Rattle.rh_server.specs.declared.state.Tells.{Tells}
-use Rattle.rh_server.specs.declared.state.Tells.TheVariants as tells
-use Rattle.rh_server.specs.declared.state.Leaving.{Leaving}
-use Rattle.rh_server.specs.declared.state.Leaving.TheVariants as leaving
-use Rattle.rh_server.specs.declared.state.InLeg.{InLeg}
-use Rattle.rh_server.specs.declared.state.OutLeg.{OutLeg}
-use Rattle.rh_server.specs.OutLines.{Gate, lets, length_of, is_ack_of}
-use Rattle.rh_server.specs.States.{Server, is_open, is_due, is_shut, is_closing, is_waiting, stays, in_leg, in_place, with_in, without_in, without_out, out_place, out_cookie}
-use Rattle.rh_server.specs.Opening.{Done, in_leg_up, may_up, up_by}
-use Rattle.rh_server.specs.Ending.{give, give_by, settled, in_is_drawn, drawn_by, lost_in, without_ack_of, with_ack_dropped, mark_by}
-use Rattle.rh_server.specs.Putting.{Pick, or_else, put_by, told_by, put_in_greeting, put_tells, put_tells_by, was_current, put_b1, put_b1_by, ack_due, put_ack, put_ack_by, put_in_by, out_greeting_at, put_out_greeting, gate_at, counts, counts_at, was_put, waiting_by, waiting_at, put_waiting, may_go_at, pdu_by, put_pdu, may_end_at, is_end_due, put_end, put_pdu_or_end, next_out, settled_pick, put_open, put_out_place, put_out_at}
-use Rattle.rh_server.specs.Servers.{acts, first, packet_by}
 use Rattle.rh_server.specs.Servers.{pdu_by as pdu_by_kind}
-use Rattle.rh_server.specs.Servers.{rules as server_rules}
-use Rattle.law_moves.specs.Moves.{OnLeg, EndMove, end_started, all_end_moved}
-use Rattle.law_moves.proofs.Passages.Messages.{all_append}
-use Rattle.law_moves.proofs.Passages.Logs.{RowKeeps, PutKeeps, StepsKeep, ActsKeep, end_moves_keep}
-use Rattle.law_role_server_rows.specs.Putting.Copying.{leg_at, Copies, CopiesWhatCame}
-use Rattle.law_role_server_rows.proofs.Putting.Each.{each_found, each_without, number_found, came_last, all_more}
+use Rattle.rh_server.specs.declared.state.EndMark.TheVariants as end_mark
+use Rattle.rh_server.specs.declared.state.Greeting.TheVariants as greeting
+use Rattle.rh_server.specs.declared.state.Tells.TheVariants as tells
+use Rattle.rh_server.specs.declared.state.Leaving.TheVariants as leaving
+use Rattle.law_moves.proofs.Vocabulary.{Ack, by_test, same_number, pdu_fault, PduFault, Cookie, Named, each_push, after_tell, after_told, due, front_length, queue_bytes, LegKind, ClientOut, OutServer, ClientIn, InServer, Current, Count, Due, GiveRefused, Pdu, Packet, taken, OnLeg, EndMove, end_started, all_end_moved}
+use Rattle.law_moves.proofs.Lemmas.{all_append, RowKeeps, PutKeeps, StepsKeep, ActsKeep, end_moves_keep}
+use Rattle.law_role_server.proofs.Vocabulary.{Told, Tells, Leaving, InLeg, OutLeg, Gate, lets, length_of, is_ack_of, Server, is_open, is_due, is_shut, is_closing, is_waiting, stays, in_leg, in_place, with_in, without_in, without_out, out_place, out_cookie, Done, in_leg_up, may_up, up_by, give, give_by, settled, in_is_drawn, drawn_by, lost_in, without_ack_of, with_ack_dropped, mark_by, Pick, or_else, put_by, told_by, put_in_greeting, put_tells, put_tells_by, was_current}
+use Rattle.law_role_server.proofs.Vocabulary.{put_b1, put_b1_by, ack_due, put_ack, put_ack_by, put_in_by, out_greeting_at, put_out_greeting, gate_at, counts, counts_at, was_put, waiting_by, waiting_at, put_waiting, may_go_at, pdu_by, put_pdu, may_end_at, is_end_due, put_end, put_pdu_or_end, next_out, settled_pick, put_open, put_out_place, put_out_at, acts, first, packet_by, rules as server_rules}
+use Rattle.law_role_server.proofs.Each.{each_found, each_without}
+use Rattle.law_role_server_rows.proofs.Putting.Each.{number_found, came_last, all_more}
 use Rattle.law_role_server_rows.proofs.Putting.Copied.{LegHas, DueCopies, ChannelHas, Fine, fine_more, line_is, legs_are, packets_are, leg_found, leg_set, leg_gone, takes_kept, settles}
 use Rattle.law_role_server_rows.proofs.Putting.CopiedRows.{Came, RowHolds, row_any, pdu_row, packet_row, recycle_kept}
+use Rattle.law_role_server_rows.specs.Putting.Copying.{leg_at, Copies, CopiesWhatCame}
 
 module _ (size : ℕ) (came : List OnLeg) where
   abbrev Holds : Server → Type 0

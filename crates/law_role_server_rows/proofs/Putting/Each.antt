@@ -1,45 +1,18 @@
 -- what holds of each element of a list, and of what came
-use Rattle.std.proofs.Common.{◌≡◌, ℕ, zero, suc, ◌==◌, Bool, if◌then◌else◌, List, [], ◌∷◌, ◌++◌, Some, None, inl, inr, refl, sym, ap, ◌∙◌, subst}
-use Rattle.std.proofs.lemmas.List.Quantifiers.{position-Some}
-use Rattle.std.proofs.lemmas.Option.{get_or_from_slice_get}
-use Rattle.std.specs.Prelude.{slice_get, slice_set, remove, find, IfSome}
-use Rattle.std.specs.List.{AllByRecursion}
-use Rattle.std.specs.declared.option.Option.{Option}
-use Rattle.law_order.proofs.ByNumber.{by_test, same_number, test_same}
-use Rattle.rh_sig.specs.declared.named.Named.{Named}
+use Rattle.law_order.proofs.Vocabulary.{◌≡◌, ℕ, ◌==◌, Bool, if◌then◌else◌, List, [], ◌∷◌, ◌++◌, Some, None, inl, inr, refl, sym, ap, ◌∙◌, subst, position-Some, get_or_from_slice_get, slice_get, IfSome, AllByRecursion, Option}
 use Rattle.rh_sig.specs.declared.named.Named.TheVariants as named
-use Rattle.rh_line.specs.declared.leg.LegKind.{LegKind}
-use Rattle.rh_line.specs.declared.leg.LegKind.TheVariants.{ClientOut, OutServer, ClientIn, InServer}
-use Rattle.rh_shell.specs.declared.due.Due.{Due}
-use Rattle.rh_shell.specs.Rules.{Message, Text, Pdu, Packet}
-use Rattle.rh_shell.specs.Waiting.{takes, better, merged, without_first}
-use Rattle.rh_server.specs.declared.state.InLeg.{InLeg}
-use Rattle.rh_server.specs.States.{in_at, in_place, set_at, removed_at}
-use Rattle.law_moves.specs.Moves.{OnLeg}
-use Rattle.law_moves.specs.Wires.{of_leg}
-use Rattle.law_moves.specs.Passages.Passing.{Has, HasOne}
-use Rattle.law_moves.proofs.Passages.Messages.{leg_more, has_more, has_last, one_more_so}
+use Rattle.law_moves.proofs.Vocabulary.{same_number, test_same, Named, LegKind, ClientOut, OutServer, ClientIn, InServer, Message, Text, Pdu, Packet, OnLeg, of_leg, Has, HasOne}
+use Rattle.law_moves.proofs.Lemmas.{leg_more, has_more, has_last, one_more_so}
+use Rattle.law_role_server.proofs.Vocabulary.{InLeg, in_at, in_place, set_at, removed_at}
+use Rattle.law_role_server.proofs.Each.{each_removed as each_off, each_got, each_set as each_put}
 use Rattle.law_role_server_rows.specs.Putting.Copying.{leg_at, CameAt, CopiesAt, Copies}
 
 -- ---- an element
-
-pub each_got : {X : Type 0} (P : X → Type 0) (xs : List X) (place : ℕ) → AllByRecursion P xs
-    → IfSome (slice_get xs place) P
-each_got P [] place h = tt
-each_got P (x ∷ xs) zero h = h.0
-each_got P (x ∷ xs) (suc place) h = each_got P xs place h.1
 
 pub each_in : (P : InLeg → Type 0) (legs : List InLeg) (place : Option ℕ) → AllByRecursion P legs
     → IfSome (in_at legs place) P
 each_in P legs None h = tt
 each_in P legs (Some place) h = each_got P legs place h
-
-pub each_found : {X : Type 0} (P : X → Type 0) (test : X → Bool) (xs : List X)
-    → AllByRecursion P xs → IfSome (find test xs) P
-each_found P test [] h = tt
-each_found P test (x ∷ xs) h =
-    by_test (λ found. IfSome found P) (test x) (Some x) (find test xs) (λ e. h.0)
-    (λ e. each_found P test xs h.1)
 
 -- the leg that is found has the number
 pub number_found : (n : ℕ) (legs : List InLeg) (place : Option ℕ) → in_place n legs ≡ place
@@ -57,46 +30,15 @@ number_found n legs (Some place) e = by (slice_get legs place) refl
 
 -- ---- the list is changed
 
-each_put : {X : Type 0} (P : X → Type 0) (xs : List X) (place : ℕ) (x : X) → P x
-    → AllByRecursion P xs → AllByRecursion P (slice_set xs place x)
-each_put P [] place x is h = tt
-each_put P (y ∷ xs) zero x is h = (is, h.1)
-each_put P (y ∷ xs) (suc place) x is h = (h.0, each_put P xs place x is h.1)
-
 pub each_set : {X : Type 0} (P : X → Type 0) (xs : List X) (place : Option ℕ) (x : X) → P x
     → AllByRecursion P xs → AllByRecursion P (set_at xs x place)
 each_set P xs None x is h = h
 each_set P xs (Some place) x is h = each_put P xs place x is h
 
-each_off : {X : Type 0} (P : X → Type 0) (xs : List X) (place : ℕ)
-    → AllByRecursion P xs → AllByRecursion P (remove xs place)
-each_off P [] zero h = tt
-each_off P [] (suc place) h = tt
-each_off P (x ∷ xs) zero h = h.1
-each_off P (x ∷ xs) (suc place) h = (h.0, each_off P xs place h.1)
-
 pub each_removed : {X : Type 0} (P : X → Type 0) (xs : List X) (place : Option ℕ)
     → AllByRecursion P xs → AllByRecursion P (removed_at xs place)
 each_removed P xs None h = h
 each_removed P xs (Some place) h = each_off P xs place h
-
--- ---- packets that wait
-
-pub each_without : (P : Due → Type 0) (may_go : Due → Bool) (dues : List Due)
-    → AllByRecursion P dues → AllByRecursion P (without_first may_go dues)
-each_without P may_go [] h = tt
-each_without P may_go (due ∷ dues) h =
-    by_test (AllByRecursion P) (may_go due) dues (due ∷ without_first may_go dues) (λ e. h.1)
-    (λ e. (h.0, each_without P may_go dues h.1))
-
-pub each_merged : (P : Due → Type 0) (packet : Named)
-    → ((due : Due) → P due → P (better due packet)) → (dues : List Due)
-    → AllByRecursion P dues → AllByRecursion P (merged dues packet)
-each_merged P packet merges [] h = tt
-each_merged P packet merges (due ∷ dues) h =
-    by_test (AllByRecursion P) (takes packet due) (better due packet ∷ dues)
-    (due ∷ merged dues packet) (λ e. (merges due h.0, h.1))
-    (λ e. (h.0, each_merged P packet merges dues h.1))
 
 -- ---- what came
 

@@ -1,12 +1,8 @@
 -- whether a leg is greeted, by what was put there
-use Rattle.std.proofs.Common.{◌≡◌, ℕ, ◌==◌, ◌<◌, ◌+◌, Bool, true, false, true≢false, List, ◌++◌, [], ◌∷◌, Some, arith, refl, sym, ap, ◌∙◌, subst}
-use Rattle.std.specs.Prelude.{slice_get, slice_set, remove}
-use Rattle.law_order.proofs.ByNumber.{same_number, test_same, test_other}
-use Rattle.rh_shell.specs.Hearing.{greeting as greeting_text}
-use Rattle.rh_shell.specs.Rules.{Message, Text}
-use Rattle.rh_server.specs.declared.state.Greeting.{Greeting}
-use Rattle.rh_server.specs.declared.state.Greeting.TheVariants.{Due, Put}
-use Rattle.law_moves.proofs.Passages.Messages.{all_append}
+use Rattle.law_order.proofs.Vocabulary.{◌≡◌, ℕ, ◌==◌, ◌<◌, ◌+◌, Bool, true, false, true≢false, List, ◌++◌, [], ◌∷◌, Some, arith, refl, sym, ap, ◌∙◌, subst, slice_get, slice_set, remove}
+use Rattle.law_moves.proofs.Vocabulary.{same_number, test_same, test_other, greeting as greeting_text, Message, Text}
+use Rattle.law_moves.proofs.Lemmas.{all_append}
+use Rattle.law_role_server.proofs.Vocabulary.{Greeting, Due, Put}
 use Rattle.law_role_server.proofs.Numbered.{Absent, Once, absent_at, absent_push, absent_removed, absent_set, once_at, once_first, once_map, once_push, once_removed, once_set}
 use Rattle.law_role_server_rows.specs.Putting.Greeting.{IsFrame, IsGreeted, MayGreet}
 

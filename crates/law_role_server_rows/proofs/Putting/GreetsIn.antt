@@ -1,62 +1,27 @@
 -- a server greets first on its is legs
-use Rattle.std.proofs.Common.{◌≡◌, ℕ, zero, suc, ◌==◌, ◌&&◌, ◌||◌, ◌+◌, Bool, true, false, not, if◌then◌else◌, List, ◌++◌, [], ◌∷◌, Some, None, Ok, Err, refl, rules, sym, ap, ◌∙◌, subst}
-use Rattle.std.proofs.lemmas.Bool.{and_parts}
-use Rattle.std.proofs.lemmas.List.{append-nil}
-use Rattle.std.specs.Prelude.{IfSome, slice_get, slice_set}
-use Rattle.std.specs.declared.option.Option.{Option}
-use Rattle.rh_window.specs.declared.recv_window.Ack.{Ack}
-use Rattle.law_order.proofs.ByNumber.{by_test, same_number}
-use Rattle.rh_rts.specs.declared.command.Cookie.{Cookie}
-use Rattle.rh_sig.specs.declared.named.Named.{Named}
+use Rattle.law_order.proofs.Vocabulary.{◌≡◌, ℕ, zero, suc, ◌==◌, ◌&&◌, ◌||◌, ◌+◌, Bool, true, false, not, if◌then◌else◌, List, ◌++◌, [], ◌∷◌, Some, None, Ok, Err, refl, rules, sym, ap, ◌∙◌, subst, and_parts, append-nil, IfSome, slice_get, slice_set, Option}
 use Rattle.rh_sig.specs.declared.named.Named.TheVariants as named
-use Rattle.rh_line.specs.Lines.{after_tell, after_told, after_finish, after_take}
-use Rattle.rh_line.specs.declared.leg.Leg.{Leg}
-use Rattle.rh_line.specs.declared.leg.LegKind.{LegKind}
-use Rattle.rh_line.specs.declared.leg.LegKind.TheVariants.{ClientOut, OutServer, ClientIn, InServer}
-use Rattle.rh_line.specs.declared.which.Which.{Which}
-use Rattle.rh_line.specs.declared.which.Which.TheVariants.{Current, Next}
-use Rattle.rh_line.specs.Queue.{front_length}
-use Rattle.rh_shell.specs.Hearing.{greeting as greeting_text}
-use Rattle.rh_shell.specs.declared.answers.Count.{Count}
 use Rattle.rh_shell.specs.declared.answers.Refused.TheVariants as refused
-use Rattle.rh_shell.specs.Rules.{Message, Text, Pdu, Packet}
-use Rattle.rh_shell.specs.Waiting.{Waiting, taken}
-use Rattle.rh_shell.specs.declared.due.Due.{Due}
-use Rattle.rh_server.specs.declared.state.Edge.TheVariants.{Told, Shut}
-use Rattle.rh_server.specs.declared.state.Greeting.{Greeting}
 use Rattle.rh_server.specs.declared.state.Greeting.TheVariants as greeting
-use Rattle.rh_server.specs.declared.state.Stage.{Stage}
 use Rattle.rh_server.specs.declared.state.Stage.TheVariants as stage
-use Rattle.rh_server.specs.declared.state.InStage.{InStage}
 use Rattle.rh_server.specs.declared.state.InStage.TheVariants as in_stage
-use Rattle.rh_server.specs.declared.state.Tells.{Tells}
 use Rattle.rh_server.specs.declared.state.Tells.TheVariants as tells
-use Rattle.rh_server.specs.declared.state.Leaving.{Leaving}
 use Rattle.rh_server.specs.declared.state.Leaving.TheVariants as leaving
-use Rattle.rh_server.specs.declared.state.InLeg.{InLeg}
-use Rattle.rh_server.specs.declared.state.OutLeg.{OutLeg}
 use Rattle.rh_server.specs.declared.state.EndMark.TheVariants as end_mark
 use Rattle.rh_server.specs.declared.out_line.Kind.TheVariants as kinds
-use Rattle.rh_server.specs.OutLines.{Gate, lets, waits, length_of}
-use Rattle.rh_server.specs.States.{Server, is_open, is_due, is_shut, is_fresh, is_waiting, stays, same_cookie, in_at, in_leg, in_place, out_place, set_at, removed_at, with_in, without_in, without_out}
-use Rattle.rh_server.specs.Opening.{Done, took, refuse, unexpected, is_first, has_room, may_up_by, up_by, in_leg_up, opens, first_in, with_first_in, conn_b2_at, on_conn_b2}
-use Rattle.rh_server.specs.Acknowledging.{channel_at}
-use Rattle.rh_server.specs.InReplacement.{opens_next, opens_leg, first_waiting, waiting_place, next_opened, becomes_current, moved_if, announced, in_r1_a2_by, in_r1_a2_at, on_in_r1_a2, leaves_by, leaves, hands_over, on_in_r1_a6, in_r2_a2_on, on_in_r2_a2}
-use Rattle.rh_server.specs.OutReplacement.{recycle}
-use Rattle.rh_server.specs.Ending.{give, settled, in_is_drawn, drawn_by, with_ack_dropped, lost_in, mark_by, end_a2_on_leg, end_a2_waiting, is_over_on, end_a2_at, on_end_a2}
-use Rattle.rh_server.specs.Putting.{Pick, or_else, told_by, was_current, put_tells_by, put_tells, put_b1_by, put_b1, put_ack_by, put_ack, ack_due, put_in_by, out_greeting_at, put_out_greeting, gate_at, counts, was_put, waiting_by, waiting_at, put_waiting, may_go_at, pdu_by, put_pdu, may_end_at, is_end_due, put_end, put_pdu_or_end, next_out, settled_pick, put_open, put_out_at, put_out, put_by}
-use Rattle.rh_server.specs.Servers.{acts, first, on_is, on_os, packet_by, pdu}
-use Rattle.rh_server.specs.Servers.{rules as server_rules}
-use Rattle.law_moves.specs.Moves.{OnLeg, EndMove, end_started, all_end_moved}
-use Rattle.law_moves.specs.Wires.{of_leg}
-use Rattle.law_moves.proofs.Passages.Messages.{leg_more}
-use Rattle.law_moves.proofs.Passages.Logs.{RowKeeps, PutKeeps, StepsKeep, ActsKeep, end_moves_keep}
+use Rattle.law_moves.proofs.Vocabulary.{Ack, by_test, same_number, Cookie, Named, after_tell, after_told, after_finish, after_take, Leg, LegKind, ClientOut, OutServer, ClientIn, InServer, Which, Current, Next, front_length, greeting as greeting_text, Count, Message, Text, Pdu, Packet, Waiting, taken, Due, OnLeg, EndMove, end_started, all_end_moved, of_leg}
+use Rattle.law_moves.proofs.Lemmas.{leg_more, RowKeeps, PutKeeps, StepsKeep, ActsKeep, end_moves_keep}
+use Rattle.law_role_server.proofs.Vocabulary.{Told, Shut, Greeting, Stage, InStage, Tells, Leaving, InLeg, OutLeg, Gate, lets, waits, length_of, Server, is_open, is_due, is_shut, is_fresh, is_waiting, stays, same_cookie, in_at, in_leg, in_place, out_place, set_at, removed_at, with_in, without_in, without_out, Done, took, refuse, unexpected, is_first, has_room, may_up_by, up_by, in_leg_up, opens, first_in, with_first_in, conn_b2_at, on_conn_b2, channel_at, opens_next}
+use Rattle.law_role_server.proofs.Vocabulary.{opens_leg, first_waiting, waiting_place, next_opened, becomes_current, moved_if, announced, in_r1_a2_by, in_r1_a2_at, on_in_r1_a2, leaves_by, leaves, hands_over, on_in_r1_a6, in_r2_a2_on, on_in_r2_a2, recycle, give, settled, in_is_drawn, drawn_by, with_ack_dropped, lost_in, mark_by, end_a2_on_leg, end_a2_waiting, is_over_on, end_a2_at, on_end_a2, Pick, or_else, told_by, was_current, put_tells_by, put_tells, put_b1_by, put_b1}
+use Rattle.law_role_server.proofs.Vocabulary.{put_ack_by, put_ack, ack_due, put_in_by, out_greeting_at, put_out_greeting, gate_at, counts, was_put, waiting_by, waiting_at, put_waiting, may_go_at, pdu_by, put_pdu, may_end_at, is_end_due, put_end, put_pdu_or_end, next_out, settled_pick, put_open, put_out_at, put_out, put_by, acts, first, on_is, on_os, packet_by, pdu, rules as server_rules}
 use Rattle.law_role_server.proofs.Numbered.{once_at}
-use Rattle.law_role_server_rows.specs.Putting.Copying.{leg_at}
-use Rattle.law_role_server_rows.specs.Putting.Greeting.{is, IsFrame, MayGreet, GreetsFirst}
 use Rattle.law_role_server_rows.proofs.Putting.Each.{number_found}
 use Rattle.law_role_server_rows.proofs.Putting.Greets.{IsAs, IsSo, Greets, greets_start, greets_removed, greets_up, greets_frame, greets_text, greets_other, greets_let, greets_newer}
 use Rattle.law_role_server_rows.proofs.Putting.GreetsOut.{is_when_due, is_when_put, greets_out}
+use Rattle.law_role_server_rows.proofs.InTurn.InPlaces.{found_at, Found}
+use Rattle.law_role_server_rows.proofs.InTurn.InKept.{number_of}
+use Rattle.law_role_server_rows.specs.Putting.Copying.{leg_at}
+use Rattle.law_role_server_rows.specs.Putting.Greeting.{is, IsFrame, MayGreet, GreetsFirst}
 
 record Seen : Type 0 where
   ins : List InLeg
@@ -64,9 +29,6 @@ record Seen : Type 0 where
 
 abbrev seen : Server → Seen
 seen s = record { ins = s.ins; newest = s.newest_in }
-
-abbrev number_of : InLeg → ℕ
-number_of leg = leg.number
 
 abbrev greets_of : InLeg → Greeting
 greets_of leg = leg.greeting
@@ -165,18 +127,6 @@ out_same s n = at (out_place n s.outs)
         (ends place)))) (λ e. tt))
 
 -- ---- a leg that is kept
-
-record Found (legs : List InLeg) (leg : InLeg) : Type 0 where
-  place : ℕ
-  at : slice_get legs place ≡ Some leg
-
-found_at : (legs : List InLeg) (place : Option ℕ) → IfSome (in_at legs place) (Found legs)
-found_at legs None = tt
-found_at legs (Some place) = by (slice_get legs place) refl
-  where
-    by : (o : Option InLeg) → slice_get legs place ≡ o → IfSome o (Found legs)
-    by None at = tt
-    by (Some leg) at = record { place = place; at = at }
 
 set_none : (legs : List InLeg) (i : ℕ) (y : InLeg) → slice_get legs i ≡ None
     → slice_set legs i y ≡ legs

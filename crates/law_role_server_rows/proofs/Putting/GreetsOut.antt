@@ -1,61 +1,23 @@
 -- a server greets first on its os legs
-use Rattle.std.proofs.Common.{◌≡◌, ℕ, ◌==◌, ◌&&◌, ◌+◌, true, false, not, List, ◌++◌, [], ◌∷◌, Some, None, Ok, Err, refl, rules, sym, ap, ◌∙◌, subst}
-use Rattle.std.proofs.lemmas.Bool.{false≢true, and_parts}
-use Rattle.std.proofs.lemmas.List.{append-nil}
-use Rattle.std.specs.Prelude.{IfSome, slice_get, find}
-use Rattle.std.specs.declared.option.Option.{Option}
-use Rattle.law_order.proofs.ByNumber.{by_test, same_number}
-use Rattle.rh_rts.specs.declared.command.Cookie.{Cookie}
-use Rattle.rh_sig.specs.declared.named.Named.{Named}
+use Rattle.law_order.proofs.Vocabulary.{◌≡◌, ℕ, ◌==◌, ◌&&◌, ◌+◌, true, false, not, List, ◌++◌, [], ◌∷◌, Some, None, Ok, Err, refl, rules, sym, ap, ◌∙◌, subst, false≢true, and_parts, append-nil, IfSome, slice_get, find, Option}
 use Rattle.rh_sig.specs.declared.named.Named.TheVariants as named
-use Rattle.rh_line.specs.Queue.{front_length}
-use Rattle.rh_line.specs.declared.leg.Leg.{Leg}
-use Rattle.rh_line.specs.declared.leg.LegKind.{LegKind}
-use Rattle.rh_line.specs.declared.leg.LegKind.TheVariants.{ClientOut, OutServer, ClientIn, InServer}
-use Rattle.rh_shell.specs.Hearing.{greeting as greeting_text}
-use Rattle.rh_shell.specs.declared.answers.Count.{Count}
-use Rattle.rh_shell.specs.declared.due.Due.{Due}
-use Rattle.rh_shell.specs.NearEnds.{first_of}
-use Rattle.rh_shell.specs.Rules.{Message, Text, Pdu, Packet}
-use Rattle.rh_shell.specs.Waiting.{Waiting, taken}
 use Rattle.rh_server.specs.declared.state.EndMark.TheVariants as end_mark
-use Rattle.rh_server.specs.declared.state.Greeting.{Greeting}
 use Rattle.rh_server.specs.declared.state.Greeting.TheVariants as greeting
-use Rattle.rh_server.specs.declared.state.InLeg.{InLeg}
-use Rattle.rh_server.specs.declared.state.OutLeg.{OutLeg}
-use Rattle.rh_server.specs.declared.state.Stage.{Stage}
 use Rattle.rh_server.specs.declared.state.Stage.TheVariants as stage
-use Rattle.rh_server.specs.OutLines.{lets, length_of}
-use Rattle.rh_server.specs.States.{Server, is_open, is_due, same_cookie, in_leg, out_at, out_place, out_cookie, without_in, without_out, removed_at}
-use Rattle.rh_server.specs.Opening.{Done, took, unexpected, is_first, has_room, may_up_by, up_by, out_leg_up, opens, first_out_at, with_first_out, conn_a2_at, on_conn_a2}
-use Rattle.rh_server.specs.Acknowledging.{acked_at, acked_in, acked_cookie, on_ack, on_ping_traffic}
-use Rattle.rh_server.specs.InReplacement.{take}
-use Rattle.rh_server.specs.OutReplacement.{recycle, answered_by, answered_on, out_r1_a4_by, out_r1_a4_at, may_answer, on_out_r1_a4}
-use Rattle.rh_server.specs.Ending.{give, settled, in_is_drawn, drawn_by, with_ack_dropped, lost_in, mark_by}
-use Rattle.rh_server.specs.Putting.{Pick, or_else, put_in, with_out, out_greeting_at, gate, gate_at, counts, counts_at, was_put, went_at, goes, waiting_by, waiting_at, put_waiting, may_go_at, pdu_by, put_pdu, may_end_at, is_end_due, put_end, put_pdu_or_end, next_out, settled_pick, put_open, put_out_at, put_by}
-use Rattle.rh_server.specs.Servers.{acts, first, on_is, on_os, packet_by, pdu}
-use Rattle.rh_server.specs.Servers.{rules as server_rules}
-use Rattle.law_moves.specs.Moves.{OnLeg, EndMove, end_started, all_end_moved}
-use Rattle.law_moves.specs.Wires.{of_leg}
-use Rattle.law_moves.proofs.Passages.Messages.{leg_more}
-use Rattle.law_moves.proofs.Passages.Logs.{RowKeeps, PutKeeps, StepsKeep, ActsKeep, end_moves_keep}
+use Rattle.law_moves.proofs.Vocabulary.{by_test, same_number, Cookie, Named, front_length, Leg, LegKind, ClientOut, OutServer, ClientIn, InServer, greeting as greeting_text, Count, Due, first_of, Message, Text, Pdu, Packet, Waiting, taken, OnLeg, EndMove, end_started, all_end_moved, of_leg}
+use Rattle.law_moves.proofs.Lemmas.{leg_more, RowKeeps, PutKeeps, StepsKeep, ActsKeep, end_moves_keep}
+use Rattle.law_role_server.proofs.Vocabulary.{Greeting, InLeg, OutLeg, Stage, lets, length_of, Server, is_open, is_due, same_cookie, in_leg, out_at, out_place, out_cookie, without_in, without_out, removed_at, Done, took, unexpected, is_first, has_room, may_up_by, up_by, out_leg_up, opens, first_out_at, with_first_out, conn_a2_at, on_conn_a2, acked_at, acked_in, acked_cookie, on_ack, on_ping_traffic, take, recycle, answered_by, answered_on, out_r1_a4_by, out_r1_a4_at}
+use Rattle.law_role_server.proofs.Vocabulary.{may_answer, on_out_r1_a4, give, settled, in_is_drawn, drawn_by, with_ack_dropped, lost_in, mark_by, Pick, or_else, put_in, with_out, out_greeting_at, gate, gate_at, counts, counts_at, was_put, went_at, goes, waiting_by, waiting_at, put_waiting, may_go_at, pdu_by, put_pdu, may_end_at, is_end_due, put_end, put_pdu_or_end, next_out, settled_pick, put_open, put_out_at, put_by, acts, first, on_is, on_os, packet_by, pdu}
+use Rattle.law_role_server.proofs.Vocabulary.{rules as server_rules}
+use Rattle.law_role_server.proofs.Counted.Replacing.{found_number}
+use Rattle.law_role_server_rows.proofs.Putting.Greets.{Greets, greets_start, greets_set, greets_removed, greets_up, greets_frame, greets_text, greets_other}
+use Rattle.law_role_server_rows.proofs.Refusing.Begun.{View as Seen, number_of, view as seen, traffic_same as ping_same}
+use Rattle.law_role_server_rows.proofs.Refusing.BegunSteps.{settled_same, recycle_same}
 use Rattle.law_role_server_rows.specs.Putting.Puts.{os}
 use Rattle.law_role_server_rows.specs.Putting.Copying.{leg_at}
 use Rattle.law_role_server_rows.specs.Putting.Greeting.{IsFrame, MayGreet}
-use Rattle.law_role_server_rows.proofs.Putting.Turns.{found_number}
-use Rattle.law_role_server_rows.proofs.Putting.Greets.{Greets, greets_start, greets_set, greets_removed, greets_up, greets_frame, greets_text, greets_other}
 
 -- ---- what the facts are about
-
-record Seen : Type 0 where
-  outs : List OutLeg
-  newest : ℕ
-
-abbrev seen : Server → Seen
-seen s = record { outs = s.outs; newest = s.newest_out }
-
-abbrev number_of : OutLeg → ℕ
-number_of leg = leg.number
 
 abbrev greets_of : OutLeg → Greeting
 greets_of leg = leg.greeting
@@ -72,15 +34,9 @@ is_same s n count (named.OutR1A8 a b) = search rules
 is_same s n count named.EndA2 = search rules
 is_same s n count m = refl
 
-ping_same : (s : Server) (count : Count) → seen (on_ping_traffic s count).0 ≡ seen s
-ping_same s count = search rules
-
 pdu_same : (s : Server) (leg : Leg) (count : Count) (bytes : List ℕ)
     → seen (pdu s leg count bytes).0 ≡ seen s
 pdu_same s leg count bytes = search rules
-
-settled_same : (s : Server) → seen (settled s) ≡ seen s
-settled_same s = search rules
 
 lost_same : (s : Server) (n : ℕ) (o : Option InLeg) → seen (lost_in s n o) ≡ seen s
 lost_same s n o = search rules
@@ -90,9 +46,6 @@ take_same s = search rules
 
 give_same : (s : Server) (bytes : List ℕ) → seen (give s bytes).0 ≡ seen s
 give_same s bytes = search rules
-
-recycle_same : (s : Server) → seen (recycle s).0 ≡ seen s
-recycle_same s = search rules
 
 in_same : (s : Server) (n : ℕ)
     → IfSome (put_in s n) (λ (one : Server × Message). seen one.0 ≡ seen s)
@@ -298,11 +251,6 @@ module _ (n : ℕ) where
           (greets_frame number_of greets_of n s.newest_out s.outs place x (of_leg (os n) put) one
           at (is ∙ e) greeted frame h))
           (λ e. keeps (of_leg (os n) put) h)
-
-      set_keeps : (y : OutLeg) → y.number ≡ x.number → y.greeting ≡ x.greeting
-          → Keeps s (with_out s place y)
-      set_keeps y same alike log k =
-          greets_set number_of greets_of n s.newest_out s.outs place x y log at same alike k
 
       counts_keeps : (w : Waiting) (len : ℕ)
           → Keeps s (counts (record s { waiting = w }) place len)

@@ -1,20 +1,9 @@
 -- one message more, by whose turn it is
-use Rattle.std.proofs.Common.{◌≡◌, ℕ, ◌==◌, ◌&&◌, Bool, true, false, if◌then◌else◌, List, [], ◌∷◌, ◌++◌, Some, inl, inr, refl, sym, ap, ◌∙◌, subst}
-use Rattle.std.proofs.lemmas.Bool.{false≢true, and_parts}
-use Rattle.std.proofs.lemmas.List.Quantifiers.{position-Some}
-use Rattle.std.proofs.lemmas.Option.{get_or_from_slice_get}
-use Rattle.std.specs.Prelude.{IfSome, slice_get, find}
-use Rattle.rh_keep.specs.Meters.{may_put}
-use Rattle.law_order.proofs.ByNumber.{by_test, same_number}
-use Rattle.rh_sig.specs.declared.named.Named.{Named}
+use Rattle.law_order.proofs.Vocabulary.{◌≡◌, ℕ, ◌==◌, ◌&&◌, Bool, true, false, if◌then◌else◌, List, [], ◌∷◌, ◌++◌, inl, inr, refl, sym, subst, false≢true, and_parts}
 use Rattle.rh_sig.specs.declared.named.Named.TheVariants as named
-use Rattle.rh_shell.specs.declared.due.Due.{Due}
-use Rattle.rh_server.specs.declared.state.EndMark.{EndMark}
 use Rattle.rh_server.specs.declared.state.Giving.{Giving}
-use Rattle.rh_server.specs.declared.state.OutLeg.{OutLeg}
-use Rattle.rh_server.specs.OutLines.{Gate, lets_packet}
-use Rattle.rh_server.specs.States.{Server, same_cookie, is_closing, is_put, is_nil, out_place}
-use Rattle.law_moves.specs.Moves.{OnLeg}
+use Rattle.law_moves.proofs.Vocabulary.{may_put, same_number, Named, OnLeg}
+use Rattle.law_role_server.proofs.Vocabulary.{EndMark, Gate, lets_packet, Server, same_cookie, is_closing, is_put, is_nil}
 use Rattle.law_role_server_rows.specs.Putting.Puts.{Turn, behind, behind_all, first_turn, os, PacketStands, Stands, StandFrom}
 
 pub behind_more : (t : Turn) (log : List OnLeg) (one : OnLeg)
@@ -28,24 +17,7 @@ stand_more t [] one all stands = (stands, tt)
 stand_more t (first ∷ log) one all stands =
     (all.0, stand_more (behind t first.1) log one all.1 stands)
 
--- ---- the leg that is found
-
--- it has the number
-pub found_number : (n place : ℕ) (legs : List OutLeg) (leg : OutLeg) → out_place n legs ≡ Some place
-    → slice_get legs place ≡ Some leg → leg.number ≡ n
-found_number n place legs leg e at =
-    let found = position-Some (λ (one : OutLeg). one.number == n) legs place leg e in
-    same_number leg.number n (ap (λ (one : OutLeg). one.number == n)
-    (sym (get_or_from_slice_get legs place leg leg at)) ∙ found.1)
-
 -- ---- what waits
-
-pub found_may : (may_go : Due → Bool) (dues : List Due)
-    → IfSome (find may_go dues) (λ (due : Due). may_go due ≡ true)
-found_may may_go [] = tt
-found_may may_go (due ∷ dues) =
-    by_test (λ o. IfSome o (λ (d : Due). may_go d ≡ true)) (may_go due) (Some due)
-    (find may_go dues) (λ t. t) (λ t. found_may may_go dues)
 
 -- what a gate lets go stands where it may
 pub let_stands : (g : Gate) (t : Turn) (n : ℕ) (packet : Named)

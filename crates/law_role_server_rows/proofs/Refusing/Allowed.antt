@@ -1,16 +1,7 @@
 -- what each allowed step of a role keeps, its moves keep, together with all that came and was put
-use Rattle.std.proofs.Common.{ℕ, List, [], ◌∷◌, Some, None, Ok, Err}
-use Rattle.std.specs.Prelude.{IsTrue}
-use Rattle.std.specs.declared.option.Option.{Option}
-use Rattle.std.specs.declared.result.Result.{Result}
-use Rattle.rh_rts.specs.declared.command.Cookie.{Cookie}
-use Rattle.rh_sig.specs.declared.named.Named.{Named}
-use Rattle.rh_line.specs.declared.leg.Leg.{Leg}
-use Rattle.rh_shell.specs.declared.answers.Count.{Count}
-use Rattle.rh_shell.specs.declared.end_role.GiveRefused.{GiveRefused}
-use Rattle.rh_shell.specs.Rules.{Rules, Acts, Row, Message, Pdu, Packet}
-use Rattle.law_moves.specs.Moves.{Move, Up, HeadCame, PduCame, PacketCame, Puts, IsDrawn, Marks, Pings, MayMove, OnLeg, Passage, is_in_use, moved, taken_by, put_by, EndMove, Moves, Gives, Takes, Closes, Recycles, EndPassage, MayEndMove, AreAllowedAtEnd, end_moved, all_end_moved, end_now_at, given_by, with_first}
-use Rattle.law_moves.proofs.Passages.Logs.{Fact, RowKeeps, PutKeeps, ActsKeep}
+use Rattle.law_order.proofs.Vocabulary.{ℕ, List, [], ◌∷◌, Some, None, Ok, Err, IsTrue, Option, Result}
+use Rattle.law_moves.proofs.Vocabulary.{Cookie, Named, Leg, Count, GiveRefused, Rules, Acts, Row, Message, Pdu, Packet, Move, Up, HeadCame, PduCame, PacketCame, Puts, IsDrawn, Marks, Pings, MayMove, OnLeg, Passage, is_in_use, moved, taken_by, put_by, EndMove, Moves, Gives, Takes, Closes, Recycles, EndPassage, MayEndMove, AreAllowedAtEnd, end_moved, all_end_moved, end_now_at, given_by, with_first}
+use Rattle.law_moves.proofs.Lemmas.{Fact, RowKeeps, PutKeeps, ActsKeep}
 
 -- a packet comes on a leg that is in use, and a leg is lost behind which only marks stand
 pub record MayKeep {S : Type 0} (rules : Rules S) (P : Fact S) : Type 0 where

@@ -1,8 +1,5 @@
 -- legs in ascending order of their numbers, and one of them that changes
-use Rattle.std.proofs.Common.{◌≡◌, ℕ, zero, suc, ◌<◌, ◌≤◌, List, [], ◌∷◌, ◌++◌, Some, None, arith, sym, ap, ◌∙◌, subst}
-use Rattle.std.specs.Prelude.{slice_get, slice_set, remove}
-use Rattle.std.specs.List.{AllByRecursion}
-use Rattle.std.specs.declared.option.Option.{Option}
+use Rattle.law_order.proofs.Vocabulary.{◌≡◌, ℕ, zero, suc, ◌<◌, ◌≤◌, List, [], ◌∷◌, ◌++◌, Some, None, arith, sym, ap, ◌∙◌, subst, slice_get, slice_set, remove, AllByRecursion, Option}
 
 abbrev number_by : {X : Type 0} → (X → ℕ) → Option X → ℕ
 number_by number_of None = 0

@@ -1,42 +1,14 @@
 -- on an os leg whose channel has no cookie, none began
-use Rattle.std.proofs.Common.{◌≡◌, ℕ, zero, suc, ◌+◌, ◌<◌, ◌≤◌, ◌==◌, List, [], ◌∷◌, ◌++◌, length, Bool, true, false, true≢false, if◌then◌else◌, ◌&&◌, not, Some, None, Ok, Err, arith, refl, sym, ap, ◌∙◌, subst, rules}
-use Rattle.std.proofs.lemmas.Bool.{false≢true, and_parts}
-use Rattle.std.specs.Prelude.{slice_get, slice_set, IfSome, IsTrue}
-use Rattle.std.specs.List.{AllByRecursion}
-use Rattle.std.specs.declared.option.Option.{Option}
-use Rattle.std.proofs.lemmas.List.Quantifiers.{position-Some}
-use Rattle.rh_window.specs.Sending.{unsent, after_acked}
 use Rattle.rh_keep.specs.Meters.{started}
-use Rattle.law_order.proofs.ByNumber.{by_test, same_number, test_other}
-use Rattle.rh_rts.specs.declared.command.Cookie.{Cookie}
-use Rattle.rh_sig.specs.declared.named.Named.{Named}
+use Rattle.law_order.proofs.Vocabulary.{◌≡◌, ℕ, zero, suc, ◌+◌, ◌<◌, ◌≤◌, ◌==◌, List, [], ◌∷◌, ◌++◌, length, Bool, true, false, true≢false, if◌then◌else◌, ◌&&◌, not, Some, None, Ok, Err, arith, refl, sym, ap, ◌∙◌, subst, rules, false≢true, and_parts, slice_get, slice_set, IfSome, IsTrue, AllByRecursion, Option, position-Some}
 use Rattle.rh_sig.specs.declared.named.Named.TheVariants as named
-use Rattle.rh_line.specs.declared.leg.Leg.{Leg}
-use Rattle.rh_line.specs.declared.leg.LegKind.{LegKind}
-use Rattle.rh_line.specs.declared.leg.LegKind.TheVariants.{ClientOut, OutServer, ClientIn, InServer}
-use Rattle.rh_shell.specs.declared.answers.Count.{Count}
 use Rattle.rh_shell.specs.declared.answers.Refused.TheVariants as refused
-use Rattle.rh_shell.specs.Rules.{Message, Packet}
-use Rattle.rh_shell.specs.Shells.{same_leg}
-use Rattle.rh_server.specs.declared.state.OutLeg.{OutLeg}
-use Rattle.rh_server.specs.declared.state.Stage.{Stage}
 use Rattle.rh_server.specs.declared.state.Stage.TheVariants as stage
 use Rattle.rh_server.specs.declared.out_line.Kind.TheVariants as kind
-use Rattle.rh_server.specs.OutLines.{waits}
-use Rattle.rh_server.specs.States.{Server, is_some, same_cookie, out_place, out_at, out_cookie}
-use Rattle.rh_server.specs.Opening.{Done, took, refuse, unexpected, is_first, out_leg_up, opens, first_out_at, with_first_out, conn_a2_at, on_conn_a2, on_conn_b2}
-use Rattle.rh_server.specs.Acknowledging.{acked_at, acked_in, acked_cookie, on_ack, on_ack_to, on_ping_traffic}
-use Rattle.rh_server.specs.InReplacement.{on_in_r1_a2, on_in_r1_a6, on_in_r2_a2}
-use Rattle.rh_server.specs.OutReplacement.{answered_by, answered_on, out_r1_a4_by, out_r1_a4_at, may_answer, on_out_r1_a4, on_out_r1_a8}
-use Rattle.rh_server.specs.Ending.{on_end_a2}
-use Rattle.rh_server.specs.Servers.{on_is, on_os, packet_by}
-use Rattle.rh_server.specs.Servers.{rules as server_rules}
-use Rattle.law_moves.specs.Passages.Passing.{count_of}
-use Rattle.law_moves.proofs.Passages.Messages.{each_so, count_append, leg_more}
-use Rattle.law_moves.proofs.Passages.Logs.{RowKeeps}
-use Rattle.law_moves.specs.Moves.{OnLeg, is_in_use, is_at_work}
-use Rattle.law_moves.specs.Wires.{of_leg}
-use Rattle.law_role_server.specs.Counted.Counting.{leg_at, often_at}
+use Rattle.law_moves.proofs.Vocabulary.{unsent, after_acked, by_test, same_number, test_other, Cookie, Named, Leg, LegKind, ClientOut, OutServer, ClientIn, InServer, Count, Message, Packet, same_leg, count_of, OnLeg, is_in_use, is_at_work, of_leg}
+use Rattle.law_moves.proofs.Lemmas.{each_so, count_append, leg_more, RowKeeps}
+use Rattle.law_role_server.proofs.Vocabulary.{OutLeg, Stage, waits, Server, is_some, same_cookie, out_place, out_at, out_cookie, Done, took, refuse, unexpected, is_first, out_leg_up, opens, first_out_at, with_first_out, conn_a2_at, on_conn_a2, on_conn_b2, acked_at, acked_in, acked_cookie, on_ack, on_ack_to, on_ping_traffic, on_in_r1_a2, on_in_r1_a6, on_in_r2_a2, answered_by, answered_on, out_r1_a4_by, out_r1_a4_at, may_answer, on_out_r1_a4, on_out_r1_a8, on_end_a2, on_is}
+use Rattle.law_role_server.proofs.Vocabulary.{on_os, packet_by, rules as server_rules, leg_at, often_at}
 use Rattle.law_role_server_rows.proofs.Refusing.Places.{all_at, all_set}
 use Rattle.law_role_server_rows.proofs.Refusing.Ascending.{Ascends, within_at, ascends_set, others_so}
 use Rattle.law_role_server_rows.proofs.Refusing.Told.{number_at}
@@ -101,7 +73,7 @@ a8_same s count a b = search rules
 end_same : (s : Server) (n : ℕ) (count : Count) → view (on_end_a2 s n count).0 ≡ view s
 end_same s n count = search rules
 
-traffic_same : (s : Server) (count : Count) → view (on_ping_traffic s count).0 ≡ view s
+pub traffic_same : (s : Server) (count : Count) → view (on_ping_traffic s count).0 ≡ view s
 traffic_same s count = search rules
 
 -- ---- channels that begin

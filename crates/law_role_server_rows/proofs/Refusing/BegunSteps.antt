@@ -1,34 +1,12 @@
 -- a server's other steps keep that none began on an os leg whose channel has no cookie
-use Rattle.std.proofs.Common.{◌≡◌, ℕ, ◌+◌, ◌==◌, List, Bool, true, false, ◌&&◌, Some, None, arith, refl, ap, rules}
-use Rattle.std.proofs.lemmas.Bool.{and_parts}
-use Rattle.std.specs.Prelude.{slice_get, IfSome}
-use Rattle.std.specs.declared.option.Option.{Option}
-use Rattle.law_order.proofs.ByNumber.{by_test, same_number}
-use Rattle.rh_rts.specs.declared.command.Cookie.{Cookie}
-use Rattle.rh_sig.specs.declared.named.Named.{Named}
+use Rattle.law_order.proofs.Vocabulary.{◌≡◌, ℕ, ◌+◌, ◌==◌, List, Bool, true, false, ◌&&◌, Some, None, arith, refl, ap, rules, and_parts, slice_get, IfSome, Option}
 use Rattle.rh_sig.specs.declared.named.Named.TheVariants as named
-use Rattle.rh_line.proofs.Queues.{each_push}
-use Rattle.rh_line.specs.Queue.{front_length}
-use Rattle.rh_line.specs.declared.leg.Leg.{Leg}
-use Rattle.rh_line.specs.declared.leg.LegKind.{LegKind}
-use Rattle.rh_line.specs.declared.leg.LegKind.TheVariants.{ClientOut, OutServer, ClientIn, InServer}
-use Rattle.rh_shell.specs.declared.due.Due.{Due}
-use Rattle.rh_shell.specs.Rules.{Message, Pdu}
-use Rattle.rh_shell.specs.Waiting.{Waiting, taken}
+use Rattle.rh_server.specs.Servers.{pdu_by}
 use Rattle.rh_server.specs.declared.state.Greeting.TheVariants as greetings
-use Rattle.rh_server.specs.declared.state.OutLeg.{OutLeg}
-use Rattle.rh_server.specs.OutLines.{Gate, lets, length_of}
-use Rattle.rh_server.specs.OutLegs.{counted, went}
-use Rattle.rh_server.specs.States.{Server, is_open, is_due, in_leg, out_place, removed_at, without_in, without_out}
-use Rattle.rh_server.specs.Opening.{may_up_by, has_room, out_leg_up, up, up_by}
-use Rattle.rh_server.specs.InReplacement.{take}
-use Rattle.rh_server.specs.OutReplacement.{recycle}
-use Rattle.rh_server.specs.Ending.{give, settled, in_is_drawn, drawn_by, with_ack_dropped, lost_in, mark_by}
-use Rattle.rh_server.specs.Putting.{Pick, or_else, put_in, out_greeting_at, put_out_greeting, gate_at, counts, counts_at, was_put, waiting_by, waiting_at, put_waiting, may_go_at, went_at, pdu_by as put_pdu_by, put_pdu, is_end_due, may_end_at, put_end, put_pdu_or_end, next_out, settled_pick, put_open, put_out_at, put_by as put_by_kind}
-use Rattle.rh_server.specs.Servers.{pdu_by, first, acts}
-use Rattle.rh_server.specs.Servers.{rules as server_rules}
-use Rattle.law_moves.proofs.Passages.Logs.{PutKeeps, ActsKeep}
-use Rattle.law_moves.specs.Moves.{OnLeg, EndMove, AreAllowedAtEnd, end_started, all_end_moved}
+use Rattle.law_moves.proofs.Vocabulary.{by_test, same_number, Cookie, Named, each_push, front_length, Leg, LegKind, ClientOut, OutServer, ClientIn, InServer, Due, Message, Pdu, Waiting, taken, OnLeg, EndMove, AreAllowedAtEnd, end_started, all_end_moved}
+use Rattle.law_moves.proofs.Lemmas.{PutKeeps, ActsKeep}
+use Rattle.law_role_server.proofs.Vocabulary.{OutLeg, Gate, lets, length_of, counted, went, Server, is_open, is_due, in_leg, out_place, removed_at, without_in, without_out, may_up_by, has_room, out_leg_up, up, up_by, take, recycle, give, settled, in_is_drawn, drawn_by, with_ack_dropped, lost_in, mark_by, Pick, or_else, put_in, out_greeting_at, put_out_greeting, gate_at, counts, counts_at, was_put, waiting_by, waiting_at, put_waiting, may_go_at, went_at, pdu_by as put_pdu_by}
+use Rattle.law_role_server.proofs.Vocabulary.{put_pdu, is_end_due, may_end_at, put_end, put_pdu_or_end, next_out, settled_pick, put_open, put_out_at, put_by as put_by_kind, first, acts, rules as server_rules}
 use Rattle.law_role_server_rows.proofs.Refusing.Ascending.{ascends_push, ascends_removed}
 use Rattle.law_role_server_rows.proofs.Refusing.Places.{all_removed}
 use Rattle.law_role_server_rows.proofs.Refusing.Allowed.{MayKeep, allowed_keep}
@@ -39,10 +17,10 @@ use Rattle.law_role_server_rows.proofs.Refusing.Begun.{View, view, number_of, Ba
 abbrev view_of : Seen → View
 view_of x = record { outs = x.outs; newest = x.newest }
 
-settled_same : (s : Server) → view (settled s) ≡ view s
+pub settled_same : (s : Server) → view (settled s) ≡ view s
 settled_same s = search rules
 
-recycle_same : (s : Server) → view (recycle s).0 ≡ view s
+pub recycle_same : (s : Server) → view (recycle s).0 ≡ view s
 recycle_same s = search rules
 
 module _ (test : Named → Bool) where

@@ -1,31 +1,11 @@
 -- each CONN/A2 came on the first os leg
-use Rattle.std.proofs.Common.{◌≡◌, ℕ, ◌+◌, ◌==◌, ◌&&◌, List, [], ◌∷◌, ◌++◌, Bool, true, false, not, if◌then◌else◌, Ok, Err, arith, refl, sym, ap, ◌∙◌, subst}
-use Rattle.std.proofs.lemmas.Bool.{and_parts}
-use Rattle.std.proofs.Common.{Some, None}
-use Rattle.law_order.proofs.ByNumber.{by_test, same_number}
-use Rattle.rh_rts.specs.declared.command.Cookie.{Cookie}
-use Rattle.rh_sig.specs.declared.named.Named.{Named}
+use Rattle.law_order.proofs.Vocabulary.{◌≡◌, ℕ, ◌+◌, ◌==◌, ◌&&◌, List, [], ◌∷◌, ◌++◌, Bool, true, false, not, if◌then◌else◌, Ok, Err, arith, refl, sym, ap, ◌∙◌, subst, and_parts, Some, None}
 use Rattle.rh_sig.specs.declared.named.Named.TheVariants as named
-use Rattle.rh_line.specs.declared.leg.Leg.{Leg}
-use Rattle.rh_line.specs.declared.leg.LegKind.{LegKind}
-use Rattle.rh_line.specs.declared.leg.LegKind.TheVariants.{ClientOut, OutServer, ClientIn, InServer}
-use Rattle.rh_shell.specs.declared.answers.Count.{Count}
-use Rattle.rh_shell.specs.Rules.{Message, Packet, Pdu}
-use Rattle.rh_shell.specs.Shells.{is_of}
+use Rattle.rh_server.specs.Servers.{pdu_by}
 use Rattle.rh_server.specs.declared.out_line.Kind.TheVariants as kind
-use Rattle.rh_server.specs.OutLines.{waits}
-use Rattle.rh_server.specs.States.{Server}
-use Rattle.rh_server.specs.Opening.{Done, unexpected, is_first, conn_a2_at, on_conn_a2}
-use Rattle.rh_server.specs.Putting.{Pick}
-use Rattle.rh_server.specs.Putting.{put as put_on}
-use Rattle.rh_server.specs.Servers.{on_os, on_is, packet_by, pdu_by, first, acts}
-use Rattle.rh_server.specs.Servers.{rules as server_rules}
-use Rattle.law_moves.specs.Passages.Passing.{count_of, of_kind}
-use Rattle.law_moves.proofs.Passages.Messages.{count_append, leg_more, kind_more}
-use Rattle.law_moves.proofs.Passages.Logs.{RowKeeps, PutKeeps, StepsKeep, ActsKeep, end_moves_keep}
-use Rattle.law_moves.specs.Moves.{OnLeg, EndMove, end_started, all_end_moved}
-use Rattle.law_moves.specs.Wires.{of_leg}
-use Rattle.law_role_server.specs.Counted.Counting.{is_conn_a2, leg_at, often, often_at}
+use Rattle.law_moves.proofs.Vocabulary.{by_test, same_number, Cookie, Named, Leg, LegKind, ClientOut, OutServer, ClientIn, InServer, Count, Message, Packet, Pdu, is_of, count_of, of_kind, OnLeg, EndMove, end_started, all_end_moved, of_leg}
+use Rattle.law_moves.proofs.Lemmas.{count_append, leg_more, kind_more, RowKeeps, PutKeeps, StepsKeep, ActsKeep, end_moves_keep}
+use Rattle.law_role_server.proofs.Vocabulary.{waits, Server, Done, unexpected, is_first, conn_a2_at, on_conn_a2, Pick, put as put_on, on_os, on_is, packet_by, first, acts, rules as server_rules, is_conn_a2, leg_at, often, often_at}
 use Rattle.law_role_server_rows.proofs.Refusing.Begun.{none_by}
 
 abbrev pub AreFirst : List OnLeg → Type 0

@@ -1,57 +1,32 @@
 -- why a server refuses a cookie
-use Rattle.std.proofs.Common.{◌≡◌, ◌⊎◌, inl, inr, ℕ, suc, ◌+◌, Bool, true, false, not, List, Some, None, Err, arith, refl, sym, ap, ◌∙◌, subst, rules}
-use Rattle.std.proofs.lemmas.Bool.{false≢true}
-use Rattle.std.proofs.lemmas.Bool.Decides.{not_from_Decides}
-use Rattle.std.proofs.lemmas.Slice.Eq.{bytes_eq-Decides}
-use Rattle.std.specs.Prelude.{slice_get, bytes_eq, IfSome}
-use Rattle.std.specs.declared.option.Option.{Option}
-use Rattle.law_order.proofs.ByNumber.{by_test}
-use Rattle.rh_rts.specs.declared.command.Cookie.{Cookie}
-use Rattle.rh_sig.specs.declared.named.Named.{Named}
+use Rattle.std.specs.Prelude.{bytes_eq}
+use Rattle.law_order.proofs.Vocabulary.{◌≡◌, ◌⊎◌, inl, inr, ℕ, suc, ◌+◌, false, not, List, Some, None, Err, arith, refl, sym, ap, ◌∙◌, subst, rules, not_from_Decides, bytes_eq-Decides, slice_get, IfSome, Option}
 use Rattle.rh_sig.specs.declared.named.Named.TheVariants as named
-use Rattle.rh_line.specs.declared.leg.LegKind.{LegKind}
-use Rattle.rh_line.specs.declared.leg.LegKind.TheVariants.{ClientOut, OutServer, ClientIn, InServer}
-use Rattle.rh_shell.specs.declared.answers.Count.{Count}
 use Rattle.rh_shell.specs.declared.answers.Refused.TheVariants as refused
-use Rattle.rh_shell.specs.Rules.{Row}
-use Rattle.rh_server.specs.declared.state.InLeg.{InLeg}
-use Rattle.rh_server.specs.declared.state.OutLeg.{OutLeg}
-use Rattle.rh_server.specs.declared.state.Replacement.{Replacement}
-use Rattle.rh_server.specs.declared.state.Replacement.TheVariants.{Steady, Asked, Answered, Confirmed}
-use Rattle.rh_server.specs.declared.state.Stage.{Stage}
 use Rattle.rh_server.specs.declared.state.Stage.TheVariants as stage
-use Rattle.rh_server.specs.States.{Server, is_fresh, same_cookie, in_leg, no_cookie, cookie_by, out_place, out_at, out_cookie}
-use Rattle.rh_server.specs.Opening.{Done, took, refuse, unexpected, is_first, conn_a2_at, on_conn_a2, conn_b2_at, on_conn_b2}
-use Rattle.rh_server.specs.Acknowledging.{acked_in, acked_cookie, on_ack, on_ack_to, on_ping_traffic}
-use Rattle.rh_server.specs.InReplacement.{announced, in_r1_a2_by, in_r1_a2_at, on_in_r1_a2, hands_over, on_in_r1_a6, on_in_r2_a2}
-use Rattle.rh_server.specs.OutReplacement.{answered_on, out_r1_a4_by, out_r1_a4_at, on_out_r1_a4, out_r1_a8_at, on_out_r1_a8}
-use Rattle.rh_server.specs.Ending.{on_end_a2}
-use Rattle.rh_server.specs.Servers.{packet_by, on_is, on_os}
-use Rattle.law_moves.specs.Moves.{OnLeg, Passage}
-use Rattle.law_role_server.specs.Counted.Counting.{is_out_r1_a9, out_put}
-use Rattle.law_role_server_rows.specs.Refusing.Cookies.{IsConnection, IsOutChannel}
-use Rattle.law_role_server_rows.specs.Refusing.Refusing.{IsOther, MismatchIn, MismatchOut, MismatchBy}
+use Rattle.law_moves.proofs.Vocabulary.{by_test, Cookie, Named, LegKind, ClientOut, OutServer, ClientIn, InServer, Count, Row, OnLeg, Passage}
+use Rattle.law_role_server.proofs.Vocabulary.{InLeg, OutLeg, Replacement, Steady, Asked, Answered, Confirmed, Stage, Server, is_fresh, same_cookie, in_leg, no_cookie, cookie_by, out_place, out_at, out_cookie, Done, took, refuse, unexpected, is_first, conn_a2_at, on_conn_a2, conn_b2_at, on_conn_b2, acked_in, acked_cookie, on_ack, on_ack_to, on_ping_traffic, announced, in_r1_a2_by, in_r1_a2_at, on_in_r1_a2, hands_over, on_in_r1_a6, on_in_r2_a2, answered_on, out_r1_a4_by}
+use Rattle.law_role_server.proofs.Vocabulary.{out_r1_a4_at, on_out_r1_a4, out_r1_a8_at, on_out_r1_a8, on_end_a2, packet_by, on_is, on_os, is_out_r1_a9, out_put}
+use Rattle.law_role_server.proofs.Gives.{negated as is_not}
 use Rattle.law_role_server_rows.proofs.Refusing.Places.{all_at}
 use Rattle.law_role_server_rows.proofs.Refusing.Told.{seen, StageTold, OutTold, CookieTold, ReplacementTold, Known, number_at}
+use Rattle.law_role_server_rows.specs.Refusing.Cookies.{IsConnection, IsOutChannel}
+use Rattle.law_role_server_rows.specs.Refusing.Refusing.{IsOther, MismatchIn, MismatchOut, MismatchBy}
 
 -- ---- what a row tells
 
-abbrev expected_of : Row → Cookie
+abbrev pub expected_of : Row → Cookie
 expected_of (Err (refused.Cookie expected got)) = expected
 expected_of row = no_cookie
 
-abbrev got_of : Row → Cookie
+abbrev pub got_of : Row → Cookie
 got_of (Err (refused.Cookie expected got)) = got
 got_of row = no_cookie
 
-differ : (a b : Cookie) → same_cookie a b ≡ false → a ≡ b → ⊥
+pub differ : (a b : Cookie) → same_cookie a b ≡ false → a ≡ b → ⊥
 differ a b e same =
     not_from_Decides (bytes_eq a.0 b.0) (bytes_eq-Decides a.0 b.0) e
     (ap (λ (c : Cookie). c.0) same)
-
-is_not : (t : Bool) → not t ≡ true → t ≡ false
-is_not true e = absurd (false≢true e)
-is_not false e = refl
 
 module _ (expected got : Cookie) where
   abbrev Refuses : Done → Type 0

@@ -1,20 +1,12 @@
 -- why a server refuses CONN/A2 and CONN/B2
-use Rattle.std.proofs.Common.{◌≡◌, ◌⊎◌, inl, inr, ℕ, ◌≤◌, ◌==◌, ◌&&◌, true, false, not, Err, arith, refl, ap}
-use Rattle.law_order.proofs.ByNumber.{by_test, other_number}
-use Rattle.rh_rts.specs.declared.command.Cookie.{Cookie}
-use Rattle.rh_shell.specs.declared.answers.Count.{Count}
+use Rattle.law_order.proofs.Vocabulary.{◌≡◌, ◌⊎◌, inl, inr, ℕ, ◌≤◌, ◌==◌, ◌&&◌, true, false, not, Err, arith, refl, ap}
 use Rattle.rh_shell.specs.declared.answers.Refused.TheVariants as refused
-use Rattle.rh_server.specs.declared.state.Stage.{Stage}
 use Rattle.rh_server.specs.declared.state.Stage.TheVariants as stage
 use Rattle.rh_server.specs.declared.out_line.Kind.TheVariants as kind
-use Rattle.rh_server.specs.OutLines.{waits}
-use Rattle.rh_server.specs.States.{Server, same_cookie}
-use Rattle.rh_server.specs.Opening.{Done, unexpected, is_first, conn_a2_at, on_conn_a2, conn_b2_at, on_conn_b2}
-use Rattle.law_moves.specs.Moves.{Passage}
-use Rattle.law_moves.specs.Passages.Counted.{Tells}
-use Rattle.law_role_server.specs.Counted.Counting.{is_conn_a2, is_conn_b2, is_conn_c1, in_came, out_came}
-use Rattle.law_role_server.specs.Counted.Opening.{since_conn_a2, since_conn_b2, since_open, OpensOnce}
-use Rattle.law_role_server_rows.proofs.Refusing.Tests.{one_fails, not_false, later_count, one_waits, is_c1}
+use Rattle.law_moves.proofs.Vocabulary.{by_test, other_number, Cookie, Count, Passage, Tells}
+use Rattle.law_role_server.proofs.Vocabulary.{Stage, waits, Server, same_cookie, Done, unexpected, is_first, conn_a2_at, on_conn_a2, conn_b2_at, on_conn_b2, is_conn_a2, is_conn_b2, is_conn_c1, in_came, out_came, since_conn_a2, since_conn_b2, since_open, OpensOnce}
+use Rattle.law_role_server.proofs.Takes.{not_false}
+use Rattle.law_role_server_rows.proofs.Refusing.Tests.{one_fails, later_count, one_waits, is_c1}
 
 -- the row refuses as unexpected
 abbrev pub IsUnexpected : Done → Type 0

@@ -1,45 +1,22 @@
 -- why a server refuses OUT_R1/A4 and Ack as unexpected
-use Rattle.std.proofs.Common.{◌≡◌, ◌⊎◌, inl, inr, ℕ, suc, ◌+◌, ◌≤◌, ◌==◌, ◌&&◌, Bool, false, true≢false, not, List, [], ◌∷◌, Some, None, arith, refl, sym, ap, ◌∙◌, subst, rules, zero}
-use Rattle.std.proofs.lemmas.Bool.{false≢true, and_parts}
-use Rattle.std.specs.Prelude.{slice_get, IfSome, IsTrue}
-use Rattle.std.specs.List.{AllByRecursion}
-use Rattle.std.specs.declared.option.Option.{Option}
-use Rattle.law_order.proofs.ByNumber.{by_test, other_number}
-use Rattle.rh_rts.specs.declared.command.Cookie.{Cookie}
-use Rattle.rh_sig.specs.declared.named.Named.{Named}
-use Rattle.rh_line.specs.declared.leg.LegKind.TheVariants.{OutServer}
-use Rattle.rh_shell.specs.declared.answers.Count.{Count}
+use Rattle.law_order.proofs.Vocabulary.{◌≡◌, ◌⊎◌, inl, inr, ℕ, suc, ◌+◌, ◌≤◌, ◌==◌, ◌&&◌, Bool, false, true≢false, not, List, [], ◌∷◌, Some, None, arith, refl, sym, ap, ◌∙◌, subst, rules, zero, false≢true, and_parts, slice_get, IfSome, IsTrue, AllByRecursion, Option}
 use Rattle.rh_shell.specs.declared.answers.Refused.TheVariants as refused
-use Rattle.rh_shell.specs.Rules.{Message, Text, Pdu, Packet}
-use Rattle.rh_shell.specs.NearEnds.{is_ended}
-use Rattle.rh_server.specs.declared.state.OutLeg.{OutLeg}
-use Rattle.rh_server.specs.declared.state.Replacement.{Replacement}
-use Rattle.rh_server.specs.declared.state.Replacement.TheVariants.{Steady, Asked, Answered, Confirmed}
-use Rattle.rh_server.specs.declared.state.Stage.{Stage}
 use Rattle.rh_server.specs.declared.state.Stage.TheVariants as stage
 use Rattle.rh_server.specs.declared.out_line.Kind.TheVariants as kind
-use Rattle.rh_server.specs.OutLines.{waits}
-use Rattle.rh_server.specs.States.{Server, phase_of, is_some, same_cookie, cookie_by, out_place, out_at, out_cookie}
-use Rattle.rh_server.specs.Opening.{Done, unexpected, refuse, is_first}
-use Rattle.rh_server.specs.Acknowledging.{acked_at, acked_in, acked_cookie, on_ack}
-use Rattle.rh_server.specs.OutReplacement.{answered_by, answered_on, out_r1_a4_by, out_r1_a4_at, is_asked, may_answer, on_out_r1_a4}
-use Rattle.rh_server.specs.Servers.{rules as server_rules}
-use Rattle.law_moves.specs.Passages.Passing.{count_of, of_kind}
-use Rattle.law_moves.specs.Moves.{Passage, is_in_use, is_at_work}
-use Rattle.law_moves.specs.Passages.Counted.{Tells}
-use Rattle.law_role_server.specs.Counted.Counting.{is_conn_a2, is_out_r1_a1, is_out_r1_a4, is_out_r1_a9, out_came, out_put, leg_at, often_at}
-use Rattle.law_role_server.specs.Counted.Opening.{since_conn_a2, since_conn_b2, IsText, OpensOnce}
-use Rattle.law_role_server.specs.Counted.Replacing.{since_asked, since_answered, ArePutInTurn, AreReplaced}
-use Rattle.law_role_server_rows.specs.Refusing.Refusing.{IsUnbegun}
+use Rattle.law_moves.proofs.Vocabulary.{by_test, other_number, Cookie, Named, OutServer, Count, Message, Text, Pdu, Packet, is_ended, count_of, of_kind, Passage, is_in_use, is_at_work, Tells}
+use Rattle.law_role_server.proofs.Vocabulary.{OutLeg, Replacement, Steady, Asked, Answered, Confirmed, Stage, waits, Server, phase_of, is_some, same_cookie, cookie_by, out_place, out_at, out_cookie, Done, unexpected, refuse, is_first, acked_at, acked_in, acked_cookie, on_ack, answered_by, answered_on, out_r1_a4_by, out_r1_a4_at, is_asked, may_answer, on_out_r1_a4, rules as server_rules, is_conn_a2, is_out_r1_a1, is_out_r1_a4, is_out_r1_a9, out_came, out_put, leg_at, often_at}
+use Rattle.law_role_server.proofs.Vocabulary.{since_conn_a2, since_conn_b2, IsText, OpensOnce, since_asked, since_answered, ArePutInTurn, AreReplaced}
+use Rattle.law_role_server.proofs.Takes.{not_false}
 use Rattle.law_role_server_rows.proofs.Refusing.Writing.{has_place, Writes}
 use Rattle.law_role_server_rows.proofs.Refusing.FirstLeg.{AreFirst}
-use Rattle.law_role_server_rows.proofs.Refusing.Tests.{one_fails, not_false, first_count, later_count, out_waits, WaitsOut}
+use Rattle.law_role_server_rows.proofs.Refusing.Tests.{one_fails, first_count, later_count, out_waits, WaitsOut}
 use Rattle.law_role_server_rows.proofs.Refusing.Places.{all_at}
 use Rattle.law_role_server_rows.proofs.Refusing.Told.{seen, number_at}
 use Rattle.law_role_server_rows.proofs.Refusing.Begun.{view, Bare, Begun, is_there, in_use_at}
 use Rattle.law_role_server_rows.proofs.Refusing.Openings.{IsUnexpected}
+use Rattle.law_role_server_rows.specs.Refusing.Refusing.{IsUnbegun}
 
-no_packets : (test : Named → Bool) (messages : List Message) → AllByRecursion IsText messages
+pub no_packets : (test : Named → Bool) (messages : List Message) → AllByRecursion IsText messages
     → count_of test messages ≡ 0
 no_packets test [] all = refl
 no_packets test (Text bytes ∷ messages) all = no_packets test messages all.1

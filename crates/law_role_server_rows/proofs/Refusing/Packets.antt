@@ -1,32 +1,11 @@
 -- why a server refuses, packet by packet
-use Rattle.std.proofs.Common.{◌≡◌, ◌⊎◌, inl, inr, ℕ, ◌≤◌, ◌==◌, ◌&&◌, Bool, false, not, arith, refl, ap, rules}
-use Rattle.std.specs.Prelude.{IsTrue}
-use Rattle.std.specs.declared.option.Option.{Option}
-use Rattle.law_order.proofs.ByNumber.{by_test, other_number}
-use Rattle.rh_rts.specs.declared.command.Cookie.{Cookie}
-use Rattle.rh_sig.specs.declared.named.Named.{Named}
+use Rattle.law_order.proofs.Vocabulary.{◌≡◌, ◌⊎◌, inl, inr, ℕ, ◌≤◌, ◌==◌, ◌&&◌, Bool, false, not, arith, refl, ap, rules, IsTrue, Option}
 use Rattle.rh_sig.specs.declared.named.Named.TheVariants as named
-use Rattle.rh_line.specs.declared.leg.Leg.{Leg}
-use Rattle.rh_line.specs.declared.leg.LegKind.{LegKind}
-use Rattle.rh_line.specs.declared.leg.LegKind.TheVariants.{ClientOut, OutServer, ClientIn, InServer}
-use Rattle.rh_shell.specs.declared.answers.Count.{Count}
-use Rattle.rh_server.specs.declared.state.Replacement.{Replacement}
-use Rattle.rh_server.specs.declared.state.Replacement.TheVariants.{Steady, Asked, Answered, Confirmed}
 use Rattle.rh_server.specs.declared.out_line.Kind.TheVariants as kind
-use Rattle.rh_server.specs.OutLines.{waits}
-use Rattle.rh_server.specs.States.{Server, same_cookie}
-use Rattle.rh_server.specs.Opening.{Done, took, unexpected, is_first}
-use Rattle.rh_server.specs.Acknowledging.{forwards_writing, forwards_to, channel_leg, on_ack_to, on_ping_traffic}
-use Rattle.rh_server.specs.OutReplacement.{out_r1_a8_at, on_out_r1_a8}
-use Rattle.rh_server.specs.Servers.{packet_by, on_is, on_os}
-use Rattle.rh_server.specs.Servers.{rules as server_rules}
-use Rattle.law_moves.specs.Moves.{Passage, is_in_use}
-use Rattle.law_moves.specs.Passages.Counted.{Tells}
-use Rattle.law_role_server.specs.Counted.Counting.{is_conn_a2, is_out_r1_a4, is_out_r1_a5, is_out_r1_a8, in_came, out_put, leg_at}
-use Rattle.law_role_server.specs.Counted.Opening.{OpensOnce}
-use Rattle.law_role_server.specs.Counted.Replacing.{since_asked, since_answered, since_confirmed, ArePutInTurn, AreReplaced}
-use Rattle.law_role_server_rows.specs.Refusing.Refusing.{came_on, UnexpectedBy, RefusesFor}
-use Rattle.law_role_server_rows.proofs.Refusing.Tests.{one_fails, not_false, first_count, out_waits, WaitsOut}
+use Rattle.law_moves.proofs.Vocabulary.{by_test, other_number, Cookie, Named, Leg, LegKind, ClientOut, OutServer, ClientIn, InServer, Count, Passage, is_in_use, Tells}
+use Rattle.law_role_server.proofs.Vocabulary.{Replacement, Steady, Asked, Answered, Confirmed, waits, Server, same_cookie, Done, took, unexpected, is_first, forwards_writing, forwards_to, channel_leg, on_ack_to, on_ping_traffic, out_r1_a8_at, on_out_r1_a8, packet_by, on_is, on_os, rules as server_rules, is_conn_a2, is_out_r1_a4, is_out_r1_a5, is_out_r1_a8, in_came, out_put, leg_at, OpensOnce, since_asked, since_answered, since_confirmed, ArePutInTurn, AreReplaced}
+use Rattle.law_role_server.proofs.Takes.{not_false}
+use Rattle.law_role_server_rows.proofs.Refusing.Tests.{one_fails, first_count, out_waits, WaitsOut}
 use Rattle.law_role_server_rows.proofs.Refusing.Begun.{view, Begun}
 use Rattle.law_role_server_rows.proofs.Refusing.Writing.{Writes}
 use Rattle.law_role_server_rows.proofs.Refusing.FirstLeg.{AreFirst}
@@ -34,6 +13,7 @@ use Rattle.law_role_server_rows.proofs.Refusing.OutRows.{ack_refused, a4_refused
 use Rattle.law_role_server_rows.proofs.Refusing.Told.{seen, Known}
 use Rattle.law_role_server_rows.proofs.Refusing.Mismatches.{refused_other}
 use Rattle.law_role_server_rows.proofs.Refusing.Openings.{IsUnexpected, conn_a2_refused, conn_b2_refused}
+use Rattle.law_role_server_rows.specs.Refusing.Refusing.{came_on, UnexpectedBy, RefusesFor}
 
 -- ---- acknowledgements
 

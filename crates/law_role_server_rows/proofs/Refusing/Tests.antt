@@ -1,29 +1,15 @@
 -- what the tests of a row tell, and what waits
-use Rattle.std.proofs.Common.{◌≡◌, ◌⊎◌, inl, inr, ℕ, suc, ◌+◌, ◌≤◌, ◌&&◌, Bool, true, false, true≢false, not, if◌then◌else◌, List, [], ◌∷◌, Some, arith, refl}
-use Rattle.std.proofs.lemmas.Bool.{false≢true, and_parts}
-use Rattle.std.specs.Prelude.{find}
-use Rattle.rh_sig.specs.declared.named.Named.{Named}
+use Rattle.law_order.proofs.Vocabulary.{◌≡◌, ◌⊎◌, inl, inr, ℕ, suc, ◌+◌, ◌≤◌, ◌&&◌, Bool, true, false, if◌then◌else◌, List, [], ◌∷◌, Some, arith, refl, false≢true, and_parts, find}
 use Rattle.rh_sig.specs.declared.named.Named.TheVariants as named
-use Rattle.rh_shell.specs.declared.answers.Count.{Count}
-use Rattle.rh_shell.specs.declared.answers.Count.TheVariants as counts
-use Rattle.rh_shell.specs.declared.due.Due.{Due}
-use Rattle.rh_shell.specs.declared.due.Origin.TheVariants.{Own}
 use Rattle.rh_shell.specs.Waiting.{is_of}
-use Rattle.rh_server.specs.declared.out_line.Kind.{Kind}
+use Rattle.rh_shell.specs.declared.answers.Count.TheVariants as counts
 use Rattle.rh_server.specs.declared.out_line.Kind.TheVariants as kind
-use Rattle.rh_server.specs.OutLines.{is_kind, is_own}
-use Rattle.rh_server.specs.States.{is_some}
-use Rattle.rh_server.specs.Opening.{is_first}
-use Rattle.law_moves.specs.Passages.Counted.{Tells}
-use Rattle.law_role_server.specs.Counted.Counting.{is_conn_c1, is_out_r1_a1, is_out_r1_a5, is_out_r1_a9, waiting_of}
+use Rattle.law_moves.proofs.Vocabulary.{Named, Count, Due, Own, Tells}
+use Rattle.law_role_server.proofs.Vocabulary.{Kind, is_kind, is_own, is_some, is_first, is_conn_c1, is_out_r1_a1, is_out_r1_a5, is_out_r1_a9, waiting_of}
 
 pub one_fails : (a b : Bool) → a && b ≡ false → (a ≡ false) ⊎ (b ≡ false)
 one_fails false b e = inl refl
 one_fails true b e = inr e
-
-pub not_false : (a : Bool) → not a ≡ false → a ≡ true
-not_false true e = refl
-not_false false e = absurd (true≢false e)
 
 -- ---- the count
 

@@ -1,44 +1,16 @@
 -- the cookies that a server knows came: of its connection, and of its OUT channels
-use Rattle.std.proofs.Common.{◌≡◌, ◌⊎◌, inl, inr, ℕ, ◌+◌, ◌==◌, List, [], ◌∷◌, ◌++◌, Bool, true, if◌then◌else◌, ◌&&◌, not, Some, None, Ok, Err, refl, sym, ap, ◌∙◌, subst, rules}
-use Rattle.std.proofs.lemmas.Bool.{and_parts}
-use Rattle.std.specs.Prelude.{slice_get, slice_set, IfSome}
-use Rattle.std.specs.List.{AllByRecursion}
-use Rattle.std.specs.declared.option.Option.{Option}
-use Rattle.rh_window.specs.Sending.{unsent, after_acked}
 use Rattle.rh_keep.specs.Meters.{started}
-use Rattle.law_order.proofs.ByNumber.{by_test, same_number, test_same}
-use Rattle.rh_rts.specs.declared.command.Cookie.{Cookie}
-use Rattle.rh_sig.specs.declared.named.Named.{Named}
+use Rattle.law_order.proofs.Vocabulary.{◌≡◌, ◌⊎◌, inl, inr, ℕ, ◌+◌, ◌==◌, List, [], ◌∷◌, ◌++◌, Bool, true, if◌then◌else◌, ◌&&◌, not, Some, None, Ok, Err, refl, sym, ap, ◌∙◌, subst, rules, and_parts, slice_get, slice_set, IfSome, AllByRecursion, Option}
 use Rattle.rh_sig.specs.declared.named.Named.TheVariants as named
-use Rattle.rh_line.specs.declared.leg.LegKind.{LegKind}
-use Rattle.rh_line.specs.declared.leg.LegKind.TheVariants.{ClientOut, OutServer, ClientIn, InServer}
-use Rattle.rh_shell.specs.declared.answers.Count.{Count}
 use Rattle.rh_shell.specs.declared.answers.Refused.TheVariants as refused
-use Rattle.rh_shell.specs.Rules.{Packet}
-use Rattle.rh_shell.specs.Shells.{is_of}
-use Rattle.rh_server.specs.declared.state.InLeg.{InLeg}
-use Rattle.rh_server.specs.declared.state.OutLeg.{OutLeg}
-use Rattle.rh_server.specs.declared.state.Replacement.{Replacement}
-use Rattle.rh_server.specs.declared.state.Replacement.TheVariants.{Steady, Asked, Answered, Confirmed}
-use Rattle.rh_server.specs.declared.state.Stage.{Stage}
 use Rattle.rh_server.specs.declared.state.Stage.TheVariants as stage
 use Rattle.rh_server.specs.declared.out_line.Kind.TheVariants as kind
-use Rattle.rh_server.specs.OutLines.{waits}
-use Rattle.rh_server.specs.States.{Server, same_cookie, in_leg, out_place, out_at, out_cookie}
-use Rattle.rh_server.specs.Opening.{Done, took, refuse, unexpected, is_first, opens, first_out_at, with_first_out, conn_a2_at, on_conn_a2, first_in, with_first_in, conn_b2_at, on_conn_b2}
-use Rattle.rh_server.specs.Acknowledging.{acked_at, acked_in, acked_cookie, on_ack, on_ack_to, on_ping_traffic}
-use Rattle.rh_server.specs.InReplacement.{on_in_r1_a2, on_in_r1_a6, on_in_r2_a2}
-use Rattle.rh_server.specs.OutReplacement.{answered_by, answered_on, out_r1_a4_by, out_r1_a4_at, may_answer, on_out_r1_a4, out_r1_a8_at, on_out_r1_a8}
-use Rattle.rh_server.specs.Ending.{on_end_a2}
-use Rattle.rh_server.specs.Servers.{on_is, on_os, packet_by}
-use Rattle.law_moves.specs.Passages.Passing.{of_kind, HasOne}
-use Rattle.law_moves.proofs.Passages.Messages.{each_so, one_more_so, last_one_so, leg_more, kind_more}
-use Rattle.law_moves.proofs.Passages.Logs.{RowKeeps}
-use Rattle.law_moves.specs.Moves.{OnLeg}
-use Rattle.law_moves.specs.Wires.{of_leg}
-use Rattle.law_role_server.specs.Counted.Counting.{leg_at}
-use Rattle.law_role_server_rows.specs.Refusing.Cookies.{Connects, OpensOut, IsConnection, IsOutChannel}
+use Rattle.law_moves.proofs.Vocabulary.{unsent, after_acked, by_test, same_number, test_same, Cookie, Named, LegKind, ClientOut, OutServer, ClientIn, InServer, Count, Packet, is_of, of_kind, HasOne, OnLeg, of_leg}
+use Rattle.law_moves.proofs.Lemmas.{each_so, one_more_so, last_one_so, leg_more, kind_more, RowKeeps}
+use Rattle.law_role_server.proofs.Vocabulary.{InLeg, OutLeg, Replacement, Steady, Asked, Answered, Confirmed, Stage, waits, Server, same_cookie, in_leg, out_place, out_at, out_cookie, Done, took, refuse, unexpected, is_first, opens, first_out_at, with_first_out, conn_a2_at, on_conn_a2, first_in, with_first_in, conn_b2_at, on_conn_b2, acked_at, acked_in, acked_cookie, on_ack, on_ack_to, on_ping_traffic, on_in_r1_a2, on_in_r1_a6, on_in_r2_a2, answered_by, answered_on}
+use Rattle.law_role_server.proofs.Vocabulary.{out_r1_a4_by, out_r1_a4_at, may_answer, on_out_r1_a4, out_r1_a8_at, on_out_r1_a8, on_end_a2, on_is, on_os, packet_by, leg_at}
 use Rattle.law_role_server_rows.proofs.Refusing.Places.{all_at, all_set, found_passes}
+use Rattle.law_role_server_rows.specs.Refusing.Cookies.{Connects, OpensOut, IsConnection, IsOutChannel}
 
 -- ---- what is known
 

@@ -1,40 +1,15 @@
 -- the leg of the writing channel is there, and that of its successor (profile)
-use Rattle.std.proofs.Common.{◌≡◌, ◌⊎◌, inl, inr, ℕ, zero, suc, ◌+◌, ◌==◌, List, [], ◌∷◌, ◌++◌, Bool, true, false, cond, ◌&&◌, not, Some, None, Ok, Err, refl, sym, ap, ◌∙◌, subst}
-use Rattle.std.proofs.lemmas.Bool.{false≢true, and_parts}
-use Rattle.std.specs.Prelude.{slice_get, slice_set, remove, IsTrue}
-use Rattle.std.specs.declared.option.Option.{Option}
-use Rattle.rh_window.specs.Sending.{unsent, after_acked}
 use Rattle.rh_keep.specs.Meters.{started}
-use Rattle.law_order.proofs.ByNumber.{by_test, same_number, other_number}
-use Rattle.rh_rts.specs.declared.command.Cookie.{Cookie}
-use Rattle.rh_sig.specs.declared.named.Named.{Named}
+use Rattle.law_order.proofs.Vocabulary.{◌≡◌, ◌⊎◌, inl, inr, ℕ, zero, suc, ◌+◌, ◌==◌, List, [], ◌∷◌, ◌++◌, Bool, true, false, cond, ◌&&◌, not, Some, None, Ok, Err, refl, sym, ap, ◌∙◌, subst, false≢true, and_parts, slice_get, slice_set, remove, IsTrue, Option}
 use Rattle.rh_sig.specs.declared.named.Named.TheVariants as named
-use Rattle.rh_line.specs.declared.leg.LegKind.{LegKind}
-use Rattle.rh_line.specs.declared.leg.LegKind.TheVariants.{ClientOut, OutServer, ClientIn, InServer}
-use Rattle.rh_shell.specs.declared.answers.Count.{Count}
 use Rattle.rh_shell.specs.declared.answers.Refused.TheVariants as refused
-use Rattle.rh_shell.specs.Waiting.{taken}
-use Rattle.rh_server.specs.declared.state.OutLeg.{OutLeg}
-use Rattle.rh_server.specs.declared.state.Replacement.{Replacement}
-use Rattle.rh_server.specs.declared.state.Replacement.TheVariants.{Steady, Asked, Answered, Confirmed}
-use Rattle.rh_server.specs.declared.state.Stage.{Stage}
 use Rattle.rh_server.specs.declared.state.Stage.TheVariants as stage
 use Rattle.rh_server.specs.declared.out_line.Kind.TheVariants as kind
-use Rattle.rh_server.specs.OutLines.{waits}
-use Rattle.rh_server.specs.States.{Server, is_some, same_cookie, in_leg, out_place, out_at, out_cookie}
-use Rattle.rh_server.specs.Opening.{Done, took, refuse, unexpected, is_first, opens, first_out_at, with_first_out, conn_a2_at, on_conn_a2, with_first_in, conn_b2_at, on_conn_b2}
-use Rattle.rh_server.specs.Acknowledging.{acked_at, acked_in, acked_cookie, on_ack, on_ack_to, on_ping_traffic}
-use Rattle.rh_server.specs.InReplacement.{on_in_r1_a2, on_in_r1_a6, on_in_r2_a2}
-use Rattle.rh_server.specs.OutReplacement.{answered_by, answered_on, out_r1_a4_by, out_r1_a4_at, may_answer, on_out_r1_a4, out_r1_a8_at, on_out_r1_a8}
-use Rattle.rh_server.specs.Ending.{on_end_a2}
-use Rattle.rh_server.specs.Servers.{on_is, on_os, packet_by}
-use Rattle.rh_server.specs.Servers.{rules as server_rules}
-use Rattle.law_moves.proofs.Passages.Logs.{RowKeeps}
-use Rattle.law_moves.specs.Moves.{OnLeg, is_in_use}
-use Rattle.law_role_server.specs.Counted.Counting.{leg_at}
-use Rattle.law_role_server.specs.Counted.Opening.{since_conn_a2}
-use Rattle.law_role_server.specs.Counted.Replacing.{since_answered}
-use Rattle.law_role_server_rows.proofs.Refusing.Places.{next_place, place_step}
+use Rattle.law_moves.proofs.Vocabulary.{unsent, after_acked, by_test, same_number, other_number, Cookie, Named, LegKind, ClientOut, OutServer, ClientIn, InServer, Count, taken, OnLeg, is_in_use}
+use Rattle.law_moves.proofs.Lemmas.{RowKeeps}
+use Rattle.law_role_server.proofs.Vocabulary.{OutLeg, Replacement, Steady, Asked, Answered, Confirmed, Stage, waits, Server, is_some, same_cookie, in_leg, out_place, out_at, out_cookie, Done, took, refuse, unexpected, is_first, opens, first_out_at, with_first_out, conn_a2_at, on_conn_a2, with_first_in, conn_b2_at, on_conn_b2, acked_at, acked_in, acked_cookie, on_ack, on_ack_to, on_ping_traffic, on_in_r1_a2, on_in_r1_a6, on_in_r2_a2, answered_by, answered_on, out_r1_a4_by}
+use Rattle.law_role_server.proofs.Vocabulary.{out_r1_a4_at, may_answer, on_out_r1_a4, out_r1_a8_at, on_out_r1_a8, on_end_a2, on_is, on_os, packet_by, rules as server_rules, leg_at, since_conn_a2, since_answered}
+use Rattle.law_role_server.proofs.Counted.InLegs.{next_place, place_step}
 use Rattle.law_role_server_rows.proofs.Refusing.Told.{Seen, seen, number_at, in_r1_a2_same, in_r1_a6_same, in_r2_a2_same, ack_to_same, end_a2_same, ping_same, first_in_same}
 use Rattle.law_role_server_rows.proofs.Refusing.Begun.{is_there, in_use_at}
 

@@ -1,41 +1,14 @@
 -- a server's other steps keep the leg of the writing channel, and that of its successor
-use Rattle.std.proofs.Common.{◌≡◌, ℕ, ◌+◌, ◌<◌, ◌==◌, List, [], ◌∷◌, Bool, true, false, nat_le, ◌&&◌, not, Some, None, arith, refl, sym, rules}
-use Rattle.std.proofs.lemmas.Bool.{false≢true, and_parts}
-use Rattle.std.proofs.lemmas.Bool.Decides.{nat_tests}
-use Rattle.std.specs.Prelude.{slice_get, remove, find, IfSome, IsTrue}
-use Rattle.std.specs.declared.option.Option.{Option}
-use Rattle.rh_keep.specs.Meters.{fits}
-use Rattle.law_order.proofs.ByNumber.{by_test}
-use Rattle.rh_rts.specs.declared.command.Cookie.{Cookie}
-use Rattle.rh_sig.specs.declared.named.Named.{Named}
+use Rattle.law_order.proofs.Vocabulary.{◌≡◌, ℕ, ◌+◌, ◌<◌, ◌==◌, List, [], ◌∷◌, Bool, true, false, nat_le, ◌&&◌, not, Some, None, arith, refl, sym, rules, false≢true, and_parts, nat_tests, slice_get, remove, IfSome, IsTrue, Option}
 use Rattle.rh_sig.specs.declared.named.Named.TheVariants as named
-use Rattle.rh_line.specs.Queue.{front_length}
-use Rattle.rh_line.specs.declared.leg.Leg.{Leg}
-use Rattle.rh_line.specs.declared.leg.LegKind.{LegKind}
-use Rattle.rh_line.specs.declared.leg.LegKind.TheVariants.{ClientOut, OutServer, ClientIn, InServer}
-use Rattle.rh_shell.specs.declared.due.Due.{Due}
-use Rattle.rh_shell.specs.Rules.{Message, Packet, Pdu}
-use Rattle.rh_shell.specs.Waiting.{Waiting, taken}
+use Rattle.rh_server.specs.Servers.{pdu_by}
 use Rattle.rh_server.specs.declared.state.Greeting.TheVariants as greetings
-use Rattle.rh_server.specs.declared.state.OutLeg.{OutLeg}
-use Rattle.rh_server.specs.declared.state.Replacement.{Replacement}
-use Rattle.rh_server.specs.declared.state.Replacement.TheVariants.{Steady, Asked, Answered, Confirmed}
-use Rattle.rh_server.specs.declared.state.Stage.{Stage}
 use Rattle.rh_server.specs.declared.state.Stage.TheVariants as stage
-use Rattle.rh_server.specs.OutLines.{Gate, lets, lets_packet, length_of}
-use Rattle.rh_server.specs.OutLegs.{counted, went}
-use Rattle.rh_server.specs.States.{Server, is_open, is_due, is_confirmed, in_leg, out_place, removed_at, without_in, without_out}
-use Rattle.rh_server.specs.Opening.{may_up_by, out_leg_up, up, up_by}
-use Rattle.rh_server.specs.InReplacement.{take}
-use Rattle.rh_server.specs.OutReplacement.{asks, wishes, recycle, handed}
-use Rattle.rh_server.specs.Ending.{give, completed, is_complete, settled, in_is_drawn, drawn_by, with_ack_dropped, lost_in, mark_by, only_marks_by}
-use Rattle.rh_server.specs.Putting.{Pick, or_else, put_in, out_greeting_at, put_out_greeting, gate, gate_at, counts, counts_at, was_put, waiting_by, waiting_at, put_waiting, may_go_at, went_at, pdu_by as put_pdu_by, put_pdu, is_end_due, may_end_at, put_end, put_pdu_or_end, next_out, settled_pick, put_open, put_out_at, put_by as put_by_kind}
-use Rattle.rh_server.specs.Servers.{pdu_by, packet_by, first, acts}
-use Rattle.rh_server.specs.Servers.{rules as server_rules}
-use Rattle.law_moves.proofs.Passages.Logs.{PutKeeps, ActsKeep}
-use Rattle.law_moves.specs.Moves.{OnLeg, EndMove, AreAllowedAtEnd, end_started, all_end_moved}
-use Rattle.law_role_server.specs.Counted.Opening.{since_conn_a2}
-use Rattle.law_role_server.specs.Counted.Replacing.{since_answered}
+use Rattle.law_moves.proofs.Vocabulary.{fits, by_test, Cookie, Named, front_length, Leg, LegKind, ClientOut, OutServer, ClientIn, InServer, Due, Message, Packet, Pdu, Waiting, taken, OnLeg, EndMove, AreAllowedAtEnd, end_started, all_end_moved}
+use Rattle.law_moves.proofs.Lemmas.{PutKeeps, ActsKeep}
+use Rattle.law_role_server.proofs.Vocabulary.{OutLeg, Replacement, Steady, Asked, Answered, Confirmed, Stage, Gate, lets, lets_packet, length_of, counted, went, Server, is_open, is_due, is_confirmed, in_leg, out_place, removed_at, without_in, without_out, may_up_by, out_leg_up, up, up_by, take, asks, wishes, recycle, handed, give, completed, is_complete, settled, in_is_drawn, drawn_by, with_ack_dropped, lost_in, mark_by, only_marks_by, Pick, or_else, put_in, out_greeting_at}
+use Rattle.law_role_server.proofs.Vocabulary.{put_out_greeting, gate, gate_at, counts, counts_at, was_put, waiting_by, waiting_at, put_waiting, may_go_at, went_at, pdu_by as put_pdu_by, put_pdu, is_end_due, may_end_at, put_end, put_pdu_or_end, next_out, settled_pick, put_open, put_out_at, put_by as put_by_kind, packet_by, first, acts, rules as server_rules, since_conn_a2, since_answered}
+use Rattle.law_role_server.proofs.Counted.Dues.{found_may}
 use Rattle.law_role_server_rows.proofs.Refusing.Allowed.{MayKeep, allowed_keep}
 use Rattle.law_role_server_rows.proofs.Refusing.Told.{seen, number_at}
 use Rattle.law_role_server_rows.proofs.Refusing.Steps.{PickSame, in_same, lost_same, pdu_same, give_same, take_same}
@@ -80,14 +53,6 @@ PickFine pick = IfSome pick (λ (one : Server × Message). Fine one.0)
 or_fine : (a b : Pick) → PickFine a → PickFine b → PickFine (or_else a b)
 or_fine None b p q = q
 or_fine (Some pick) b p q = p
-
--- what is found may go
-found_may : (may_go : Due → Bool) (dues : List Due)
-    → IfSome (find may_go dues) (λ (due : Due). may_go due ≡ true)
-found_may may_go [] = tt
-found_may may_go (due ∷ dues) =
-    by_test (λ o. IfSome o (λ (d : Due). may_go d ≡ true)) (may_go due) (Some due)
-    (find may_go dues) (λ t. t) (λ t. found_may may_go dues)
 
 module _ (s : Server) (h : Fine s) where
   greeting_fine : (place : ℕ) (o : Option OutLeg) → slice_get s.outs place ≡ o

@@ -1,14 +1,6 @@
 -- what is so of each packet of a log is so of one that is on a leg
-use Rattle.std.proofs.Common.{Bool, true, false, List, [], ◌∷◌, inl, inr, subst}
-use Rattle.std.specs.Prelude.{if◌then◌else◌}
-use Rattle.std.specs.List.{AllByRecursion}
-use Rattle.rh_sig.specs.declared.named.Named.{Named}
-use Rattle.rh_line.specs.declared.leg.Leg.{Leg}
-use Rattle.rh_shell.specs.Rules.{Message, Text, Pdu, Packet}
-use Rattle.rh_shell.specs.Shells.{same_leg}
-use Rattle.law_moves.specs.Moves.{OnLeg}
-use Rattle.law_moves.specs.Wires.{of_leg}
-use Rattle.law_moves.specs.Passages.Passing.{Has, HasOne}
+use Rattle.law_order.proofs.Vocabulary.{Bool, true, false, List, [], ◌∷◌, inl, inr, subst, if◌then◌else◌, AllByRecursion}
+use Rattle.law_moves.proofs.Vocabulary.{Named, Leg, Message, Text, Pdu, Packet, same_leg, OnLeg, of_leg, Has, HasOne}
 use Rattle.law_role_windows.specs.Acknowledging.Acks.{OfPacket}
 
 pub found_on : (Is Q : Named → Type 0) (R : Type 0) → ((named : Named) → Is named → Q named → R)

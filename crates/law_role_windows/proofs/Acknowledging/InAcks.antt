@@ -1,23 +1,16 @@
 -- the acknowledgements that an in proxy put, and what was told of the channels that it reads
-use Rattle.std.proofs.Common.{◌≡◌, ℕ, ◌+◌, ◌≤◌, true, List, [], ◌∷◌, ◌++◌, arith, rules}
-use Rattle.std.proofs.lemmas.Bool.Decides.{nat_tests}
-use Rattle.std.specs.List.{AllByRecursion}
-use Rattle.rh_rts.specs.declared.command.Cookie.{Cookie}
-use Rattle.rh_sig.specs.declared.named.Named.{Named}
-use Rattle.rh_sig.specs.declared.named.Named.TheVariants.{AckTo}
-use Rattle.rh_line.specs.declared.leg.Leg.{Leg}
-use Rattle.rh_shell.specs.Rules.{Text, Pdu, Packet}
+use Rattle.law_order.proofs.Vocabulary.{◌≡◌, ℕ, ◌+◌, ◌≤◌, true, List, [], ◌∷◌, ◌++◌, arith, rules, nat_tests, AllByRecursion}
 use Rattle.rh_inproxy.specs.declared.state.Joining.{Joining}
 use Rattle.rh_inproxy.specs.declared.state.Successor.{Successor}
 use Rattle.rh_inproxy.specs.declared.state.Successor.TheVariants.{Absent, Up, Joined}
 use Rattle.rh_inproxy.specs.InReplacement.{is_newcomer}
 use Rattle.rh_inproxy.specs.Opening.{leg_of}
-use Rattle.law_moves.specs.Moves.{OnLeg}
-use Rattle.law_moves.specs.Wires.{of_leg}
-use Rattle.law_moves.proofs.Passages.Messages.{each_so}
-use Rattle.law_role_windows.specs.Acknowledging.Acks.{ci_leg as ci, OfPacket, IsTrueOn, IsTrue}
-use Rattle.law_role_windows.proofs.Acknowledging.Legs.{leg_begun, leg_rises}
+use Rattle.law_moves.proofs.Vocabulary.{Cookie, Named, AckTo, Leg, Text, Pdu, Packet, OnLeg, of_leg}
+use Rattle.law_moves.proofs.Lemmas.{each_so}
+use Rattle.law_role_client.proofs.Receiving.Windows.{leg_rises}
+use Rattle.law_role_windows.proofs.Acknowledging.Legs.{leg_begun}
 use Rattle.law_role_windows.proofs.Acknowledging.Passing.{packets_so}
+use Rattle.law_role_windows.specs.Acknowledging.Acks.{ci_leg as ci, OfPacket, IsTrueOn, IsTrue}
 
 -- ---- the legs of the client are numbered
 

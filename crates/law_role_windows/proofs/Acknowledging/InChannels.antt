@@ -1,45 +1,17 @@
 -- the IN channels that an in proxy reads, and what came on their legs
-use Rattle.std.proofs.Common.{◌≡◌, ℕ, ◌+◌, ◌-◌, ◌≤◌, Bool, true, false, true≢false, ◌&&◌, List, [], ◌∷◌, ◌++◌, length, Some, None, Ok, Err, arith, refl, rules, sym, ap, ◌∙◌, subst}
-use Rattle.std.proofs.lemmas.Bool.{and_parts}
-use Rattle.std.proofs.lemmas.Bool.Decides.{nat_tests}
-use Rattle.std.specs.Prelude.{if◌then◌else◌, IfSome, is_ok, nat_le}
-use Rattle.std.specs.declared.option.Option.{Option}
-use Rattle.std.specs.declared.result.Result.{Result}
-use Rattle.rh_window.specs.Sides.{IsWindow}
 use Rattle.rh_window.specs.Receiving as windows
-use Rattle.rh_window.specs.declared.recv_window.Ack.{Ack}
-use Rattle.rh_window.specs.declared.fault.WindowExceeded.{WindowExceeded}
-use Rattle.law_order.proofs.ByNumber.{by_test}
-use Rattle.rh_rts.specs.declared.command.Cookie.{Cookie}
+use Rattle.law_order.proofs.Vocabulary.{◌≡◌, ℕ, ◌+◌, ◌-◌, ◌≤◌, Bool, true, false, true≢false, ◌&&◌, List, [], ◌∷◌, ◌++◌, length, Some, None, Ok, Err, arith, refl, sym, ap, ◌∙◌, subst, and_parts, nat_tests, if◌then◌else◌, IfSome, is_ok, nat_le, Option, Result}
 use Rattle.rh_line.specs.Lines as line
-use Rattle.rh_line.specs.Lines.{Line, Incoming}
-use Rattle.rh_line.specs.Queue.{total}
-use Rattle.rh_line.specs.declared.line_fault.LineFault.{LineFault}
-use Rattle.rh_line.specs.declared.line_fault.LineFault.TheVariants.{Over}
-use Rattle.rh_line.proofs.Queues.{each_push, total_push}
-use Rattle.rh_shell.specs.declared.due.Due.{Due}
-use Rattle.rh_shell.specs.Rules.{Message}
 use Rattle.rh_inproxy.specs.declared.state.ClientLeg.{ClientLeg}
 use Rattle.rh_inproxy.specs.declared.state.Successor.{Successor}
 use Rattle.rh_inproxy.specs.declared.state.Successor.TheVariants.{Absent, Up, Joined}
 use Rattle.rh_inproxy.specs.State.{is_joined, follows}
-use Rattle.law_moves.specs.Moves.{OnLeg}
-use Rattle.law_moves.specs.Wires.{of_leg}
-use Rattle.law_moves.specs.Passages.Passing.{pdu_bytes, HasBegunIn}
-use Rattle.law_role_windows.specs.Acknowledging.Acks.{ci_leg as ci, OfPacket, IsTrueOn}
-use Rattle.law_role_windows.proofs.Acknowledging.Legs.{leg_begun, leg_rises}
+use Rattle.law_moves.proofs.Vocabulary.{IsWindow, Ack, WindowExceeded, by_test, Cookie, each_push, total_push, Line, Incoming, total, Over, Due, Message, OnLeg, of_leg, pdu_bytes, HasBegunIn}
+use Rattle.law_role_client.proofs.Receiving.Windows.{leg_rises}
+use Rattle.law_role_windows.proofs.Acknowledging.Legs.{leg_begun}
 use Rattle.law_role_windows.proofs.Acknowledging.Waiting.{EachIs}
 use Rattle.law_role_windows.proofs.Acknowledging.InAcks.{IsNextNumber, IsTold, IsAck, AreAcks, IsOther, acks_more, acks_so}
-
--- a PDU that is refused changes nothing
-pub refused_same : (c : Incoming) (pdu : List ℕ) (fault : LineFault)
-    → line.channel_verdict c pdu ≡ Err fault → line.admitted c pdu ≡ c
-refused_same c pdu fault e =
-    ap (λ (v : Result (Unit {0}) LineFault).
-    if is_ok v then record c {
-      pdus = c.pdus ++ pdu ∷ [];
-      window = windows.after_admit c.window (length pdu);
-    } else c) e
+use Rattle.law_role_windows.specs.Acknowledging.Acks.{ci_leg as ci, OfPacket, IsTrueOn}
 
 -- ---- a channel counts no more than came on its leg, and told its window
 
@@ -112,10 +84,6 @@ released_counts window c (pdu ∷ pdus) ms is h =
       counted = omega (arith, counted);
       size = h.size;
     }
-
-pub admitted_told : (c : Incoming) (pdu : List ℕ)
-    → (line.admitted c pdu).window.told ≡ c.window.told
-admitted_told c pdu = search rules
 
 -- another edge is told, which is no lower
 pub told_counts : (window : ℕ) (c : Incoming) (ack : Ack) (ms : List Message)

@@ -1,27 +1,9 @@
 -- the legs and the PDUs that come to an in proxy, and the channels that it reads
-use Rattle.std.proofs.Common.{◌≡◌, ℕ, ◌+◌, ◌≤◌, ◌==◌, Bool, true, false, true≢false, not, ◌&&◌, ◌||◌, List, [], ◌∷◌, ◌++◌, Some, None, Ok, Err, arith, refl, rules, sym, ap, ◌∙◌, subst}
-use Rattle.std.proofs.lemmas.Bool.{and_parts, eqb-true}
-use Rattle.std.proofs.lemmas.Bool.Decides.{nat_tests}
-use Rattle.std.specs.Prelude.{if◌then◌else◌, nat_le}
-use Rattle.std.specs.declared.option.Option.{Option}
-use Rattle.std.specs.declared.result.Result.{Result}
-use Rattle.law_order.proofs.ByNumber.{by_test}
+use Rattle.law_order.proofs.Vocabulary.{◌≡◌, ℕ, ◌+◌, ◌≤◌, ◌==◌, Bool, true, false, true≢false, not, ◌&&◌, ◌||◌, List, [], ◌∷◌, ◌++◌, Some, None, Ok, Err, arith, refl, rules, sym, ap, ◌∙◌, subst, and_parts, eqb-true, nat_tests, if◌then◌else◌, nat_le, Option, Result}
 use Rattle.rh_line.specs.Lines as line
-use Rattle.rh_line.specs.Lines.{Line, Incoming}
-use Rattle.rh_line.specs.declared.line_fault.LineFault.{LineFault}
-use Rattle.rh_line.specs.declared.line_fault.LineFault.TheVariants.{Window, Over}
-use Rattle.rh_line.specs.declared.leg.Leg.{Leg}
-use Rattle.rh_line.specs.declared.which.Which.{Which}
-use Rattle.rh_line.specs.declared.which.Which.TheVariants.{Current, Next}
-use Rattle.rh_shell.specs.declared.answers.Count.{Count}
-use Rattle.rh_shell.specs.declared.due.Due.{Due}
-use Rattle.rh_shell.specs.Rules.{Message, Pdu}
-use Rattle.rh_shell.specs.Shells.{same_leg}
-use Rattle.rh_shell.specs.Waiting.{count}
 use Rattle.rh_inproxy.specs.declared.opening.TheConstants.{GREATEST_LENGTHS}
 use Rattle.rh_inproxy.specs.declared.state.ClientLeg.{ClientLeg}
 use Rattle.rh_inproxy.specs.declared.state.Opening.{Opening}
-use Rattle.rh_inproxy.specs.declared.state.Opening.TheVariants as openings
 use Rattle.rh_inproxy.specs.declared.state.Successor.{Successor}
 use Rattle.rh_inproxy.specs.declared.state.Successor.TheVariants.{Absent, Up, Joined}
 use Rattle.rh_inproxy.specs.Answers.{Done, unexpected}
@@ -31,16 +13,15 @@ use Rattle.rh_inproxy.specs.Ending.{is_newest, mark, settled}
 use Rattle.rh_inproxy.specs.Passing.{on_pdu, pdu_by}
 use Rattle.rh_inproxy.specs.Putting.{next}
 use Rattle.rh_inproxy.specs.Time.{ping}
+use Rattle.rh_inproxy.specs.Machine.{pdu}
+use Rattle.rh_inproxy.specs.declared.state.Opening.TheVariants as openings
 use Rattle.rh_inproxy.specs.Machine as machine
-use Rattle.rh_inproxy.specs.Machine.{pdu, packet, on_channel, on_channel_by, on_ci, on_is}
-use Rattle.rh_inproxy.specs.Machine.{rules as proxy_rules}
-use Rattle.law_moves.specs.Moves.{OnLeg}
-use Rattle.law_moves.specs.Wires.{of_leg}
-use Rattle.law_moves.proofs.Passages.Logs.{RowKeeps}
-use Rattle.law_role_windows.specs.Acknowledging.Acks.{ci_leg as ci}
-use Rattle.law_role_windows.proofs.Acknowledging.Legs.{leg_counts}
+use Rattle.law_moves.proofs.Vocabulary.{by_test, Line, Incoming, LineFault, Window, Over, Leg, Which, Current, Next, Count, Due, Message, Pdu, same_leg, count, OnLeg, of_leg}
+use Rattle.law_moves.proofs.Lemmas.{RowKeeps}
+use Rattle.law_role_client.proofs.Receiving.Windows.{leg_counts, refused_same, admitted_told}
 use Rattle.law_role_windows.proofs.Acknowledging.InAcks.{IsTold, told_rises, AreAcks, acks_so}
-use Rattle.law_role_windows.proofs.Acknowledging.InChannels.{refused_same, admitted_counts, admitted_told, IsBehind, WasTold, Channels, Tells, tells_more, opened_joined}
+use Rattle.law_role_windows.proofs.Acknowledging.InChannels.{admitted_counts, IsBehind, WasTold, Channels, Tells, tells_more, opened_joined}
+use Rattle.law_role_windows.specs.Acknowledging.Acks.{ci_leg as ci}
 
 -- what the facts are about
 pub record Seen : Type 0 where

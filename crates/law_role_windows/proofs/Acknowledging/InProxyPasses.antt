@@ -1,30 +1,13 @@
 -- an in proxy passes on the acknowledgements of the client
-use Rattle.std.proofs.Common.{◌≡◌, ℕ, ◌==◌, Bool, true, false, ◌&&◌, not, List, [], ◌∷◌, ◌++◌, Some, None, arith, refl, sym, ◌∙◌, subst, rules}
-use Rattle.std.proofs.lemmas.Bool.{and_parts, eqb-true}
-use Rattle.std.specs.Prelude.{if◌then◌else◌}
-use Rattle.std.specs.List.{AllByRecursion}
-use Rattle.std.specs.declared.option.Option.{Option}
 use Rattle.rh_window.specs.declared.recv_window.Ack as told
-use Rattle.law_order.proofs.ByNumber.{by_test}
-use Rattle.rh_rts.specs.declared.command.Cookie.{Cookie}
-use Rattle.rh_sig.specs.declared.named.Named.{Named}
-use Rattle.rh_sig.specs.declared.named.Named.TheVariants.{ConnB1, InR1A1, InR1A5, AckTo, OutR1A7, OutR1A8, KeepAlive, EndA1}
-use Rattle.rh_line.specs.declared.leg.Leg.{Leg}
-use Rattle.rh_line.specs.declared.leg.LegKind.TheVariants.{ClientIn}
-use Rattle.rh_line.specs.declared.which.Which.{Which}
-use Rattle.rh_line.specs.declared.which.Which.TheVariants.{Current, Next}
-use Rattle.rh_shell.specs.declared.answers.Count.{Count}
-use Rattle.rh_shell.specs.declared.due.Due.{Due}
-use Rattle.rh_shell.specs.Rules.{Pdu, Packet}
+use Rattle.law_order.proofs.Vocabulary.{◌≡◌, ℕ, ◌==◌, Bool, true, false, ◌&&◌, not, List, [], ◌∷◌, ◌++◌, Some, None, arith, refl, sym, ◌∙◌, subst, rules, and_parts, eqb-true, if◌then◌else◌, AllByRecursion, Option}
 use Rattle.rh_shell.specs.Waiting as waits
 use Rattle.rh_inproxy.specs.declared.state.InProxyConfig.{InProxyConfig}
 use Rattle.rh_inproxy.specs.declared.state.Entry.{Entry}
 use Rattle.rh_inproxy.specs.declared.state.Entry.TheVariants.{Connects, Replaces}
 use Rattle.rh_inproxy.specs.declared.state.Opener.{Opener}
 use Rattle.rh_inproxy.specs.declared.state.Opening.{Opening}
-use Rattle.rh_inproxy.specs.declared.state.Opening.TheVariants as openings
 use Rattle.rh_inproxy.specs.declared.state.Successor.{Successor}
-use Rattle.rh_inproxy.specs.declared.state.Successor.TheVariants as successors
 use Rattle.rh_inproxy.specs.declared.state.Work.{Work}
 use Rattle.rh_inproxy.specs.Answers.{Done, Pick, or_else, unexpected}
 use Rattle.rh_inproxy.specs.State.{InProxy, first, channel_of, has_a5, is_client_leg, is_server_leg}
@@ -35,16 +18,16 @@ use Rattle.rh_inproxy.specs.InReplacement.{on_in_r1_a1, on_in_r1_a5, told_by, pu
 use Rattle.rh_inproxy.specs.Passing.{next_pdu, put_pdu}
 use Rattle.rh_inproxy.specs.Putting.{put as put_of, next, waiting_by, put_waiting, put_control, put_early, put_stream, put_behind, put_mark}
 use Rattle.rh_inproxy.specs.Time.{ping, put_ping, on_keep_alive}
-use Rattle.rh_inproxy.specs.Machine.{pdu, packet, on_channel, on_channel_by, on_ci, on_is}
-use Rattle.rh_inproxy.specs.Machine.{rules as proxy_rules}
-use Rattle.law_moves.specs.Moves.{OnLeg, Move, started, all_moved}
-use Rattle.law_moves.specs.Passages.Passing.{HasOn}
-use Rattle.law_moves.proofs.Passages.Logs.{RowKeeps, PutKeeps, StepsKeep, moves_keep}
-use Rattle.law_role_windows.specs.Acknowledging.Acks.{OfPacket}
+use Rattle.rh_inproxy.specs.Machine.{pdu, packet, on_channel, on_channel_by, on_ci, on_is, rules as proxy_rules}
+use Rattle.rh_inproxy.specs.declared.state.Opening.TheVariants as openings
+use Rattle.rh_inproxy.specs.declared.state.Successor.TheVariants as successors
+use Rattle.law_moves.proofs.Vocabulary.{by_test, Cookie, Named, ConnB1, InR1A1, InR1A5, AckTo, OutR1A7, OutR1A8, KeepAlive, EndA1, Leg, ClientIn, Which, Current, Next, Count, Due, Pdu, Packet, OnLeg, Move, started, all_moved, HasOn}
+use Rattle.law_moves.proofs.Lemmas.{RowKeeps, PutKeeps, StepsKeep, moves_keep}
 use Rattle.law_role_windows.proofs.Acknowledging.Waiting.{EachIs, Joins, forwarded_joins}
 use Rattle.law_role_windows.proofs.Acknowledging.Sources.{IsFrom, has_on_last, from_stays}
 use Rattle.law_role_windows.proofs.Acknowledging.Passing.{Of, each_stays, put_one}
 use Rattle.law_role_windows.proofs.Acknowledging.Passing as passing
+use Rattle.law_role_windows.specs.Acknowledging.Acks.{OfPacket}
 
 -- what the facts are about: what waits, and the own window
 record Seen : Type 0 where

@@ -1,23 +1,21 @@
 -- an in proxy acknowledges what came from the client, and receives within its window
-use Rattle.std.proofs.Common.{ℕ, true≢false, arith, refl, sym, List, []}
-use Rattle.std.specs.List.{AllByRecursion}
-use Rattle.rh_window.specs.Sides.{IsWindow}
+use Rattle.law_order.proofs.Vocabulary.{ℕ, true≢false, arith, refl, sym, List, [], AllByRecursion}
 use Rattle.rh_inproxy.specs.declared.state.InProxyConfig.{InProxyConfig}
 use Rattle.rh_inproxy.specs.State.{InProxy, first}
 use Rattle.rh_inproxy.specs.Opening.{head, drawn}
 use Rattle.rh_inproxy.specs.Ending.{mark}
 use Rattle.rh_inproxy.specs.Time.{ping}
 use Rattle.rh_inproxy.specs.Machine.{rules as proxy_rules}
-use Rattle.law_moves.specs.Moves.{Move, Passage, started, all_moved}
-use Rattle.law_moves.proofs.Passages.Logs.{StepsKeep, moves_keep}
-use Rattle.law_role_windows.specs.Acknowledging.Acks.{IsTrue}
-use Rattle.law_role_windows.specs.Acknowledging.Receiving.{ReceivesOn}
+use Rattle.law_moves.proofs.Vocabulary.{IsWindow, Move, Passage, started, all_moved}
+use Rattle.law_moves.proofs.Lemmas.{StepsKeep, moves_keep}
 use Rattle.law_role_windows.proofs.Acknowledging.InAcks.{all_true}
 use Rattle.law_role_windows.proofs.Acknowledging.InChannels.{WasTold}
 use Rattle.law_role_windows.proofs.Acknowledging.InPdus.{Holds, same_holds, same_head, same_drawn, same_mark, same_ping, up_holds, pdu_row}
 use Rattle.law_role_windows.proofs.Acknowledging.InRows.{packet_row}
 use Rattle.law_role_windows.proofs.Acknowledging.InPuts.{puts}
 use Rattle.law_role_windows.proofs.Acknowledging.InRefuses.{pdu_refuses, packet_refuses}
+use Rattle.law_role_windows.specs.Acknowledging.Acks.{IsTrue}
+use Rattle.law_role_windows.specs.Acknowledging.Receiving.{ReceivesOn}
 
 keeps : (window : ℕ) → IsWindow window → StepsKeep proxy_rules (Holds window)
 keeps window is = record {

@@ -1,20 +1,7 @@
 -- what an in proxy puts, and the channels that it reads
-use Rattle.std.proofs.Common.{◌≡◌, ℕ, ◌+◌, ◌-◌, ◌≤◌, ◌==◌, Bool, true, false, true≢false, ◌||◌, List, [], ◌∷◌, ◌++◌, length, Some, None, arith, refl, rules, sym, ap, ◌∙◌, subst}
-use Rattle.std.specs.Prelude.{if◌then◌else◌, IfSome}
-use Rattle.std.specs.declared.option.Option.{Option}
-use Rattle.rh_window.specs.Sides.{IsWindow}
 use Rattle.rh_window.specs.Receiving as windows
-use Rattle.rh_window.specs.Sending.{may_send}
-use Rattle.rh_window.specs.declared.recv_window.Ack.{Ack}
-use Rattle.law_order.proofs.ByNumber.{by_test}
-use Rattle.rh_sig.specs.declared.named.Named.TheVariants.{InR2A2, AckTo}
+use Rattle.law_order.proofs.Vocabulary.{◌≡◌, ℕ, ◌+◌, ◌-◌, ◌≤◌, ◌==◌, Bool, true, false, true≢false, ◌||◌, List, [], ◌∷◌, ◌++◌, length, Some, None, arith, refl, rules, sym, ap, ◌∙◌, subst, if◌then◌else◌, IfSome, Option}
 use Rattle.rh_line.specs.Lines as line
-use Rattle.rh_line.specs.Lines.{Line, Incoming}
-use Rattle.rh_line.specs.declared.leg.Leg.{Leg}
-use Rattle.rh_line.specs.declared.which.Which.{Which}
-use Rattle.rh_line.specs.declared.which.Which.TheVariants.{Current, Next}
-use Rattle.rh_shell.specs.declared.due.Due.{Due}
-use Rattle.rh_shell.specs.Rules.{Message, Pdu, Packet}
 use Rattle.rh_shell.specs.Waiting as waits
 use Rattle.rh_inproxy.specs.declared.state.ClientLeg.{ClientLeg}
 use Rattle.rh_inproxy.specs.declared.state.Entry.{Entry}
@@ -23,7 +10,6 @@ use Rattle.rh_inproxy.specs.declared.state.Joining.{Joining}
 use Rattle.rh_inproxy.specs.declared.state.Joining.TheVariants.{TellsServer, Told, Follows}
 use Rattle.rh_inproxy.specs.declared.state.Opener.{Opener}
 use Rattle.rh_inproxy.specs.declared.state.Opening.{Opening}
-use Rattle.rh_inproxy.specs.declared.state.Opening.TheVariants as openings
 use Rattle.rh_inproxy.specs.declared.state.Successor.{Successor}
 use Rattle.rh_inproxy.specs.declared.state.Successor.TheVariants.{Absent, Up, Joined}
 use Rattle.rh_inproxy.specs.declared.state.Work.{Work}
@@ -37,15 +23,15 @@ use Rattle.rh_inproxy.specs.Passing.{passed, next_pdu, put_pdu}
 use Rattle.rh_inproxy.specs.Putting.{put as put_of, next, waiting_by, put_waiting, put_control, put_early, put_stream, put_behind, put_mark}
 use Rattle.rh_inproxy.specs.Time.{put_ping}
 use Rattle.rh_inproxy.specs.Machine.{pdu}
-use Rattle.law_moves.specs.Moves.{OnLeg}
-use Rattle.law_moves.specs.Wires.{of_leg}
-use Rattle.law_moves.proofs.Passages.Logs.{PutKeeps}
-use Rattle.law_role_windows.specs.Acknowledging.Acks.{ci_leg as ci, OfPacket}
+use Rattle.rh_inproxy.specs.declared.state.Opening.TheVariants as openings
+use Rattle.law_moves.proofs.Vocabulary.{IsWindow, may_send, Ack, by_test, InR2A2, AckTo, Line, Leg, Which, Current, Next, Due, Message, Pdu, Packet, OnLeg, of_leg}
+use Rattle.law_moves.proofs.Lemmas.{PutKeeps}
 use Rattle.law_role_windows.proofs.Acknowledging.Waiting.{EachIs}
 use Rattle.law_role_windows.proofs.Acknowledging.InAcks.{IsNextNumber, IsTold, now_told, IsAck, AreAcks, IsOther, other_ack}
 use Rattle.law_role_windows.proofs.Acknowledging.InChannels.{told_counts, IsDue, due_is, IsBehind, WasTold, Channels, channels_put, opened_held, first_due, current_due, moved_begun, taken_channels}
 use Rattle.law_role_windows.proofs.Acknowledging.InPdus.{seen, Same, same_settled, same_holds, opened_by, acks_rise}
 use Rattle.law_role_windows.proofs.Acknowledging.InPdus as pdus
+use Rattle.law_role_windows.specs.Acknowledging.Acks.{ci_leg as ci, OfPacket}
 
 module _ (window : ℕ) (is : IsWindow window) where
   abbrev Holds : InProxy → List OnLeg → List OnLeg → Type 0

@@ -1,40 +1,24 @@
 -- an in proxy refuses a PDU of the client for its window only where that ends behind all that it
 -- told
-use Rattle.std.proofs.Common.{◌≡◌, ℕ, ◌+◌, ◌<◌, ◌≤◌, ◌==◌, Bool, true, false, ◌&&◌, ◌||◌, List, length, Some, None, Ok, Err, arith, refl, rules, sym, subst}
-use Rattle.std.proofs.lemmas.Bool.{and_parts, eqb-true}
-use Rattle.std.proofs.lemmas.Bool.Decides.{nat_tests}
-use Rattle.std.specs.Prelude.{if◌then◌else◌, nat_le}
-use Rattle.std.specs.declared.option.Option.{Option}
 use Rattle.rh_window.specs.Receiving as windows
-use Rattle.law_order.proofs.ByNumber.{by_test}
-use Rattle.rh_rts.specs.declared.command.Cookie.{Cookie}
-use Rattle.rh_sig.specs.declared.named.Named.{Named}
-use Rattle.rh_sig.specs.declared.named.Named.TheVariants.{AckTo, ConnB1, InR1A1}
+use Rattle.law_order.proofs.Vocabulary.{◌≡◌, ℕ, ◌+◌, ◌<◌, ◌≤◌, ◌==◌, Bool, true, false, ◌&&◌, ◌||◌, List, length, Some, None, Ok, Err, arith, refl, rules, sym, subst, and_parts, eqb-true, nat_tests, if◌then◌else◌, nat_le, Option}
 use Rattle.rh_line.specs.Lines as line
-use Rattle.rh_line.specs.Lines.{Incoming}
-use Rattle.rh_line.specs.declared.line_fault.LineFault.TheVariants.{Over}
-use Rattle.rh_line.specs.declared.leg.LegKind.TheVariants.{InServer}
-use Rattle.rh_line.specs.declared.which.Which.{Which}
-use Rattle.rh_line.specs.declared.which.Which.TheVariants.{Current, Next}
-use Rattle.rh_shell.specs.declared.answers.Count.{Count}
 use Rattle.rh_inproxy.specs.declared.state.Successor.{Successor}
 use Rattle.rh_inproxy.specs.declared.state.Successor.TheVariants.{Absent, Up, Joined}
 use Rattle.rh_inproxy.specs.Answers.{Done, unexpected}
 use Rattle.rh_inproxy.specs.InReplacement.{on_in_r1_a1}
-use Rattle.rh_inproxy.specs.Machine as machine
 use Rattle.rh_inproxy.specs.Machine.{packet, pdu, on_channel, on_channel_by, on_ci}
 use Rattle.rh_inproxy.specs.Opening.{on_conn_b1}
 use Rattle.rh_inproxy.specs.Passing.{on_pdu, pdu_by}
 use Rattle.rh_inproxy.specs.State.{InProxy, channel_of, next_of, has_opened, has_a5}
-use Rattle.law_moves.specs.Moves.{OnLeg}
-use Rattle.law_moves.specs.Wires.{of_leg}
-use Rattle.law_moves.specs.Passages.Passing.{pdu_bytes}
-use Rattle.law_role_windows.specs.Acknowledging.Acks.{ci_leg as ci}
-use Rattle.law_role_windows.specs.Acknowledging.Receiving.{EndsBehind, RefusesOnly}
+use Rattle.rh_inproxy.specs.Machine as machine
+use Rattle.law_moves.proofs.Vocabulary.{by_test, Cookie, Named, AckTo, ConnB1, InR1A1, Incoming, Over, InServer, Which, Current, Next, Count, OnLeg, of_leg, pdu_bytes}
 use Rattle.law_role_windows.proofs.Acknowledging.Found.{has_found}
 use Rattle.law_role_windows.proofs.Acknowledging.InAcks.{told_now, IsAck, AreAcks}
 use Rattle.law_role_windows.proofs.Acknowledging.InChannels.{Counts, IsBehind, WasTold}
 use Rattle.law_role_windows.proofs.Acknowledging.InPdus.{Holds}
+use Rattle.law_role_windows.specs.Acknowledging.Acks.{ci_leg as ci}
+use Rattle.law_role_windows.specs.Acknowledging.Receiving.{EndsBehind, RefusesOnly}
 
 -- ---- packets
 

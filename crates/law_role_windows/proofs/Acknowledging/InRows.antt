@@ -1,24 +1,8 @@
 -- the packets that come to an in proxy, and the channels that it reads
-use Rattle.std.proofs.Common.{◌≡◌, ℕ, ◌+◌, ◌==◌, Bool, true, false, true≢false, not, ◌&&◌, ◌||◌, List, [], ◌∷◌, ◌++◌, Some, None, arith, refl, rules, sym, ap, ◌∙◌, subst}
-use Rattle.std.proofs.lemmas.Bool.{and_parts}
-use Rattle.std.proofs.lemmas.Bool.Decides.{nat_tests}
-use Rattle.std.specs.Prelude.{if◌then◌else◌}
-use Rattle.std.specs.declared.option.Option.{Option}
-use Rattle.law_order.proofs.ByNumber.{by_test}
-use Rattle.rh_rts.specs.declared.command.Cookie.{Cookie}
-use Rattle.rh_sig.specs.declared.named.Named.{Named}
-use Rattle.rh_sig.specs.declared.named.Named.TheVariants.{ConnB1, InR1A1, InR1A5, AckTo, OutR1A7, OutR1A8, KeepAlive, EndA1}
+use Rattle.law_order.proofs.Vocabulary.{◌≡◌, ℕ, ◌+◌, ◌==◌, Bool, true, false, true≢false, not, ◌&&◌, ◌||◌, List, [], ◌∷◌, ◌++◌, Some, None, arith, refl, rules, sym, ap, ◌∙◌, subst, and_parts, nat_tests, if◌then◌else◌, Option}
 use Rattle.rh_line.specs.Lines as line
-use Rattle.rh_line.specs.Lines.{Line, Incoming}
-use Rattle.rh_line.specs.declared.leg.Leg.{Leg}
-use Rattle.rh_line.specs.declared.which.Which.{Which}
-use Rattle.rh_line.specs.declared.which.Which.TheVariants.{Current, Next}
-use Rattle.rh_shell.specs.declared.answers.Count.{Count}
 use Rattle.rh_shell.specs.declared.answers.Refused.TheVariants as refused
-use Rattle.rh_shell.specs.Rules.{Message, Packet}
 use Rattle.rh_shell.specs.Waiting as waits
-use Rattle.rh_shell.specs.declared.due.Origin.TheVariants.{Forwarded}
-use Rattle.rh_shell.specs.Waiting.{count}
 use Rattle.rh_inproxy.specs.declared.opening.TheConstants.{KEEPALIVE}
 use Rattle.rh_inproxy.specs.declared.state.ClientLeg.{ClientLeg}
 use Rattle.rh_inproxy.specs.declared.state.Entry.TheVariants.{Connects, Replaces}
@@ -26,7 +10,6 @@ use Rattle.rh_inproxy.specs.declared.state.Joining.{Joining}
 use Rattle.rh_inproxy.specs.declared.state.Joining.TheVariants.{TellsServer, Told, Follows}
 use Rattle.rh_inproxy.specs.declared.state.Opener.{Opener}
 use Rattle.rh_inproxy.specs.declared.state.Opening.{Opening}
-use Rattle.rh_inproxy.specs.declared.state.Opening.TheVariants as openings
 use Rattle.rh_inproxy.specs.declared.state.Successor.{Successor}
 use Rattle.rh_inproxy.specs.declared.state.Successor.TheVariants.{Absent, Up, Joined}
 use Rattle.rh_inproxy.specs.Answers.{Done, taken, refuse, unexpected}
@@ -37,17 +20,16 @@ use Rattle.rh_inproxy.specs.Ending.{has_later, on_end_a1}
 use Rattle.rh_inproxy.specs.InReplacement.{is_newcomer, joined, join, on_later_in_r1_a1, on_in_r1_a1, on_in_r1_a5, finished, finish_by, hand_over}
 use Rattle.rh_inproxy.specs.Time.{on_keep_alive}
 use Rattle.rh_inproxy.specs.Machine.{packet, on_channel, on_channel_by, on_ci, on_is}
-use Rattle.law_moves.specs.Moves.{OnLeg}
-use Rattle.law_moves.specs.Wires.{of_leg}
-use Rattle.law_moves.specs.Passages.Passing.{BeginsIn, HasBegunIn}
-use Rattle.law_moves.proofs.Passages.Logs.{RowKeeps}
-use Rattle.law_role_windows.specs.Acknowledging.Acks.{ci_leg as ci}
+use Rattle.rh_inproxy.specs.declared.state.Opening.TheVariants as openings
+use Rattle.law_moves.proofs.Vocabulary.{by_test, Cookie, Named, ConnB1, InR1A1, InR1A5, AckTo, OutR1A7, OutR1A8, KeepAlive, EndA1, Incoming, Leg, Which, Current, Next, Count, Message, Packet, Forwarded, count, OnLeg, of_leg, BeginsIn, HasBegunIn}
+use Rattle.law_moves.proofs.Lemmas.{RowKeeps}
 use Rattle.law_role_windows.proofs.Acknowledging.Legs.{leg_begins}
 use Rattle.law_role_windows.proofs.Acknowledging.Waiting.{Joins, forwarded_joins}
 use Rattle.law_role_windows.proofs.Acknowledging.InAcks.{IsNextNumber, newcomer_number, IsTold, told_joins, AreAcks, acks_so, IsOther}
 use Rattle.law_role_windows.proofs.Acknowledging.InChannels.{Counts, IsBehind, WasTold, Channels, moved_channels, moved_begun}
 use Rattle.law_role_windows.proofs.Acknowledging.InPdus.{Same, opened_by}
 use Rattle.law_role_windows.proofs.Acknowledging.InPdus as pdus
+use Rattle.law_role_windows.specs.Acknowledging.Acks.{ci_leg as ci}
 
 -- ---- what leaves these alone
 

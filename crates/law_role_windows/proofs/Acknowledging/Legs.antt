@@ -1,16 +1,7 @@
 -- a message more in a log, of the messages of a leg, and of some leg of a kind
-use Rattle.std.proofs.Common.{◌≡◌, ℕ, ◌+◌, ◌≤◌, Bool, true, if◌then◌else◌, List, [], ◌∷◌, ◌++◌, length, arith, sym, subst}
-use Rattle.std.proofs.lemmas.Bool.Decides.{nat_tests}
-use Rattle.rh_rts.specs.declared.command.Cookie.{Cookie}
-use Rattle.rh_sig.specs.declared.named.Named.{Named}
-use Rattle.rh_line.specs.declared.leg.Leg.{Leg}
-use Rattle.rh_line.specs.declared.leg.LegKind.{LegKind}
-use Rattle.rh_shell.specs.Rules.{Message, Pdu, Packet}
-use Rattle.rh_shell.specs.Shells.{same_leg, is_of}
-use Rattle.law_moves.specs.Moves.{OnLeg}
-use Rattle.law_moves.specs.Wires.{of_leg}
-use Rattle.law_moves.specs.Passages.Passing.{pdu_bytes, BeginsIn, HasBegunIn}
-use Rattle.law_moves.proofs.Passages.Messages.{leg_more, bytes_append, bytes_rise, one_more_so, last_one_so}
+use Rattle.law_order.proofs.Vocabulary.{◌≡◌, ℕ, ◌+◌, Bool, true, if◌then◌else◌, List, [], ◌∷◌, ◌++◌, arith, sym, subst, nat_tests}
+use Rattle.law_moves.proofs.Vocabulary.{Cookie, Named, Leg, LegKind, Message, Packet, same_leg, is_of, OnLeg, of_leg, BeginsIn, HasBegunIn}
+use Rattle.law_moves.proofs.Lemmas.{leg_more, one_more_so, last_one_so}
 
 module _ (P : List Message → Type 0) where
   -- what more messages leave
@@ -52,21 +43,6 @@ module _ (P : List Message → Type 0) where
 pub leg_begun : (leg : Leg) (cookie : Cookie) (came : List OnLeg) (one : OnLeg)
     → HasBegunIn cookie (of_leg leg came) → HasBegunIn cookie (of_leg leg (came ++ one ∷ []))
 leg_begun leg cookie = on_more (HasBegunIn cookie) (one_more_so (BeginsIn cookie)) leg
-
-pub leg_rises : (leg : Leg) (came : List OnLeg) (one : OnLeg)
-    → pdu_bytes (of_leg leg came) ≤ pdu_bytes (of_leg leg (came ++ one ∷ []))
-leg_rises leg came one =
-    on_more (λ (ms : List Message). pdu_bytes (of_leg leg came) ≤ pdu_bytes ms)
-    (λ a b h. let rise = bytes_rise a b in omega (arith, h, rise)) leg came one (omega arith)
-
-pub leg_counts : (leg other : Leg) (came : List OnLeg) (pdu : List ℕ)
-    → same_leg other leg ≡ true
-    → pdu_bytes (of_leg leg (came ++ (other, Pdu pdu) ∷ []))
-    ≡ pdu_bytes (of_leg leg came) + length pdu
-leg_counts leg other came pdu same =
-    on_last (λ (ms : List Message). pdu_bytes ms ≡ pdu_bytes (of_leg leg came) + length pdu) leg
-    other came (Pdu pdu) same
-    (let all = bytes_append (of_leg leg came) (Pdu pdu ∷ []) in omega (arith, all))
 
 -- a packet begins a channel on its leg
 pub leg_begins : (leg other : Leg) (cookie : Cookie) (came : List OnLeg) (named : Named)

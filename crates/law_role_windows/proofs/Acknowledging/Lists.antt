@@ -1,7 +1,5 @@
 -- what holds of all of a list holds of one that is found, and of all behind a change
-use Rattle.std.proofs.Common.{ℕ, zero, suc, List, [], ◌∷◌}
-use Rattle.std.specs.Prelude.{slice_get, slice_set, remove, IfSome}
-use Rattle.std.specs.List.{AllByRecursion}
+use Rattle.law_order.proofs.Vocabulary.{ℕ, zero, suc, List, [], ◌∷◌, slice_get, slice_set, remove, IfSome, AllByRecursion}
 
 module _ {X : Type 0} (P : X → Type 0) where
   pub all_at : (xs : List X) (place : ℕ) → AllByRecursion P xs → IfSome (slice_get xs place) P

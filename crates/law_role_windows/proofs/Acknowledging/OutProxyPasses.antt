@@ -1,25 +1,9 @@
 -- an out proxy passes on the acknowledgements of an in proxy
-use Rattle.std.proofs.Common.{◌≡◌, ℕ, ◌==◌, Bool, true, false, ◌&&◌, List, [], ◌∷◌, ◌++◌, Some, None, refl, sym, rules, subst}
-use Rattle.std.proofs.lemmas.Bool.{and_parts, eqb-true}
-use Rattle.std.specs.Prelude.{if◌then◌else◌}
-use Rattle.std.specs.List.{AllByRecursion}
-use Rattle.std.specs.declared.option.Option.{Option}
-use Rattle.rh_window.specs.declared.recv_window.Ack.{Ack}
-use Rattle.law_order.proofs.ByNumber.{by_test}
-use Rattle.rh_rts.specs.declared.command.Cookie.{Cookie}
-use Rattle.rh_rts.specs.declared.command.TheConstants.{TO_OUT_PROXY}
-use Rattle.rh_sig.specs.declared.named.Named.{Named}
+use Rattle.law_order.proofs.Vocabulary.{◌≡◌, ℕ, ◌==◌, Bool, true, false, ◌&&◌, List, [], ◌∷◌, ◌++◌, Some, None, refl, sym, rules, subst, and_parts, eqb-true, if◌then◌else◌, AllByRecursion, Option}
 use Rattle.rh_sig.specs.declared.named.Named.TheVariants as named
-use Rattle.rh_line.specs.declared.leg.Leg.{Leg}
-use Rattle.rh_line.specs.declared.leg.LegKind.TheVariants.{OutServer}
-use Rattle.rh_shell.specs.declared.answers.Count.{Count}
-use Rattle.rh_shell.specs.declared.due.Due.{Due}
-use Rattle.rh_shell.specs.Rules.{Pdu, Packet}
-use Rattle.rh_shell.specs.Shells.{is_of}
 use Rattle.rh_shell.specs.Waiting as waits
 use Rattle.rh_outproxy.specs.declared.state.Answer.{Answer}
 use Rattle.rh_outproxy.specs.declared.state.Channel.{Channel}
-use Rattle.rh_outproxy.specs.declared.state.Channel.TheVariants as channels
 use Rattle.rh_outproxy.specs.declared.state.OutProxyConfig.{OutProxyConfig}
 use Rattle.rh_outproxy.specs.OutProxy.{OutProxy, is_client_marked, is_server_first, joined, new_proxy}
 use Rattle.rh_outproxy.specs.Rows.{Done, is_co, is_os, is_carrying, taken, unexpected, forwarded, forwarded_by, passed_on}
@@ -27,19 +11,17 @@ use Rattle.rh_outproxy.specs.Opening.{up, head, conn_c1_by, first_packet}
 use Rattle.rh_outproxy.specs.Acknowledging.{on_ack, on_ack_to, ack_due}
 use Rattle.rh_outproxy.specs.Ending.{drawn, mark, on_end_b1}
 use Rattle.rh_outproxy.specs.OutReplacement.{on_out_r1_a9}
-use Rattle.rh_outproxy.specs.Putting.{Pick, or_else, answer_by, put_answer, waiting_by, put_waiting, pdu_by, put_pdu, put_end, put_handover, put_mark, put_ping, next_co, first_by, put_first, ack_by, put_ack, next_os}
-use Rattle.rh_outproxy.specs.Putting.{put as put_of}
-use Rattle.rh_outproxy.specs.Machine.{pdu, packet, on_co, on_os}
-use Rattle.rh_outproxy.specs.Machine.{rules as proxy_rules}
-use Rattle.law_moves.specs.Moves.{OnLeg, Move, started, all_moved}
-use Rattle.law_moves.specs.Passages.Passing.{HasOn}
-use Rattle.law_moves.proofs.Passages.Logs.{RowKeeps, PutKeeps, StepsKeep, moves_keep}
-use Rattle.law_role_windows.specs.Acknowledging.Acks.{OfPacket}
-use Rattle.law_role_windows.specs.Acknowledging.Windows.{ByConnC1, ByInR1A3}
+use Rattle.rh_outproxy.specs.Putting.{Pick, or_else, answer_by, put_answer, waiting_by, put_waiting, pdu_by, put_pdu, put_end, put_handover, put_mark, put_ping, next_co, first_by, put_first, ack_by, put_ack, next_os, put as put_of}
+use Rattle.rh_outproxy.specs.Machine.{pdu, packet, on_co, on_os, rules as proxy_rules}
+use Rattle.rh_outproxy.specs.declared.state.Channel.TheVariants as channels
+use Rattle.law_moves.proofs.Vocabulary.{Ack, by_test, Cookie, TO_OUT_PROXY, Named, Leg, OutServer, Count, Due, Pdu, Packet, is_of, OnLeg, Move, started, all_moved, HasOn}
+use Rattle.law_moves.proofs.Lemmas.{RowKeeps, PutKeeps, StepsKeep, moves_keep}
 use Rattle.law_role_windows.proofs.Acknowledging.Waiting.{EachIs, Joins, forwarded_joins}
 use Rattle.law_role_windows.proofs.Acknowledging.Sources.{IsFrom, has_on_last, tells_on_last, from_stays}
 use Rattle.law_role_windows.proofs.Acknowledging.Passing.{Of, each_stays, put_one}
 use Rattle.law_role_windows.proofs.Acknowledging.Passing as passing
+use Rattle.law_role_windows.specs.Acknowledging.Acks.{OfPacket}
+use Rattle.law_role_windows.specs.Acknowledging.Windows.{ByConnC1, ByInR1A3}
 
 abbrev waiting : OutProxy → waits.Waiting
 waiting s = s.waiting

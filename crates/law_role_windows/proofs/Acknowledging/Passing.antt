@@ -1,18 +1,9 @@
 -- what a role passes on: what its state has from what came, and what was put
-use Rattle.std.proofs.Common.{◌≡◌, List, [], ◌∷◌, ◌++◌, Some, None, Ok, Err, sym, subst}
-use Rattle.std.specs.Prelude.{IfSome}
-use Rattle.std.specs.List.{AllByRecursion}
-use Rattle.std.specs.declared.option.Option.{Option}
-use Rattle.rh_sig.specs.declared.named.Named.{Named}
-use Rattle.rh_line.specs.declared.leg.Leg.{Leg}
-use Rattle.rh_line.proofs.Queues.{each_push}
-use Rattle.rh_shell.specs.declared.due.Due.{Due}
-use Rattle.rh_shell.specs.Rules.{Message, Text, Pdu, Packet, Row}
-use Rattle.law_moves.specs.Moves.{OnLeg}
-use Rattle.law_moves.proofs.Passages.Logs.{RowKeeps, PutKeeps}
-use Rattle.law_moves.proofs.Passages.Messages.{each_so}
-use Rattle.law_role_windows.specs.Acknowledging.Acks.{OfPacket}
+use Rattle.law_order.proofs.Vocabulary.{◌≡◌, List, [], ◌∷◌, ◌++◌, Some, None, Ok, Err, sym, subst, IfSome, AllByRecursion, Option}
+use Rattle.law_moves.proofs.Vocabulary.{Named, each_push, Leg, Due, Message, Text, Pdu, Packet, Row, OnLeg}
+use Rattle.law_moves.proofs.Lemmas.{RowKeeps, PutKeeps, each_so}
 use Rattle.law_role_windows.proofs.Acknowledging.Waiting.{EachIs}
+use Rattle.law_role_windows.specs.Acknowledging.Acks.{OfPacket}
 
 -- a fact of what came, and of something else
 abbrev pub Of : Type 0 → Type 1

@@ -1,32 +1,10 @@
 -- a server passes on the acknowledgements of in proxies and of the client
-use Rattle.std.proofs.Common.{◌≡◌, ℕ, ◌==◌, Bool, true, false, not, ◌&&◌, List, [], ◌∷◌, ◌++◌, Some, None, refl, rules, ap, subst}
-use Rattle.std.proofs.lemmas.Bool.{eqb-true}
-use Rattle.std.specs.Prelude.{if◌then◌else◌, IfSome, slice_get}
-use Rattle.std.specs.List.{AllByRecursion}
-use Rattle.std.specs.declared.option.Option.{Option}
-use Rattle.rh_window.specs.declared.recv_window.Ack.{Ack}
-use Rattle.law_order.proofs.ByNumber.{by_test}
-use Rattle.rh_rts.specs.declared.command.Cookie.{Cookie}
-use Rattle.rh_sig.specs.declared.named.Named.{Named}
+use Rattle.law_order.proofs.Vocabulary.{◌≡◌, ℕ, ◌==◌, Bool, true, false, not, ◌&&◌, List, [], ◌∷◌, ◌++◌, Some, None, refl, rules, ap, subst, eqb-true, if◌then◌else◌, IfSome, slice_get, AllByRecursion, Option}
 use Rattle.rh_sig.specs.declared.named.Named.TheVariants as named
-use Rattle.rh_line.specs.declared.leg.Leg.{Leg}
-use Rattle.rh_line.specs.declared.leg.LegKind.{LegKind}
-use Rattle.rh_line.specs.declared.leg.LegKind.TheVariants.{ClientOut, OutServer, ClientIn, InServer}
-use Rattle.rh_line.specs.Queue.{front_length}
-use Rattle.rh_line.specs.Lines.{after_take}
-use Rattle.rh_shell.specs.declared.answers.Count.{Count}
 use Rattle.rh_shell.specs.declared.answers.Refused.TheVariants as refused
-use Rattle.rh_shell.specs.declared.due.Due.{Due}
-use Rattle.rh_shell.specs.Hearing.{greeting as greeting_text}
-use Rattle.rh_shell.specs.Rules.{Message, Text, Pdu, Packet}
-use Rattle.rh_shell.specs.Shells.{kind_number, is_of}
-use Rattle.rh_shell.specs.Waiting.{Waiting, takes, taken, forwarded}
 use Rattle.rh_server.specs.declared.state.Stage.{Stage}
-use Rattle.rh_server.specs.declared.state.Stage.TheVariants as stage
-use Rattle.rh_server.specs.declared.state.InStage.TheVariants as in_stage
 use Rattle.rh_server.specs.declared.state.InLeg.{InLeg}
 use Rattle.rh_server.specs.declared.state.OutLeg.{OutLeg}
-use Rattle.rh_server.specs.declared.out_line.Kind.TheVariants as kind
 use Rattle.rh_server.specs.OutLines.{Gate, lets, has, waits}
 use Rattle.rh_server.specs.States.{Server, is_due, is_open, is_fresh, same_cookie, in_leg, out_place, with_in}
 use Rattle.rh_server.specs.Opening.{Done, took, refuse, unexpected, is_first, up, opens, on_conn_a2, with_first_in, conn_b2_at, on_conn_b2}
@@ -37,21 +15,22 @@ use Rattle.rh_server.specs.Ending.{give, on_end_a2, settled, drawn, mark}
 use Rattle.rh_server.specs.Putting.{Pick, or_else, told_by, was_current, put_in_greeting, put_tells_by, put_tells, put_b1_by, put_b1, put_ack_by, put_ack, ack_due, put_in_by, out_greeting_at, put_out_greeting, was_put, waiting_by, waiting_at, put_waiting, gate_at, pdu_by, put_pdu, put_end, put_pdu_or_end, next_out, settled_pick, put_open, put_out_at, put_by}
 use Rattle.rh_server.specs.declared.state.Greeting.TheVariants.{Put}
 use Rattle.rh_server.specs.declared.state.Leaving.{Leaving}
-use Rattle.rh_server.specs.declared.state.Leaving.TheVariants as leaving
 use Rattle.rh_server.specs.declared.state.Tells.{Tells}
+use Rattle.rh_server.specs.Servers.{acts, first, pdu, packet_by, on_is, on_os, rules as server_rules}
+use Rattle.rh_server.specs.declared.state.Stage.TheVariants as stage
+use Rattle.rh_server.specs.declared.state.InStage.TheVariants as in_stage
+use Rattle.rh_server.specs.declared.out_line.Kind.TheVariants as kind
+use Rattle.rh_server.specs.declared.state.Leaving.TheVariants as leaving
 use Rattle.rh_server.specs.declared.state.Tells.TheVariants as tells
-use Rattle.rh_server.specs.Servers.{acts, first, pdu, packet_by, on_is, on_os}
-use Rattle.rh_server.specs.Servers.{rules as server_rules}
-use Rattle.law_moves.specs.Moves.{OnLeg, EndMove, end_started, all_end_moved}
-use Rattle.law_moves.specs.Passages.Passing.{HasOn}
-use Rattle.law_moves.proofs.Passages.Logs.{RowKeeps, PutKeeps, StepsKeep, ActsKeep, end_moves_keep}
-use Rattle.law_role_windows.specs.Acknowledging.Acks.{OfPacket}
-use Rattle.law_role_windows.specs.Acknowledging.Windows.{TellsOn, ByConnB2, ByInR1A2}
+use Rattle.law_moves.proofs.Vocabulary.{Ack, by_test, Cookie, Named, Leg, LegKind, ClientOut, OutServer, ClientIn, InServer, front_length, after_take, Count, Due, greeting as greeting_text, Message, Text, Pdu, Packet, kind_number, is_of, Waiting, takes, taken, forwarded, OnLeg, EndMove, end_started, all_end_moved, HasOn}
+use Rattle.law_moves.proofs.Lemmas.{RowKeeps, PutKeeps, StepsKeep, ActsKeep, end_moves_keep}
 use Rattle.law_role_windows.proofs.Acknowledging.Waiting.{Joins, forwarded_joins, others_are, found_is}
 use Rattle.law_role_windows.proofs.Acknowledging.Sources.{IsFrom, has_on_last, tells_on_last, from_stays}
+use Rattle.law_role_windows.proofs.Acknowledging.ServerSounds.{Seen, seen, OfLeg, found}
 use Rattle.law_role_windows.proofs.Acknowledging.Passing as passing
-use Rattle.law_role_windows.proofs.Acknowledging.ServerSounds.{Seen, seen, OfStage, OfLeg, found}
 use Rattle.law_role_windows.proofs.Acknowledging.ServerSounds as sounds
+use Rattle.law_role_windows.specs.Acknowledging.Acks.{OfPacket}
+use Rattle.law_role_windows.specs.Acknowledging.Windows.{TellsOn, ByConnB2, ByInR1A2}
 
 of_server : (leg : Leg) → leg.kind ≡ InServer → is_of InServer leg ≡ true
 of_server leg is = ap (λ (kind : LegKind). kind_number InServer == kind_number kind) is

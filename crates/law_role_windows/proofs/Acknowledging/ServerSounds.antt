@@ -1,36 +1,14 @@
 -- what a server keeps of acknowledgements and windows came to it
-use Rattle.std.proofs.Common.{ℕ, ◌+◌, ◌==◌, Bool, true, not, ◌&&◌, ◌||◌, List, [], ◌∷◌, ◌++◌, Some, None, Ok, Err, rules}
-use Rattle.std.specs.Prelude.{if◌then◌else◌, IfSome, nat_lt}
-use Rattle.std.specs.List.{AllByRecursion}
-use Rattle.std.specs.declared.option.Option.{Option}
-use Rattle.std.specs.declared.result.Result.{Result}
-use Rattle.law_order.proofs.ByNumber.{by_test}
-use Rattle.rh_rts.specs.declared.command.Cookie.{Cookie}
-use Rattle.rh_sig.specs.declared.named.Named.{Named}
+use Rattle.law_order.proofs.Vocabulary.{ℕ, ◌+◌, ◌==◌, Bool, true, not, ◌&&◌, ◌||◌, List, [], ◌∷◌, ◌++◌, Some, None, Ok, Err, rules, if◌then◌else◌, IfSome, nat_lt, AllByRecursion, Option, Result}
 use Rattle.rh_sig.specs.declared.named.Named.TheVariants as named
-use Rattle.rh_line.specs.declared.leg.Leg.{Leg}
-use Rattle.rh_line.specs.declared.leg.LegKind.{LegKind}
-use Rattle.rh_line.specs.declared.leg.LegKind.TheVariants.{ClientOut, OutServer, ClientIn, InServer}
-use Rattle.rh_line.specs.declared.which.Which.{Which}
-use Rattle.rh_line.specs.declared.which.Which.TheVariants.{Current, Next}
-use Rattle.rh_line.specs.Lines.{after_end, after_finish}
-use Rattle.rh_line.proofs.Queues.{each_push}
-use Rattle.rh_shell.specs.declared.answers.Count.{Count}
 use Rattle.rh_shell.specs.declared.answers.Refused.TheVariants as refused
-use Rattle.rh_shell.specs.declared.due.Due.{Due}
-use Rattle.rh_shell.specs.declared.end_role.RecycleRefused.{RecycleRefused}
-use Rattle.rh_shell.specs.declared.end_role.RecycleRefused.TheVariants.{Busy, Last}
-use Rattle.rh_shell.specs.Waiting.{Waiting, own, added}
 use Rattle.rh_server.specs.declared.state.Stage.{Stage}
-use Rattle.rh_server.specs.declared.state.Stage.TheVariants as stage
 use Rattle.rh_server.specs.declared.state.Edge.TheVariants.{Shut}
 use Rattle.rh_server.specs.declared.state.InStage.{InStage}
-use Rattle.rh_server.specs.declared.state.InStage.TheVariants as in_stage
 use Rattle.rh_server.specs.declared.state.InLeg.{InLeg}
 use Rattle.rh_server.specs.declared.state.OutLeg.{OutLeg}
 use Rattle.rh_server.specs.declared.state.Replacement.{Replacement}
 use Rattle.rh_server.specs.declared.state.Replacement.TheVariants.{Steady, Asked, Answered, Confirmed}
-use Rattle.rh_server.specs.declared.out_line.Kind.TheVariants as kind
 use Rattle.rh_server.specs.OutLines.{waits, is_ack_of}
 use Rattle.rh_server.specs.States.{Server, is_open, is_waiting, stays, in_at, in_place, set_at, removed_at, same_cookie, in_leg, out_at, out_place, out_cookie, with_in, without_in, without_out}
 use Rattle.rh_server.specs.Opening.{Done, took, refuse, unexpected, is_first, may_up, up, up_by, in_leg_up, first_in, opens, with_first_out, conn_a2_at, on_conn_a2, with_first_in}
@@ -38,16 +16,19 @@ use Rattle.rh_server.specs.Acknowledging.{channel_at, out_server}
 use Rattle.rh_server.specs.InReplacement.{opens_next, opens_leg, first_waiting, waiting_place, next_opened, becomes_current, moved_if, leaves_by, leaves, hands_over, on_in_r1_a6, in_r2_a2_on, on_in_r2_a2}
 use Rattle.rh_server.specs.OutReplacement.{asks, recycle, is_under_way, last_number, wishes, wished, answered_by, answered_on, out_r1_a4_by, out_r1_a4_at, may_answer, on_out_r1_a4, confirms, out_r1_a8_at, on_out_r1_a8}
 use Rattle.rh_server.specs.Ending.{is_over_on, end_a2_on_leg, end_a2_waiting, end_a2_at, on_end_a2, is_complete, completed, settled, drawn_by, in_is_drawn, mark_by, lost_in, without_ack_of, with_ack_dropped}
+use Rattle.rh_server.specs.declared.state.Stage.TheVariants as stage
+use Rattle.rh_server.specs.declared.state.InStage.TheVariants as in_stage
+use Rattle.rh_server.specs.declared.out_line.Kind.TheVariants as kind
 use Rattle.rh_server.specs.declared.state.Tells.TheVariants as tells
 use Rattle.rh_server.specs.declared.state.Leaving.TheVariants as leaving
-use Rattle.law_moves.specs.Moves.{OnLeg}
-use Rattle.law_moves.proofs.Passages.Messages.{each_so}
-use Rattle.law_role_windows.specs.Acknowledging.Windows.{TellsOn, ByConnB2, ByInR1A2}
+use Rattle.law_moves.proofs.Vocabulary.{by_test, Cookie, Named, each_push, Leg, LegKind, ClientOut, OutServer, ClientIn, InServer, Which, Current, Next, after_end, after_finish, Count, Due, RecycleRefused, Busy, Last, Waiting, own, added, OnLeg}
+use Rattle.law_moves.proofs.Lemmas.{each_so}
 use Rattle.law_role_windows.proofs.Acknowledging.Lists.{all_at, all_set, all_removed}
 use Rattle.law_role_windows.proofs.Acknowledging.Waiting.{EachIs, others_are}
 use Rattle.law_role_windows.proofs.Acknowledging.Sources.{IsFrom, tells_on_stays, from_stays}
 use Rattle.law_role_windows.proofs.Acknowledging.Passing.{Of, each_stays}
 use Rattle.law_role_windows.proofs.Acknowledging.Passing as passing
+use Rattle.law_role_windows.specs.Acknowledging.Windows.{TellsOn, ByConnB2, ByInR1A2}
 
 -- what the facts are about: what waits, the window of CONN/B2 while that is not told, and those of
 -- IN_R1/A2

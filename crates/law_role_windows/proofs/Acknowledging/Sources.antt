@@ -1,20 +1,12 @@
 -- what a packet has from one that came, and more that comes
-use Rattle.std.proofs.Common.{◌≡◌, ℕ, true, List, [], ◌∷◌, ◌++◌, sym, ◌∙◌, subst}
-use Rattle.std.specs.List.{AllByRecursion}
-use Rattle.rh_sig.specs.declared.named.Named.{Named}
-use Rattle.rh_sig.specs.declared.named.Named.TheVariants.{AckTo, ConnB2, ConnC1, ConnC2, InR1A2, InR1A3, InR1A4}
-use Rattle.rh_line.specs.declared.leg.Leg.{Leg}
-use Rattle.rh_line.specs.declared.leg.LegKind.{LegKind}
-use Rattle.rh_shell.specs.Rules.{Packet}
-use Rattle.rh_shell.specs.Shells.{is_of}
-use Rattle.law_moves.specs.Moves.{OnLeg}
-use Rattle.law_moves.specs.Passages.Passing.{Has, HasOn, HasOne}
-use Rattle.law_moves.proofs.Passages.Messages.{has_more, has_last, one_more_so, last_one_so}
-use Rattle.law_role_windows.specs.Acknowledging.Acks.{IsPassedOn, OfPacket}
-use Rattle.law_role_windows.specs.Acknowledging.Windows.{Telling, Tells, TellsOn, EachTold, ByConnB2, ByConnC1, ByConnC2, ByInR1A2, ByInR1A3, ByInR1A4}
+use Rattle.law_order.proofs.Vocabulary.{◌≡◌, ℕ, true, List, [], ◌∷◌, ◌++◌, sym, ◌∙◌, subst, AllByRecursion}
+use Rattle.law_moves.proofs.Vocabulary.{Named, AckTo, ConnB2, ConnC1, ConnC2, InR1A2, InR1A3, InR1A4, Leg, LegKind, Packet, is_of, OnLeg, Has, HasOn, HasOne}
+use Rattle.law_moves.proofs.Lemmas.{has_more, has_last, one_more_so, last_one_so}
 use Rattle.law_role_windows.proofs.Acknowledging.Found.{found_on}
 use Rattle.law_role_windows.proofs.Acknowledging.Legs.{some_more, some_last}
 use Rattle.law_role_windows.proofs.Acknowledging.Passing.{Of, Stays, packets_so}
+use Rattle.law_role_windows.specs.Acknowledging.Acks.{IsPassedOn, OfPacket}
+use Rattle.law_role_windows.specs.Acknowledging.Windows.{Telling, Tells, TellsOn, EachTold, ByConnB2, ByConnC1, ByConnC2, ByInR1A2, ByInR1A3, ByInR1A4}
 
 -- the packet came, or one that told the same window; the window of one that tells its own is that
 abbrev pub IsFrom : LegKind → ℕ → ℕ → Of Named

@@ -1,13 +1,6 @@
 -- the packets that wait for a leg, and what each of them is
-use Rattle.std.proofs.Common.{◌≡◌, Bool, true, false, nat_lt, List, [], ◌∷◌, Some, refl}
-use Rattle.std.specs.Prelude.{if◌then◌else◌, IfSome, find}
-use Rattle.std.specs.List.{AllByRecursion, list_any}
-use Rattle.law_order.proofs.ByNumber.{by_test}
-use Rattle.rh_sig.specs.declared.named.Named.{Named}
-use Rattle.rh_line.proofs.Queues.{each_push}
-use Rattle.rh_shell.specs.declared.due.Due.{Due}
-use Rattle.rh_shell.specs.declared.due.Origin.TheVariants.{Forwarded}
-use Rattle.rh_shell.specs.Waiting.{Waiting, better, edge_of, merged, takes, with_due, pushed, to_forward, count, forwarded, without_first}
+use Rattle.law_order.proofs.Vocabulary.{◌≡◌, Bool, true, false, nat_lt, List, [], ◌∷◌, Some, refl, if◌then◌else◌, IfSome, find, AllByRecursion, list_any}
+use Rattle.law_moves.proofs.Vocabulary.{by_test, Named, each_push, Due, Forwarded, Waiting, better, edge_of, merged, takes, with_due, pushed, to_forward, count, forwarded, without_first}
 
 -- ---- what is so of each packet that waits
 

@@ -1,46 +1,14 @@
 -- a client holds no more than its window of each OUT channel
-use Rattle.std.proofs.Common.{◌≡◌, ℕ, List, Bool, true, false, ◌&&◌, ◌||◌, not, Some, None, refl, sym, subst, rules}
-use Rattle.std.proofs.lemmas.Bool.{and_parts}
-use Rattle.std.specs.Prelude.{if◌then◌else◌, nat_eq, IfSome}
-use Rattle.std.specs.declared.option.Option.{Option}
-use Rattle.rh_window.specs.declared.recv_window.Ack.{Ack}
-use Rattle.rh_keep.specs.Meters.{may_put, fits}
-use Rattle.law_order.proofs.ByNumber.{by_test}
-use Rattle.rh_pdu.specs.Frames.{IsPdu}
-use Rattle.rh_rts.specs.declared.command.Cookie.{Cookie}
-use Rattle.rh_sig.specs.declared.named.Named.{Named}
+use Rattle.law_order.proofs.Vocabulary.{◌≡◌, ℕ, List, Bool, true, false, ◌&&◌, ◌||◌, not, Some, None, refl, sym, subst, rules, and_parts, if◌then◌else◌, nat_eq, IfSome, Option}
 use Rattle.rh_sig.specs.declared.named.Named.TheVariants as named
-use Rattle.rh_sig.specs.declared.lengths.TheConstants.{CONN_B1_LEN, IN_R1_A1_LEN, IN_R1_A5_LEN, OUT_R1_A7_LEN, END_A1_LEN, ACK_TO_LEN, PING_LEN}
+use Rattle.rh_line.specs.Histories.{Ends, Takes}
 use Rattle.rh_line.specs.Lines as lines
-use Rattle.rh_line.specs.Lines.{Line, IsThere, channel_of, after_take, after_finish, after_open_next, due}
-use Rattle.rh_line.specs.Histories.{Admits, Ends, Finishes, OpensNext, Acknowledges, Takes}
-use Rattle.rh_line.specs.Queue.{front_length}
-use Rattle.rh_line.specs.declared.leg.Leg.{Leg}
-use Rattle.rh_line.specs.declared.leg.LegKind.{LegKind}
-use Rattle.rh_line.specs.declared.leg.LegKind.TheVariants.{ClientOut, OutServer, ClientIn, InServer}
-use Rattle.rh_line.specs.declared.which.Which.{Which}
-use Rattle.rh_line.specs.declared.which.Which.TheVariants.{Current, Next}
-use Rattle.rh_shell.specs.declared.answers.Count.{Count}
-use Rattle.rh_shell.specs.Rules.{Message}
-use Rattle.rh_client.specs.declared.channels.Opening.{Opening}
-use Rattle.rh_client.specs.declared.channels.Opening.TheVariants.{NotUp, Request, First, Second, Put}
-use Rattle.rh_client.specs.declared.replacement.Replacement.{Replacement}
-use Rattle.rh_client.specs.declared.replacement.Replacement.TheVariants.{NoneUnderWay, In, Out}
+use Rattle.rh_client.specs.Putting.{pdu_by as put_pdu_by}
 use Rattle.rh_client.specs.declared.replacement.InStage.TheVariants as in_stage
 use Rattle.rh_client.specs.declared.replacement.OutStage.TheVariants as out_stage
-use Rattle.rh_client.specs.declared.replacement.Waits.{Waits}
-use Rattle.rh_client.specs.declared.state.ClientRole.{ClientRole}
-use Rattle.rh_client.specs.State.{Done, unexpected, taken, settled, is_open, is_writing, is_in_successor, is_current, is_out_successor}
-use Rattle.rh_client.specs.Opening.{with_next, up_by, on_conn_a3, on_conn_c2}
-use Rattle.rh_client.specs.Channels.{is_named, out_up}
-use Rattle.rh_client.specs.Acknowledging.{is_switched, pdu_channel, pdu_on, ack_named, on_ack_to, may_ack, ack_due}
-use Rattle.rh_client.specs.Ending.{give, take, end_channel, end_on, on_end_b2, drawn}
-use Rattle.rh_client.specs.InReplacement.{recycle, on_in_r1_a4, on_in_r2_a4, handed_over}
-use Rattle.rh_client.specs.OutReplacement.{on_out_r1_a2, on_out_r1_a6, a10_by, a10_at, passed}
-use Rattle.rh_client.specs.Time.{ping}
-use Rattle.rh_client.specs.Putting.{Pick, or_else, due_by, put_due, ack_by, put_ack_of, put_ack, lets_pdu, pdu_by as put_pdu_by, put_pdu, is_end_due, put_end, put_ping, put_next, put_conn_b1, put_in_r1_a1, put_current, put_out_successor, put_out, put_successor_ping, put_writing, put_in_successor, put_in, settled_or_wished, settled_pick, put_by}
-use Rattle.rh_client.specs.Client.{pdu_by, packet, packet_by, on_packet, acts as client_acts}
-use Rattle.rh_client.specs.Client.{rules as client_rules}
+use Rattle.law_moves.proofs.Vocabulary.{Ack, may_put, fits, by_test, IsPdu, Cookie, Named, CONN_B1_LEN, IN_R1_A1_LEN, IN_R1_A5_LEN, OUT_R1_A7_LEN, END_A1_LEN, ACK_TO_LEN, PING_LEN, Line, IsThere, channel_of, after_take, after_finish, after_open_next, due, Admits, Finishes, OpensNext, Acknowledges, front_length, Leg, LegKind, ClientOut, OutServer, ClientIn, InServer, Which, Current, Next, Count, Message}
+use Rattle.law_role_client.proofs.Vocabulary.{Opening, NotUp, Request, First, Second, Put, Replacement, NoneUnderWay, In, Out, Waits, ClientRole, Done, unexpected, taken, settled, is_open, is_writing, is_in_successor, is_current, is_out_successor, with_next, up_by, on_conn_a3, on_conn_c2, is_named, out_up, is_switched, pdu_channel, pdu_on, ack_named, on_ack_to, may_ack, ack_due, give, take, end_channel, end_on, on_end_b2, drawn, recycle, on_in_r1_a4, on_in_r2_a4, handed_over}
+use Rattle.law_role_client.proofs.Vocabulary.{on_out_r1_a2, on_out_r1_a6, a10_by, a10_at, passed, ping, Pick, or_else, due_by, put_due, ack_by, put_ack_of, put_ack, lets_pdu, put_pdu, is_end_due, put_end, put_ping, put_next, put_conn_b1, put_in_r1_a1, put_current, put_out_successor, put_out, put_successor_ping, put_writing, put_in_successor, put_in, settled_or_wished, settled_pick, put_by, pdu_by, packet, packet_by, on_packet, acts as client_acts, rules as client_rules}
 use Rattle.law_role_windows.proofs.Held.Lines.{IsKept, call_kept}
 use Rattle.law_role_windows.proofs.Held.Roles.{RulesKeep, ActsKeep}
 

@@ -1,28 +1,9 @@
 -- an in proxy holds no more than its window of each ci leg
-use Rattle.std.proofs.Common.{◌≡◌, ℕ, ◌+◌, ◌==◌, List, [], ◌∷◌, length, Bool, true, false, ◌&&◌, ◌||◌, not, Some, None, Ok, Err, refl, sym, ◌∙◌, subst, rules}
-use Rattle.std.proofs.lemmas.Bool.{and_parts}
-use Rattle.std.specs.Prelude.{if◌then◌else◌, nat_le, IfSome}
-use Rattle.std.specs.declared.option.Option.{Option}
-use Rattle.std.specs.declared.result.Result.{Result}
-use Rattle.rh_window.specs.Sending.{may_send}
 use Rattle.rh_window.specs.declared.recv_window.Ack as told
-use Rattle.law_order.proofs.ByNumber.{by_test}
-use Rattle.rh_pdu.specs.Frames.{IsPdu}
-use Rattle.rh_rts.specs.declared.command.Cookie.{Cookie}
-use Rattle.rh_sig.specs.declared.named.Named.{Named}
-use Rattle.rh_sig.specs.declared.named.Named.TheVariants.{ConnB1, InR1A1, InR1A5, OutR1A7, EndA1, AckTo, KeepAlive}
+use Rattle.law_order.proofs.Vocabulary.{◌≡◌, ℕ, ◌+◌, ◌==◌, List, [], ◌∷◌, length, Bool, true, false, ◌&&◌, ◌||◌, not, Some, None, Ok, Err, refl, sym, ◌∙◌, subst, rules, and_parts, if◌then◌else◌, nat_le, IfSome, Option, Result}
 use Rattle.rh_line.specs.Lines as line
-use Rattle.rh_line.specs.Lines.{Line, IsThere, after_finish, after_take}
 use Rattle.rh_line.specs.Histories as calls
-use Rattle.rh_line.specs.declared.line_fault.LineFault.{LineFault}
-use Rattle.rh_line.specs.declared.line_fault.LineFault.TheVariants.{Window, Over}
-use Rattle.rh_line.specs.declared.leg.Leg.{Leg}
-use Rattle.rh_line.specs.declared.which.Which.{Which}
-use Rattle.rh_line.specs.declared.which.Which.TheVariants.{Current, Next}
-use Rattle.rh_shell.specs.declared.answers.Count.{Count}
 use Rattle.rh_shell.specs.declared.answers.Refused.TheVariants as refused
-use Rattle.rh_shell.specs.declared.due.Due.{Due}
-use Rattle.rh_shell.specs.Rules.{Message}
 use Rattle.rh_inproxy.specs.declared.opening.TheConstants.{GREATEST_LENGTHS}
 use Rattle.rh_inproxy.specs.declared.state.ClientLeg.{ClientLeg}
 use Rattle.rh_inproxy.specs.declared.state.Handover.{Handover}
@@ -33,9 +14,7 @@ use Rattle.rh_inproxy.specs.declared.state.Opening.{Opening}
 use Rattle.rh_inproxy.specs.declared.state.Opening.TheVariants.{AwaitsClient, AwaitsPacket, WantsServer, Announces, Announced}
 use Rattle.rh_inproxy.specs.declared.state.Successor.{Successor}
 use Rattle.rh_inproxy.specs.declared.state.Successor.TheVariants.{Absent, Joined}
-use Rattle.rh_inproxy.specs.declared.state.Successor.TheVariants as successors
 use Rattle.rh_inproxy.specs.declared.state.Work.{Work}
-use Rattle.rh_inproxy.specs.declared.state.Work.TheVariants as works
 use Rattle.rh_inproxy.specs.Answers.{Done, Pick, or_else, taken, refuse, unexpected}
 use Rattle.rh_inproxy.specs.State.{InProxy, is_joined, next_of, has_opened, channel_of, has_come, has_a5, follows, is_client_leg, is_server_leg, same_cookie}
 use Rattle.rh_inproxy.specs.Opening.{is_absent, accepts, accepts_later, may_accept, accepted, connected, up, wants, head, drawn, is_first, opener_of, on_first_in_r1_a1, on_conn_b1, first_by, put_first, echo_by, put_echo}
@@ -46,9 +25,11 @@ use Rattle.rh_inproxy.specs.OutReplacement.{on_out_r1_a7}
 use Rattle.rh_inproxy.specs.Passing.{on_pdu, pdu_by, next_pdu, put_pdu}
 use Rattle.rh_inproxy.specs.Putting.{put, next, waiting_by, put_waiting, put_control, put_early, put_stream, put_behind, put_mark}
 use Rattle.rh_inproxy.specs.Time.{on_keep_alive, ping, put_ping}
+use Rattle.rh_inproxy.specs.Machine.{packet, pdu, on_ci, on_is, on_channel, on_channel_by, rules as proxy_rules}
+use Rattle.rh_inproxy.specs.declared.state.Successor.TheVariants as successors
+use Rattle.rh_inproxy.specs.declared.state.Work.TheVariants as works
 use Rattle.rh_inproxy.specs.Machine as machine
-use Rattle.rh_inproxy.specs.Machine.{packet, pdu, on_ci, on_is, on_channel, on_channel_by}
-use Rattle.rh_inproxy.specs.Machine.{rules as proxy_rules}
+use Rattle.law_moves.proofs.Vocabulary.{may_send, by_test, IsPdu, Cookie, Named, ConnB1, InR1A1, InR1A5, OutR1A7, EndA1, AckTo, KeepAlive, Line, IsThere, after_finish, after_take, LineFault, Window, Over, Leg, Which, Current, Next, Count, Due, Message}
 use Rattle.law_role_windows.proofs.Held.Lines.{IsKept, call_kept, next_with, next_taken, due_else}
 use Rattle.law_role_windows.proofs.Held.Roles.{RulesKeep}
 

@@ -1,15 +1,9 @@
 -- the calls of a line keep what it holds within its windows
-use Rattle.std.proofs.Common.{◌≡◌, ℕ, List, [], ◌∷◌, Bool, true, false, ◌&&◌, Some, None, refl, ◌∙◌, subst, arith}
-use Rattle.std.specs.Prelude.{if◌then◌else◌, IfSome}
-use Rattle.std.specs.declared.option.Option.{Option}
-use Rattle.rh_window.specs.Sides.{IsWindow}
-use Rattle.rh_window.specs.declared.recv_window.Ack.{Ack}
-use Rattle.law_order.proofs.ByNumber.{by_test}
-use Rattle.rh_line.specs.declared.which.Which.{Which}
-use Rattle.rh_line.specs.declared.which.Which.TheVariants.{Current, Next}
-use Rattle.rh_line.specs.Lines.{Incoming, Line, IsLine, with_channel, first_line, is_empty, released, settled, moved_on, taken}
-use Rattle.rh_line.specs.Histories.{Call, Admits, Ends, Finishes, OpensNext, Tells, Acknowledges, Takes, CanCall, after, IsWithin}
+use Rattle.law_order.proofs.Vocabulary.{◌≡◌, ℕ, List, [], ◌∷◌, Bool, true, false, ◌&&◌, Some, None, refl, ◌∙◌, subst, arith, if◌then◌else◌, IfSome, Option}
 use Rattle.rh_line.proofs.Sound.{first_sound, step_sound, within}
+use Rattle.rh_line.specs.Lines.{taken}
+use Rattle.rh_line.specs.Histories.{Ends, Tells, Takes, after}
+use Rattle.law_moves.proofs.Vocabulary.{IsWindow, Ack, by_test, Which, Current, Next, Incoming, Line, IsLine, with_channel, first_line, is_empty, released, settled, moved_on, Call, Admits, Finishes, OpensNext, Acknowledges, CanCall, IsWithin}
 use Rattle.law_role_windows.specs.Held.{Holds, HoldsAtMost}
 
 -- it counts what it holds, in windows of this size

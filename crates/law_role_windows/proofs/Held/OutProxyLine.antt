@@ -1,30 +1,16 @@
 -- an out proxy holds no more than its window
-use Rattle.std.proofs.Common.{◌≡◌, ℕ, ◌+◌, List, [], ◌∷◌, length, ◌&&◌, ◌||◌, Some, None, sym, subst, rules}
-use Rattle.std.specs.Prelude.{if◌then◌else◌, IfSome, nat_le}
-use Rattle.std.specs.declared.option.Option.{Option}
-use Rattle.rh_window.specs.declared.recv_window.Ack.{Ack}
-use Rattle.rh_window.specs.Sending.{may_send}
-use Rattle.law_order.proofs.ByNumber.{by_test}
-use Rattle.rh_pdu.specs.Frames.{IsPdu}
-use Rattle.rh_rts.specs.declared.command.Cookie.{Cookie}
-use Rattle.rh_sig.specs.declared.named.Named.{Named}
-use Rattle.rh_line.specs.Lines.{due, is_empty}
-use Rattle.rh_line.specs.Histories.{Admits, Acknowledges, Takes}
-use Rattle.rh_line.specs.declared.leg.Leg.{Leg}
-use Rattle.rh_line.specs.declared.which.Which.TheVariants.{Current}
-use Rattle.rh_shell.specs.declared.answers.Count.{Count}
-use Rattle.rh_shell.specs.declared.due.Due.{Due}
-use Rattle.rh_shell.specs.Rules.{Message}
+use Rattle.law_order.proofs.Vocabulary.{◌≡◌, ℕ, ◌+◌, List, [], ◌∷◌, length, ◌&&◌, ◌||◌, Some, None, sym, subst, rules, if◌then◌else◌, IfSome, nat_le, Option}
+use Rattle.rh_line.specs.Histories.{Takes}
 use Rattle.rh_outproxy.specs.declared.state.Answer.{Answer}
-use Rattle.rh_outproxy.specs.declared.state.Answer.TheVariants as answers
 use Rattle.rh_outproxy.specs.OutProxy.{OutProxy, has_come, joined, is_server_first, is_due, is_ping_due, is_echo_put}
 use Rattle.rh_outproxy.specs.Rows.{Done, is_co, is_os, unexpected, takes_pdus}
 use Rattle.rh_outproxy.specs.Opening.{up, head, first_packet}
 use Rattle.rh_outproxy.specs.Acknowledging.{admitted, on_pdu, ack_due}
 use Rattle.rh_outproxy.specs.Ending.{drawn, mark}
 use Rattle.rh_outproxy.specs.Putting.{Pick, ping_room, or_else, answer_by, put_answer, waiting_by, put_waiting, pdu_by, put_pdu, put_end, put_handover, put_mark, put_ping, next_co, first_by, put_first, ack_by, put_ack, next_os, put}
-use Rattle.rh_outproxy.specs.Machine.{packet, pdu, on_co, on_os}
-use Rattle.rh_outproxy.specs.Machine.{rules as proxy_rules}
+use Rattle.rh_outproxy.specs.Machine.{packet, pdu, on_co, on_os, rules as proxy_rules}
+use Rattle.rh_outproxy.specs.declared.state.Answer.TheVariants as answers
+use Rattle.law_moves.proofs.Vocabulary.{Ack, may_send, by_test, IsPdu, Cookie, Named, due, is_empty, Admits, Acknowledges, Leg, Current, Count, Due, Message}
 use Rattle.law_role_windows.proofs.Held.Lines.{IsKept, call_kept, due_else}
 use Rattle.law_role_windows.proofs.Held.Roles.{RulesKeep}
 

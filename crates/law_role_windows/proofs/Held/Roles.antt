@@ -1,19 +1,7 @@
 -- what each function of a role keeps, its moves keep, and whatever happens at its node
-use Rattle.std.proofs.Common.{ℕ, List, [], ◌∷◌, Some, None, Ok, Err, refl, subst}
-use Rattle.std.specs.Prelude.{IfSome}
-use Rattle.std.specs.declared.option.Option.{Option}
-use Rattle.std.specs.declared.result.Result.{Result}
-use Rattle.rh_pdu.specs.Frames.{IsPdu}
-use Rattle.rh_rts.specs.declared.command.Cookie.{Cookie}
-use Rattle.rh_sig.specs.declared.named.Named.{Named}
-use Rattle.rh_line.specs.declared.leg.Leg.{Leg}
-use Rattle.rh_shell.specs.declared.answers.Count.{Count}
-use Rattle.rh_shell.specs.declared.end_role.GiveRefused.{GiveRefused}
-use Rattle.rh_shell.specs.Rules.{Rules, Acts, Row, Message, Pdu, Packet}
-use Rattle.rh_shell.specs.Shells.{Shell}
-use Rattle.law_moves.specs.Moves.{Move, Up, HeadCame, PduCame, PacketCame, Puts, IsDrawn, Marks, Pings, Passage, MayMove, AreAllowed, moved, all_moved, started, taken_by, put_by, EndMove, Moves, Gives, Takes, Closes, Recycles, EndPassage, MayEndMove, AreAllowedAtEnd, end_moved, all_end_moved, end_started, end_now_at, given_by, with_first}
-use Rattle.law_moves.specs.Moving.{Follows, EndFollows}
-use Rattle.law_moves.proofs.Leading.{leads_keep}
+use Rattle.law_order.proofs.Vocabulary.{ℕ, List, [], ◌∷◌, Some, None, Ok, Err, refl, subst, IfSome, Option, Result}
+use Rattle.law_moves.proofs.Vocabulary.{IsPdu, Cookie, Named, Leg, Count, GiveRefused, Rules, Acts, Row, Message, Pdu, Packet, Shell, Move, Up, HeadCame, PduCame, PacketCame, Puts, IsDrawn, Marks, Pings, Passage, MayMove, AreAllowed, moved, all_moved, started, taken_by, put_by, EndMove, Moves, Gives, Takes, Closes, Recycles, EndPassage, MayEndMove, AreAllowedAtEnd, end_moved, all_end_moved, end_started, end_now_at, given_by, with_first, Follows, EndFollows}
+use Rattle.law_moves.proofs.Lemmas.{leads_keep}
 
 pub record RulesKeep {S : Type 0} (rules : Rules S) (P : S → Type 0) : Type 0 where
   pub up : (s : S) (leg : Leg) (cookie : Cookie) → P s → P (rules.up s leg cookie)

@@ -1,47 +1,18 @@
 -- a server holds no more than its window of each IN channel
-use Rattle.std.proofs.Common.{◌≡◌, ℕ, ◌-◌, ◌*◌, ◌^◌, ◌==◌, List, [], ◌∷◌, length, Bool, true, false, ◌&&◌, ◌||◌, not, Some, None, Ok, Err, refl, sym, ◌∙◌, subst, rules}
-use Rattle.std.proofs.lemmas.Bool.{false≢true, and_parts, or_parts}
-use Rattle.std.specs.Prelude.{if◌then◌else◌, nat_le, nat_lt, is_ok, slice_get, IfSome}
-use Rattle.std.specs.declared.option.Option.{Option}
-use Rattle.std.specs.declared.result.Result.{Result}
-use Rattle.rh_window.specs.Sides.{Receiver}
 use Rattle.rh_window.specs.Receiving as windows
-use Rattle.rh_window.specs.declared.recv_window.Ack.{Ack}
-use Rattle.rh_window.specs.declared.range.TheConstants.{LEAST_WINDOW}
-use Rattle.law_order.proofs.ByNumber.{by_test}
-use Rattle.rh_pdu.specs.Frames.{IsPdu}
-use Rattle.rh_rts.specs.declared.command.Cookie.{Cookie}
-use Rattle.rh_sig.specs.declared.named.Named.{Named}
+use Rattle.law_order.proofs.Vocabulary.{◌≡◌, ℕ, ◌-◌, ◌*◌, ◌^◌, ◌==◌, List, [], ◌∷◌, length, Bool, true, false, ◌&&◌, ◌||◌, not, Some, None, Ok, Err, refl, sym, ◌∙◌, subst, rules, false≢true, and_parts, or_parts, if◌then◌else◌, nat_le, nat_lt, is_ok, slice_get, IfSome, Option, Result}
 use Rattle.rh_sig.specs.declared.named.Named.TheVariants as named
+use Rattle.rh_line.specs.Lines.{taken as taken_line}
 use Rattle.rh_line.specs.Lines as lines
-use Rattle.rh_line.specs.Lines.{Incoming, Line, IsThere, admitted, channel_verdict, released, settled as settled_line, moved_on, taken as taken_line, is_empty, due, after_admit, after_end, after_open_next, after_tell}
 use Rattle.rh_line.specs.Histories as calls
-use Rattle.rh_line.specs.Queue.{front_length}
-use Rattle.rh_line.specs.declared.line_fault.LineFault.{LineFault}
-use Rattle.rh_line.specs.declared.line_fault.LineFault.TheVariants.{Window, Over}
-use Rattle.rh_line.specs.declared.leg.Leg.{Leg}
-use Rattle.rh_line.specs.declared.leg.LegKind.{LegKind}
-use Rattle.rh_line.specs.declared.leg.LegKind.TheVariants.{ClientOut, OutServer, ClientIn, InServer}
-use Rattle.rh_line.specs.declared.which.Which.{Which}
-use Rattle.rh_line.specs.declared.which.Which.TheVariants.{Current, Next}
-use Rattle.rh_shell.specs.declared.answers.Count.{Count}
 use Rattle.rh_shell.specs.declared.answers.Refused.TheVariants as refused
-use Rattle.rh_shell.specs.declared.due.Due.{Due}
-use Rattle.rh_shell.specs.Rules.{Message}
-use Rattle.rh_shell.specs.Waiting.{Waiting, taken as taken_out}
-use Rattle.rh_server.specs.declared.out_line.Kind.TheVariants as kind
 use Rattle.rh_server.specs.declared.state.Edge.{Edge}
-use Rattle.rh_server.specs.declared.state.Edge.TheVariants as edges
 use Rattle.rh_server.specs.declared.state.InStage.{InStage}
-use Rattle.rh_server.specs.declared.state.InStage.TheVariants as in_stage
 use Rattle.rh_server.specs.declared.state.InLeg.{InLeg}
 use Rattle.rh_server.specs.declared.state.Leaving.{Leaving}
-use Rattle.rh_server.specs.declared.state.Leaving.TheVariants as leaving
 use Rattle.rh_server.specs.declared.state.OutLeg.{OutLeg}
 use Rattle.rh_server.specs.declared.state.Stage.{Stage}
-use Rattle.rh_server.specs.declared.state.Stage.TheVariants as stages
 use Rattle.rh_server.specs.declared.state.Tells.{Tells}
-use Rattle.rh_server.specs.declared.state.Tells.TheVariants as tells
 use Rattle.rh_server.specs.States.{Server, is_open, is_due, is_shut, is_fresh, is_waiting, stays, same_cookie, in_leg, with_in, without_in, without_out, out_place}
 use Rattle.rh_server.specs.OutLines.{waits, Gate, lets}
 use Rattle.rh_server.specs.Opening.{Done, took, refuse, unexpected, is_first, up, on_conn_a2, on_conn_b2}
@@ -50,8 +21,14 @@ use Rattle.rh_server.specs.InReplacement.{ended_if, opens_next, opens_leg, first
 use Rattle.rh_server.specs.OutReplacement.{recycle, on_out_r1_a4, on_out_r1_a8}
 use Rattle.rh_server.specs.Ending.{give, is_over_on, end_a2_waiting, end_a2_at, on_end_a2, settled, in_is_drawn, drawn_by, with_ack_dropped, lost_in, mark_by}
 use Rattle.rh_server.specs.Putting.{Pick, or_else, put_in_greeting, told_by, was_current, put_tells_by, put_tells, put_b1_by, put_b1, ack_due, put_ack_by, put_ack, next_in, put_in_by, out_greeting_at, put_out_greeting, gate_at, counts, was_put, waiting_by, waiting_at, put_waiting, may_go_at, pdu_by as put_pdu_by, put_pdu, is_end_due, may_end_at, put_end, put_pdu_or_end, next_out, settled_pick, put_open, put_out_at, put_by}
-use Rattle.rh_server.specs.Servers.{on_is, on_os, packet_by, pdu_by, acts as server_acts}
-use Rattle.rh_server.specs.Servers.{rules as server_rules}
+use Rattle.rh_server.specs.Servers.{on_is, on_os, packet_by, pdu_by, acts as server_acts, rules as server_rules}
+use Rattle.rh_server.specs.declared.out_line.Kind.TheVariants as kind
+use Rattle.rh_server.specs.declared.state.Edge.TheVariants as edges
+use Rattle.rh_server.specs.declared.state.InStage.TheVariants as in_stage
+use Rattle.rh_server.specs.declared.state.Leaving.TheVariants as leaving
+use Rattle.rh_server.specs.declared.state.Stage.TheVariants as stages
+use Rattle.rh_server.specs.declared.state.Tells.TheVariants as tells
+use Rattle.law_moves.proofs.Vocabulary.{Receiver, Ack, LEAST_WINDOW, by_test, IsPdu, Cookie, Named, Incoming, Line, IsThere, admitted, channel_verdict, released, settled as settled_line, moved_on, is_empty, due, after_admit, after_end, after_open_next, after_tell, front_length, LineFault, Window, Over, Leg, LegKind, ClientOut, OutServer, ClientIn, InServer, Which, Current, Next, Count, Due, Message, Waiting, taken as taken_out}
 use Rattle.law_role_windows.proofs.Held.Lines.{IsKept, call_kept, due_then}
 use Rattle.law_role_windows.proofs.Held.Roles.{RulesKeep, ActsKeep}
 
@@ -151,7 +128,7 @@ same_was_put s place packet = search rules
 
 -- ---- windows
 
-told_admitted : (c : Incoming) (pdu : List ℕ) → (admitted c pdu).window.told ≡ c.window.told
+pub told_admitted : (c : Incoming) (pdu : List ℕ) → (admitted c pdu).window.told ≡ c.window.told
 told_admitted c pdu =
     by_test (λ (d : Incoming). d.window.told ≡ c.window.told) (is_ok (channel_verdict c pdu)) _ c
     (λ e. by_test (λ (r : Receiver). r.told ≡ c.window.told)

@@ -1,75 +1,40 @@
 -- a byte that closes a node of a world since what came is amiss: at the moment before it, the role
 -- of the node refuses the next message that was put at the other end of the leg
-use Rattle.std.proofs.Common.{◌≡◌, ℕ, List, [], inl, inr, refl, sym, ap, ◌∙◌, subst}
-use Rattle.std.specs.Prelude.{Some}
-use Rattle.std.specs.List.{AllByRecursion}
-use Rattle.std.specs.declared.option.Option.{Option}
-use Rattle.rh_text.specs.declared.ends.Dir.{Dir}
-use Rattle.rh_sig.specs.declared.name.Pipe.{Pipe}
-use Rattle.rh_http.specs.declared.config.ClientConfig.{ClientConfig}
-use Rattle.rh_http.specs.Texts.{in_request, out_request}
-use Rattle.rh_line.specs.declared.cause.Cause.{Cause}
-use Rattle.rh_line.specs.declared.leg.Leg.{Leg}
-use Rattle.rh_line.specs.declared.leg.LegKind.{LegKind}
-use Rattle.rh_line.specs.declared.leg.LegKind.TheVariants.{ClientOut, OutServer, ClientIn, InServer}
-use Rattle.rh_record.specs.declared.answer.Who.{Who}
+use Rattle.law_order.proofs.Vocabulary.{◌≡◌, ℕ, List, [], inl, inr, refl, sym, ap, ◌∙◌, subst, Some, AllByRecursion, Option}
 use Rattle.rh_record.specs.declared.answer.Who.TheVariants as who
-use Rattle.rh_shell.specs.declared.answers.Refused.{Refused}
-use Rattle.rh_shell.specs.declared.course.Course.TheVariants.{Going}
 use Rattle.rh_shell.specs.declared.stage.Stage.TheVariants as stage
-use Rattle.rh_shell.specs.Intakes.{is_whole_head}
-use Rattle.rh_shell.specs.NearEnds.{NearEnd}
-use Rattle.rh_shell.specs.Rules.{Message, Text, Pdu, Packet, Rules}
-use Rattle.rh_shell.specs.Shells.{Shell, begun, end_at}
-use Rattle.rh_inproxy.specs.declared.state.InProxyConfig.{InProxyConfig}
 use Rattle.rh_inproxy.specs.Machine as in_proxy
-use Rattle.rh_inproxy.specs.State.{InProxy}
 use Rattle.rh_inproxy.specs.State as in_state
-use Rattle.rh_outproxy.specs.declared.out_proxy.TheConstants.{ROOMS}
-use Rattle.rh_outproxy.specs.declared.state.OutProxyConfig.{OutProxyConfig}
 use Rattle.rh_outproxy.specs.Machine as out_proxy
-use Rattle.rh_outproxy.specs.OutProxy.{OutProxy, new_proxy}
-use Rattle.rh_client.specs.declared.state.ClientRole.{ClientRole}
 use Rattle.rh_client.specs.Client as client
 use Rattle.rh_client.specs.State as client_state
 use Rattle.rh_server.specs.Servers as server
-use Rattle.rh_server.specs.States.{Server}
-use Rattle.rh_nodes.specs.declared.event.Event.TheVariants.{Comes}
-use Rattle.rh_nodes.specs.declared.place.Place.TheVariants.{Here}
-use Rattle.rh_nodes.specs.Opening.{Makers}
-use Rattle.rh_nodes.specs.Readers.{reader_of}
-use Rattle.rh_nodes.specs.Wires.{receiver}
-use Rattle.rh_nodes.specs.World.{World, at}
-use Rattle.law_moves.specs.Moves.{EndMove, EndPassage, Passage}
-use Rattle.law_moves.specs.Wires.{of_leg}
+use Rattle.law_moves.proofs.Vocabulary.{Dir, Pipe, ClientConfig, in_request, out_request, Cause, Leg, LegKind, ClientOut, OutServer, ClientIn, InServer, Refused, Going, is_whole_head, NearEnd, Message, Text, Pdu, Packet, Rules, Shell, begun, end_at, EndMove, EndPassage, Passage, of_leg, IsWholeText, Answers, ReadsWell}
 use Rattle.law_moves.proofs.Legible.Each.{each_so}
-use Rattle.law_moves.specs.ReadBack.Reading.{IsWholeText}
-use Rattle.law_moves.specs.ReadBack.Well.{Answers, ReadsWell}
-use Rattle.law_role_client.specs.Order.{AreAllowedMoves, client_moved}
-use Rattle.law_node_history.specs.Carried.{IsTraced, LegsComeUpOnce, AreAccepted, AreAcceptedAtEnd, ComesUpOnce, ComesUpOnceAtEnd, events_of, happened, heard_on}
-use Rattle.law_node_history.specs.Changes.{IsFed, MayChange}
-use Rattle.law_node_history.specs.Histories.{History, in_place, out_place}
+use Rattle.law_role_inproxy.proofs.Vocabulary.{InProxyConfig, InProxy}
+use Rattle.law_role_client.proofs.Vocabulary.{ClientRole, AreAllowedMoves, client_moved}
+use Rattle.law_role_server.proofs.Vocabulary.{Server}
+use Rattle.law_node_history.proofs.Vocabulary.{Who, reader_of, receiver, Comes, Here, Makers, World, at, IsTraced, LegsComeUpOnce, AreAccepted, AreAcceptedAtEnd, ComesUpOnce, ComesUpOnceAtEnd, events_of, happened, heard_on, IsFed, MayChange, History, in_place, out_place}
 use Rattle.law_node_causes.specs.Closings.{ClosesWith}
+use Rattle.law_role_outproxy.proofs.Vocabulary.{ROOMS, OutProxyConfig, OutProxy, new_proxy}
 use Rattle.law_node_streams.specs.Streams.{HasPipes, NeverRefuses, StaysUnused, StaysUnusedAtEnd}
 use Rattle.law_peers_moments.specs.Moments.{Passages}
 use Rattle.law_node_begins.specs.EndsBegin.{Asks}
 use Rattle.law_node_begins.specs.ProxiesBegin.Pipes.{in_pipe, out_pipe}
-use Rattle.law_node_traces.specs.Traced.Cookies.{ByChanges}
-use Rattle.law_node_traces.specs.Traced.Turns.{HearInTurn}
-use Rattle.law_node_traces.specs.Traced.Ours.{AreOurs, deeds, rules}
+use Rattle.law_node_traces.proofs.Vocabulary.{ByChanges, HearInTurn, AreOurs, deeds, rules}
 use Rattle.law_peers_routes.specs.Downwards as down
-use Rattle.law_world_order.specs.Flows.{IsFlowing, numbers_of, read_on}
 use Rattle.law_world_order.proofs.Heard.{node_reads, reads_on}
 use Rattle.law_world_order.proofs.Legs.{Reads}
+use Rattle.law_world_order.proofs.Vocabulary.{IsFlowing, numbers_of, read_on}
 use Rattle.law_world_windows.proofs.Moment.{Laws, NodeLaws, behind}
 use Rattle.law_world_windows.proofs.Stopping.{Readings}
-use Rattle.law_world_expected.specs.Amiss.{AmissNext, amiss_by}
 use Rattle.law_world_expected.proofs.Amiss.Bytes.{HaveNames}
 use Rattle.law_world_expected.proofs.Amiss.Known.{KnowsLegs, KnowsLegsAtEnd, end_knows, node_knows}
 use Rattle.law_world_expected.proofs.Amiss.Moments.{AllFlow, AmissThen, OfStreams, client_shell, client_then, fed_bytes, flows, in_shell, in_then, once, out_shell, out_then, passages, put_there, server_shell, server_then, story, traced, turns, world}
 use Rattle.law_world_expected.proofs.Amiss.Next.{KnowsEnd, amiss_next}
 use Rattle.law_world_expected.proofs.Amiss.Pings.{IsHead}
 use Rattle.law_world_expected.proofs.Amiss.Sources.{leg_pinged}
+use Rattle.law_world_expected.specs.Amiss.{AmissNext, amiss_by}
 
 -- ---- the laws that this stands on
 

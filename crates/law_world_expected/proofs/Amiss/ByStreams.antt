@@ -1,27 +1,15 @@
 -- a node that closes by a byte since what came is amiss, by its stream until then
-use Rattle.std.proofs.Common.{◌≡◌, ℕ, List, [], ◌∷◌, ◌++◌, Some, sym, ap, ◌∙◌, subst}
-use Rattle.std.specs.declared.option.Option.{Option}
-use mathlib.Core.List.{IsPrefix}
-use Rattle.rh_sig.specs.declared.name.Pipe.{Pipe}
-use Rattle.rh_line.specs.declared.cause.Cause.{Cause}
-use Rattle.rh_line.specs.declared.leg.Leg.{Leg}
-use Rattle.rh_shell.specs.declared.answers.Refused.{Refused}
-use Rattle.rh_shell.specs.declared.rooms.Rooms.{Rooms}
-use Rattle.law_moves.specs.Moving.{EndEvent, Event, Happens, Hears, after_end_events, after_events}
-use Rattle.rh_shell.specs.Rules.{Acts, Message, Rules}
-use Rattle.rh_shell.specs.Shells.{Shell, begun, bytes}
-use Rattle.law_moves.specs.Wires.{of_leg}
-use Rattle.law_node_history.specs.Carried.{drawn_on, end_drawn_on, happened, heard_on}
-use Rattle.law_node_history.proofs.Runs.{end_events_append, events_append}
-use Rattle.law_moves.specs.ReadBack.Reading.{messages_read}
-use Rattle.law_moves.specs.ReadBack.Well.{Answers, ReadsWell}
+use Rattle.law_order.proofs.Vocabulary.{◌≡◌, ℕ, List, [], ◌∷◌, ◌++◌, Some, sym, ap, ◌∙◌, subst, Option, IsPrefix}
+use Rattle.law_moves.proofs.Vocabulary.{Pipe, Cause, Leg, Refused, Rooms, Acts, Message, Rules, Shell, begun, bytes, EndEvent, Event, Happens, Hears, after_end_events, after_events, of_leg, messages_read, Answers, ReadsWell}
+use Rattle.law_node_history.proofs.Lemmas.{end_events_append, events_append}
+use Rattle.law_node_history.proofs.Vocabulary.{drawn_on, end_drawn_on, happened, heard_on}
 use Rattle.law_node_streams.specs.Streams.{EndStream, Seated, Stream}
 use Rattle.law_world_windows.proofs.Fed.{heard_behind}
 use Rattle.law_world_windows.proofs.OneByte.{AtByte}
 use Rattle.law_world_windows.proofs.Stopping.{Readings}
-use Rattle.law_world_expected.specs.Amiss.{amiss_by}
 use Rattle.law_world_expected.proofs.Amiss.Bytes.{HaveNames}
 use Rattle.law_world_expected.proofs.Amiss.Stops.{AmissAt, node_amiss, one_more}
+use Rattle.law_world_expected.specs.Amiss.{amiss_by}
 
 -- and the byte stands behind what was heard
 pub record StopsThere {S : Type 0} (rules : Rules S) (leg : Leg) (pipe : Option Pipe) (r : Refused)

@@ -1,39 +1,16 @@
 -- a byte that closes a node since what came is amiss makes the message whole that a row refuses, or
 -- a Ping that comes first
-use Rattle.std.proofs.Common.{◌≡◌, ◌⊎◌, inl, inr, ℕ, List, [], ◌∷◌, ◌++◌, length, cond, Bool, true, false, nat_lt, Some, None, Ok, Err, refl, sym, ap, ◌∙◌, subst}
-use Rattle.std.proofs.lemmas.Bool.{eqb-true}
-use Rattle.std.specs.Prelude.{slice_index, ◌==◌, ◌&&◌}
-use Rattle.std.specs.declared.option.Option.{Option}
-use Rattle.std.specs.declared.result.Result.{Result}
-use Rattle.rh_pdu.specs.declared.fault.HeadFault.{HeadFault}
-use Rattle.rh_pdu.specs.Header.{rts, header_length, frag_of, head_fault}
+use Rattle.law_order.proofs.Vocabulary.{◌≡◌, ◌⊎◌, inl, inr, ℕ, List, [], ◌∷◌, ◌++◌, length, cond, Bool, true, false, nat_lt, Some, None, Ok, Err, refl, sym, ap, ◌∙◌, subst, eqb-true, slice_index, ◌==◌, ◌&&◌, Option, Result}
 use Rattle.rh_sig.specs.declared.fault.SigFault.TheVariants as sig
-use Rattle.rh_sig.specs.declared.name.Pipe.{Pipe}
-use Rattle.rh_sig.specs.declared.named.Named.{Named}
-use Rattle.rh_sig.specs.declared.named.Named.TheVariants.{Ping}
-use Rattle.rh_line.specs.declared.leg.Leg.{Leg}
-use Rattle.rh_line.specs.declared.cause.Cause.{Cause}
 use Rattle.rh_line.specs.declared.cause.Cause.TheVariants as cause
-use Rattle.rh_shell.specs.declared.answers.Count.{Count}
-use Rattle.rh_shell.specs.declared.answers.HeadRefused.{HeadRefused}
+use Rattle.rh_shell.specs.Hearing.{cause_of}
+use Rattle.rh_shell.specs.Intakes.{Over, behind}
 use Rattle.rh_shell.specs.declared.answers.HeadRefused.TheVariants as head
-use Rattle.rh_shell.specs.declared.answers.HeadTaken.{HeadTaken}
-use Rattle.rh_shell.specs.declared.answers.Refused.{Refused}
 use Rattle.rh_shell.specs.declared.answers.Refused.TheVariants as refused
-use Rattle.rh_shell.specs.declared.heading.Heading.{Heading}
-use Rattle.rh_shell.specs.declared.reading.PacketFault.{PacketFault}
 use Rattle.rh_shell.specs.declared.reading.PacketFault.TheVariants as unread
-use Rattle.rh_shell.specs.declared.stage.Stage.{Stage}
 use Rattle.rh_shell.specs.declared.stage.Stage.TheVariants as stage
-use Rattle.rh_shell.specs.declared.stop.Stop.{Stop}
-use Rattle.rh_shell.specs.Hearing.{goes, stops, stop, head_row, begun_body, behind_head, behind_frame, row_by, close_row, cause_of, one_more, is_zero, is_upward, is_ping, take_ping, take_packet, take_frame, is_greeting, heading, touched, with_intake, take, heard}
-use Rattle.rh_shell.specs.Intakes.{Intake, Came, Nothing, Head, Greeting, Frame, Fault, Over, on_byte, byte_by, text_by, frame_by, frame_byte, holds, behind, is_whole_head, is_whole_greeting, is_full, length_told, counted}
-use Rattle.rh_shell.specs.NearEnds.{NearEnd}
-use Rattle.rh_shell.specs.Readings.{packet_of}
-use Rattle.rh_shell.specs.Rules.{Message, Pdu, Packet, Rules, Row}
-use Rattle.law_moves.specs.Carrying.{message_in, named_messages}
-use Rattle.law_moves.specs.ReadBack.Reading.{Reading, frame_read, read_by, read_byte, reading}
-use Rattle.law_moves.specs.ReadBack.Well.{Answers, ByteIsWell, FrameIsWell, HeaderIsWell}
+use Rattle.law_moves.proofs.Vocabulary.{HeadFault, rts, header_length, frag_of, head_fault, Pipe, Named, Ping, Leg, Cause, Count, HeadRefused, HeadTaken, Refused, Heading, PacketFault, Stage, Stop, goes, stops, stop, head_row, begun_body, behind_head, behind_frame, row_by, close_row, one_more, is_zero, is_upward, is_ping, take_ping, take_packet, take_frame, is_greeting, heading, touched, with_intake, take, heard, Intake, Came, Nothing, Head, Greeting, Frame, Fault, on_byte}
+use Rattle.law_moves.proofs.Vocabulary.{byte_by, text_by, frame_by, frame_byte, holds, is_whole_head, is_whole_greeting, is_full, length_told, counted, NearEnd, packet_of, Message, Pdu, Packet, Rules, Row, message_in, named_messages, Reading, frame_read, read_by, read_byte, reading, Answers, ByteIsWell, FrameIsWell, HeaderIsWell}
 use Rattle.law_node_streams.specs.Streams.{is_live}
 use Rattle.law_world_expected.specs.Amiss.{amiss_by, RefusesBy}
 

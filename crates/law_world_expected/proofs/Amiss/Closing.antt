@@ -1,50 +1,34 @@
 -- a change of a world that closes a node since what came is amiss feeds the node a piece: at the
 -- moment before one of its bytes the role of the node refuses the next message so
-use Rattle.std.proofs.Common.{◌≡◌, ℕ, refl, sym, ◌∙◌, subst}
-use Rattle.std.specs.Prelude.{Some, None}
-use Rattle.rh_text.specs.declared.ends.Dir.{Dir}
-use Rattle.rh_line.specs.declared.cause.Cause.{Cause}
+use Rattle.law_order.proofs.Vocabulary.{◌≡◌, ℕ, refl, sym, ◌∙◌, subst, Some, None}
 use Rattle.rh_line.specs.declared.cause.Cause.TheVariants as cause
-use Rattle.rh_line.specs.declared.leg.Leg.{Leg}
-use Rattle.rh_record.specs.declared.answer.Who.{Who}
 use Rattle.rh_record.specs.declared.answer.Who.TheVariants as who
-use Rattle.rh_shell.specs.declared.answers.Refused.{Refused}
-use Rattle.rh_shell.specs.Shells.{Shell}
 use Rattle.rh_inproxy.specs.Machine as in_proxy
-use Rattle.rh_inproxy.specs.State.{InProxy}
 use Rattle.rh_outproxy.specs.Machine as out_proxy
-use Rattle.rh_outproxy.specs.OutProxy.{OutProxy}
-use Rattle.rh_client.specs.declared.state.ClientRole.{ClientRole}
 use Rattle.rh_client.specs.Client as client
 use Rattle.rh_server.specs.Servers as server
-use Rattle.rh_server.specs.States.{Server}
-use Rattle.rh_nodes.specs.declared.event.Event.{Event}
-use Rattle.rh_nodes.specs.declared.event.Event.TheVariants.{Comes}
-use Rattle.rh_nodes.specs.declared.place.Place.{Place}
-use Rattle.rh_nodes.specs.declared.place.Place.TheVariants.{Absent, Here, Gone}
-use Rattle.rh_nodes.specs.Company as company
-use Rattle.rh_nodes.specs.Legs as legs
-use Rattle.rh_nodes.specs.Opening.{Makers}
-use Rattle.rh_nodes.specs.Places as places
-use Rattle.rh_nodes.specs.Wires.{receiver}
-use Rattle.rh_nodes.specs.World.{World, at}
-use Rattle.law_node_history.specs.Changes.{Change, IsFed, MayChange}
-use Rattle.law_node_history.specs.Closes.{ClosesNode}
-use Rattle.law_node_history.specs.Histories.{in_place, out_place}
-use Rattle.law_node_history.proofs.Numbers.{answered}
-use Rattle.law_node_traces.specs.Traced.Cookies.{ByChanges}
-use Rattle.law_node_traces.specs.Traced.Ours.{AreOurs, deeds, rules}
-use Rattle.law_world_order.specs.Flows.{numbers_of, read_on}
+use Rattle.rh_wires.specs.Legs as legs
+use Rattle.rh_company.specs.Company as company
+use Rattle.rh_company.specs.Places as places
+use Rattle.law_moves.proofs.Vocabulary.{Dir, Cause, Leg, Refused, Shell}
+use Rattle.law_role_inproxy.proofs.Vocabulary.{InProxy}
+use Rattle.law_role_client.proofs.Vocabulary.{ClientRole}
+use Rattle.law_role_server.proofs.Vocabulary.{Server}
+use Rattle.law_node_history.proofs.Vocabulary.{Who, receiver, Event, Comes, Place, Absent, Here, Gone, Makers, World, at, Change, IsFed, MayChange, ClosesNode, in_place, out_place}
+use Rattle.law_node_history.proofs.Lemmas.{answered}
+use Rattle.law_role_outproxy.proofs.Vocabulary.{OutProxy}
+use Rattle.law_node_traces.proofs.Vocabulary.{ByChanges, AreOurs, deeds, rules}
 use Rattle.law_world_order.proofs.Legs.{Reads}
-use Rattle.law_world_honest.specs.Honesty.Honest.{well_on}
+use Rattle.law_world_order.proofs.Vocabulary.{numbers_of, read_on}
 use Rattle.law_world_honest.proofs.Honesty.Closing.{EachComes, IsOfPiece, by_fed}
 use Rattle.law_world_honest.proofs.Honesty.Fed.{told_what, told_who}
+use Rattle.law_world_honest.specs.Honesty.Honest.{well_on}
 use Rattle.law_world_windows.proofs.Moment.{Laws, NodeLaws, well_behind}
 use Rattle.law_world_windows.proofs.Stopping.{Readings}
-use Rattle.law_world_expected.specs.Amiss.{AmissNext, amiss_by}
 use Rattle.law_world_expected.proofs.Amiss.AtNodes.{ClientKnows, RolesKnow, client_next, in_next, out_next, passages_then, put_then, server_next}
 use Rattle.law_world_expected.proofs.Amiss.Bytes.{HaveNames}
 use Rattle.law_world_expected.proofs.Amiss.Moments.{AllFlow, OfStreams}
+use Rattle.law_world_expected.specs.Amiss.{AmissNext, amiss_by}
 
 -- ---- the laws that this stands on
 

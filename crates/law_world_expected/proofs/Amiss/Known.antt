@@ -1,32 +1,20 @@
 -- what a node that goes on knows of a leg whose end it has: the leg was up, and the end's count is
 -- of the packets that came there
-use Rattle.std.proofs.Common.{◌≡◌, ◌⊎◌, inl, inr, ℕ, List, [], ◌∷◌, ◌++◌, Bool, true, false, ◌||◌, Some, refl, sym, ap, ◌∙◌, subst}
-use Rattle.std.specs.declared.option.Option.{Option}
-use Rattle.std.proofs.lemmas.Bool.{true≢false}
-use Rattle.rh_rts.specs.declared.command.Cookie.{Cookie}
-use Rattle.rh_sig.specs.declared.name.Pipe.{Pipe}
-use Rattle.rh_line.specs.declared.leg.Leg.{Leg}
-use Rattle.rh_shell.specs.declared.course.Course.TheVariants.{Going}
-use Rattle.rh_shell.specs.declared.rooms.Rooms.{Rooms}
-use Rattle.rh_shell.specs.NearEnds.{NearEnd, is_over}
-use Rattle.rh_shell.specs.Rules.{Acts, Message, Rules}
-use Rattle.rh_shell.specs.Shells.{Shell, begun, end_at, may_up}
-use Rattle.law_moves.specs.Moves.{Move, Passage, end_started}
-use Rattle.law_moves.specs.Moving.{ComesUp, EndEvent, Event, Happens, IsClosed, IsGiven, IsRecycled, IsTaken, Hears, Ends, Breaks, Draws, Ticks, after_end_event, after_end_events, after_event, after_events}
-use Rattle.law_moves.specs.Passages.Counted.{Tells, packets}
-use Rattle.law_moves.specs.ReadBack.Reading.{messages_read}
-use Rattle.law_moves.specs.Turns.{RefusesInTurn}
-use Rattle.law_node_history.specs.Carried.{AreAccepted, AreAcceptedAtEnd, ComesUpOnce, ComesUpOnceAtEnd, IsAccepted, came_up, end_drawn_on, drawn_on, happened, heard_on, is_up_of}
-use Rattle.law_node_history.proofs.Runs.{end_events_append, events_append}
+use Rattle.law_order.proofs.Vocabulary.{◌≡◌, ◌⊎◌, inl, inr, ℕ, List, [], ◌∷◌, ◌++◌, Bool, true, false, Some, refl, sym, ap, ◌∙◌, subst, Option, true≢false}
+use Rattle.law_moves.proofs.Vocabulary.{Cookie, Pipe, Leg, Going, Rooms, NearEnd, is_over, Acts, Message, Rules, Shell, begun, end_at, may_up, Move, Passage, end_started, ComesUp, EndEvent, Event, Happens, IsClosed, IsGiven, IsRecycled, IsTaken, Hears, Ends, Breaks, Draws, Ticks, after_end_event, after_end_events, after_event, after_events, Tells, packets, messages_read, RefusesInTurn}
+use Rattle.law_moves.proofs.Lemmas.{leg_is}
+use Rattle.law_node_history.proofs.Lemmas.{end_events_append, events_append}
+use Rattle.law_node_history.proofs.Vocabulary.{AreAccepted, AreAcceptedAtEnd, ComesUpOnce, ComesUpOnceAtEnd, IsAccepted, came_up, end_drawn_on, drawn_on, happened, heard_on, is_up_of}
 use Rattle.law_node_causes.specs.Once.{WasUp}
-use Rattle.law_node_streams.specs.Streams.{HasPipes, HearsInTurn, NeverRefuses, StaysUnused, StaysUnusedAtEnd, all_given, all_taken, is_live}
-use Rattle.law_node_streams.proofs.Streams.AtEnds as at_ends
-use Rattle.law_node_streams.proofs.Streams.Ends.{end_is, end_of, leg_is}
+use Rattle.law_role_client_rows.proofs.Refusing.Ends.{either_true as one_of}
+use Rattle.law_node_streams.proofs.Streams.Ends.{end_is, end_of}
 use Rattle.law_node_streams.proofs.Streams.Kept.{IsSeated, Kept}
-use Rattle.law_node_streams.proofs.Streams.Nodes as nodes
 use Rattle.law_node_streams.proofs.Streams.Runs.{ran_none}
 use Rattle.law_node_streams.proofs.Streams.Seats.{seat}
 use Rattle.law_node_streams.proofs.Streams.Turns.{Nowhere, Sits, seat_by}
+use Rattle.law_node_streams.proofs.Streams.AtEnds as at_ends
+use Rattle.law_node_streams.proofs.Streams.Nodes as nodes
+use Rattle.law_node_streams.specs.Streams.{HasPipes, HearsInTurn, NeverRefuses, StaysUnused, StaysUnusedAtEnd, all_given, all_taken, is_live}
 use Rattle.law_world_expected.proofs.Amiss.Next.{KnowsEnd}
 
 -- ---- by what is kept of it
@@ -61,10 +49,6 @@ module _ {S : Type 0} (rules : Rules S) (pipe : Option Pipe) (leg : Leg)
   knows_by : (up ≡ true → rules.was_up s.role leg ≡ true)
       → KnowsEnd rules s.role pipe leg heard end
   knows_by was = record { was_up = was rose; counts = counts }
-
-one_of : (a b : Bool) → a || b ≡ true → (a ≡ true) ⊎ (b ≡ true)
-one_of true b e = inl refl
-one_of false b e = inr e
 
 -- ---- legs that came up were up
 

@@ -1,82 +1,41 @@
 -- the moment before the byte of a fed piece that closes a node since what came is amiss, at which
 -- all is joined
-use Rattle.std.proofs.Common.{◌≡◌, ℕ, ◌+◌, List, [], ◌∷◌, ◌++◌, length, map, refl, sym, ap, ◌∙◌, subst}
-use Rattle.std.specs.Prelude.{Some}
-use mathlib.Core.List.{IsPrefix}
-use Rattle.rh_text.specs.declared.ends.Dir.{Dir}
-use Rattle.rh_line.specs.declared.cause.Cause.{Cause}
-use Rattle.rh_line.specs.declared.leg.Leg.{Leg}
-use Rattle.law_order.proofs.Prefixes.{prefix_trans}
-use Rattle.rh_record.specs.declared.answer.Who.{Who}
+use Rattle.law_order.proofs.Vocabulary.{◌≡◌, ℕ, ◌+◌, List, [], ◌∷◌, ◌++◌, length, map, refl, sym, ap, ◌∙◌, subst, Some, IsPrefix}
 use Rattle.rh_record.specs.declared.answer.Who.TheVariants as who
-use Rattle.rh_shell.specs.declared.answers.Refused.{Refused}
-use Rattle.law_moves.specs.Moves.{Passage}
-use Rattle.law_moves.specs.Moving as moving
-use Rattle.law_moves.specs.Moving.{EndEvent, Happens, after_end_events, after_events}
-use Rattle.rh_shell.specs.Rules.{Message, Rules}
-use Rattle.rh_shell.specs.Shells.{Shell, begun}
-use Rattle.law_moves.specs.Wires.{of_leg}
-use Rattle.rh_nodes.specs.declared.event.Event.TheVariants.{Comes}
-use Rattle.rh_nodes.specs.declared.place.Place.TheVariants.{Here}
-use Rattle.rh_nodes.specs.Legs as legs
-use Rattle.rh_nodes.specs.Opening.{Makers}
-use Rattle.rh_nodes.specs.Readers.{reader_of}
-use Rattle.rh_nodes.specs.Wires.{receiver, sender}
-use Rattle.rh_nodes.specs.World.{World, at}
-use Rattle.rh_client.specs.declared.state.ClientRole.{ClientRole}
+use Rattle.rh_inproxy.specs.Machine as in_proxy
+use Rattle.rh_inproxy.specs.State as in_state
+use Rattle.rh_outproxy.specs.Machine as out_proxy
 use Rattle.rh_client.specs.Client as client
 use Rattle.rh_client.specs.State as client_state
-use Rattle.rh_inproxy.specs.Machine as in_proxy
-use Rattle.rh_inproxy.specs.State.{InProxy}
-use Rattle.rh_inproxy.specs.State as in_state
-use Rattle.rh_outproxy.specs.declared.out_proxy.TheConstants.{ROOMS}
-use Rattle.rh_outproxy.specs.Machine as out_proxy
-use Rattle.rh_outproxy.specs.OutProxy.{OutProxy, new_proxy}
 use Rattle.rh_server.specs.Servers as server
-use Rattle.rh_server.specs.States.{Server}
+use Rattle.rh_wires.specs.Legs as legs
+use Rattle.law_moves.proofs.Vocabulary.{Dir, prefix_trans, Cause, Leg, Refused, Message, Rules, Shell, begun, Passage, EndEvent, Happens, after_end_events, after_events, of_leg, all_read_of, messages_read, Answers, ReadsWell}
+use Rattle.law_moves.specs.Moving as moving
+use Rattle.law_role_inproxy.proofs.Vocabulary.{InProxy}
+use Rattle.law_role_client.proofs.Vocabulary.{ClientRole}
+use Rattle.law_role_server.proofs.Vocabulary.{Server}
+use Rattle.law_node_history.proofs.Vocabulary.{Who, reader_of, receiver, sender, Comes, Here, Makers, World, at, IsTraced, LegsComeUpOnce, drawn_by, end_node, events_of, happened, heard_on, Change, IsFed, MayChange, changed, History, IsRun, in_place, noted, nothing, out_place}
+use Rattle.law_node_history.proofs.Lemmas.{drawn_append, end_drawn_append, happened_append, works_more}
 use Rattle.law_node_causes.specs.Closings.{ClosesWith}
-use Rattle.law_node_history.specs.Carried.{IsTraced, LegsComeUpOnce, drawn_by, end_node, events_of, happened, heard_on}
-use Rattle.law_node_history.specs.Changes.{Change, IsFed, MayChange, changed}
-use Rattle.law_node_history.specs.Histories.{History, IsRun, in_place, noted, nothing, out_place}
-use Rattle.law_node_history.proofs.Appended.{drawn_append, end_drawn_append, happened_append}
-use Rattle.law_node_history.proofs.Working.{works_more}
+use Rattle.law_role_outproxy.proofs.Vocabulary.{ROOMS, OutProxy, new_proxy}
+use Rattle.law_peers_moments.specs.Moments.{Passages, put_by}
 use Rattle.law_node_begins.specs.ProxiesBegin.Pipes as pipes
+use Rattle.law_node_traces.proofs.Vocabulary.{ByChanges, AreOurs, deeds, rules, IsKnown, history_at, HearInTurn}
 use Rattle.law_peers_routes.specs.Downwards as down
-use Rattle.law_moves.specs.ReadBack.Reading.{all_read_of, messages_read}
-use Rattle.law_moves.specs.ReadBack.Well.{Answers, ReadsWell}
-use Rattle.law_node_traces.specs.Traced.Cookies.{ByChanges}
-use Rattle.law_node_traces.specs.Traced.Ours.{AreOurs, deeds, rules}
-use Rattle.law_node_traces.specs.Traced.Recordings.{IsKnown, history_at}
-use Rattle.law_node_traces.specs.Traced.Turns.{HearInTurn}
-use Rattle.law_world_order.specs.Flows.{IsFlowing, Numbers, numbers_of, read_on}
 use Rattle.law_world_order.proofs.Heard.{node_reads, reads_on}
+use Rattle.law_world_order.proofs.Legs.{Reads}
+use Rattle.law_world_order.proofs.Joined.{all, reads_put}
+use Rattle.law_world_order.proofs.Vocabulary.{IsFlowing, Numbers, numbers_of, read_on}
 use Rattle.law_world_windows.proofs.Fed.{heard_behind, in_events, out_events, piece, told_here}
 use Rattle.law_world_windows.proofs.Moment.{Laws, NodeLaws, behind, closes_at, drawn_before, known, noted_append, now}
 use Rattle.law_world_windows.proofs.OneByte.{AtByte}
 use Rattle.law_world_windows.proofs.Pieces.{FedFronts, fed_fronts}
 use Rattle.law_world_windows.proofs.Stopping.{Readings}
-use Rattle.law_world_order.proofs.Legs.{Reads}
-use Rattle.law_world_order.proofs.Joined.{all, reads_put}
-use Rattle.law_peers_moments.specs.Moments.{Passages, put_by}
-use Rattle.law_world_expected.specs.Amiss.{amiss_by}
+use Rattle.law_world_windows.proofs.ClientHops.Moments.{drawn_more}
 use Rattle.law_world_expected.proofs.Amiss.Bytes.{HaveNames}
 use Rattle.law_world_expected.proofs.Amiss.ByStreams.{StopsThere, end_stops, stream_stops}
 use Rattle.law_world_expected.proofs.Amiss.Stops.{AmissAt}
-
--- what a node drew it has drawn whatever changes
-drawn_more : {K : Type 0} (m : Makers K InProxy OutProxy)
-    (w v : World K ClientRole Server InProxy OutProxy) (h : History) (change : Change)
-    (node : Who) (leg : Leg)
-    → IsPrefix (drawn_by rules m deeds w.company w.cast h node leg)
-    (drawn_by rules m deeds w.company w.cast (noted v h change) node leg)
-drawn_more m w v h change who.Client leg =
-    (_, sym (end_drawn_append client.rules client.acts leg w.company.client h.client _))
-drawn_more m w v h change who.Server leg =
-    (_, sym (end_drawn_append rules.server deeds.server leg w.company.server h.server _))
-drawn_more m w v h change (who.In n) leg =
-    (_, sym (drawn_append in_proxy.rules leg (m.in_proxy w.cast n) (h.ins n) _))
-drawn_more m w v h change (who.Out n) leg =
-    (_, sym (drawn_append out_proxy.rules leg (m.out_proxy w.cast n) (h.outs n) _))
+use Rattle.law_world_expected.specs.Amiss.{amiss_by}
 
 -- ---- the laws that this stands on
 

@@ -1,25 +1,12 @@
 -- a byte that closes a node since what came is amiss: the role refuses the next message of what was
 -- put at the other end, or that has a Ping first
-use Rattle.std.proofs.Common.{◌≡◌, ◌⊎◌, inl, inr, ℕ, List, Bool, true, false, ◌||◌, ◌&&◌, not, Some, refl, sym, subst}
-use Rattle.std.specs.declared.option.Option.{Option}
-use Rattle.rh_sig.specs.declared.name.Pipe.{Pipe}
-use Rattle.rh_line.specs.declared.leg.Leg.{Leg}
-use Rattle.rh_shell.specs.declared.answers.Count.{Count}
+use Rattle.law_order.proofs.Vocabulary.{◌≡◌, ◌⊎◌, inl, inr, ℕ, List, Bool, true, false, ◌||◌, ◌&&◌, not, Some, refl, sym, subst, Option}
 use Rattle.rh_shell.specs.declared.answers.Count.TheVariants as count
-use Rattle.rh_shell.specs.declared.answers.Refused.{Refused}
-use Rattle.rh_shell.specs.declared.course.Course.TheVariants.{Going}
-use Rattle.rh_shell.specs.Hearing.{is_upward, is_zero}
-use Rattle.rh_shell.specs.NearEnds.{NearEnd, is_ended, is_marked, is_over}
-use Rattle.rh_shell.specs.Rules.{Message, Text, Pdu, Packet, Rules}
-use Rattle.rh_shell.specs.Shells.{Shell, end_at}
-use Rattle.law_moves.specs.Moves.{Passage, is_in_use}
-use Rattle.law_moves.specs.Wires.{of_leg}
-use Rattle.law_moves.specs.Passages.Counted.{Tells, packets}
-use Rattle.law_moves.specs.ReadBack.Reading.{all_read_of, messages_read}
+use Rattle.law_moves.proofs.Vocabulary.{Pipe, Leg, Count, Refused, Going, is_upward, is_zero, NearEnd, is_ended, is_marked, is_over, Message, Text, Pdu, Packet, Rules, Shell, end_at, Passage, is_in_use, of_leg, Tells, packets, all_read_of, messages_read}
 use Rattle.law_node_streams.specs.Streams.{is_live}
 use Rattle.law_peers_moments.specs.Expecting.{Expects, HasNoPingFirst, IsAhead, IsAmiss}
-use Rattle.law_world_expected.specs.Amiss.{AmissNext, NextIsAmiss, RefusesBy}
 use Rattle.law_world_expected.proofs.Amiss.Stops.{AmissAt, PingsFirst, RefusesAhead}
+use Rattle.law_world_expected.specs.Amiss.{AmissNext, NextIsAmiss, RefusesBy}
 
 -- what a node that goes on knows of a leg whose end it has: the leg was up, and the end's count is
 -- of the packets that are read there

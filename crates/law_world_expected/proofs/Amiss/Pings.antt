@@ -1,37 +1,12 @@
 -- a Ping that is whole by a byte of what was put, where no packet was read before, is the first
 -- packet that was put
-use Rattle.std.proofs.Common.{◌≡◌, ◌⊎◌, ◌<◌, ◌≤◌, inl, inr, ℕ, Bool, true, false, if◌then◌else◌, nat_lt, List, [], ◌∷◌, ◌++◌, length, take, drop, get_or, arith, refl, sym, ap, ◌∙◌, subst}
-use Rattle.std.specs.Prelude.{Some, None, ◌&&◌}
-use Rattle.std.specs.List.{AllByRecursion}
-use Rattle.std.specs.declared.option.Option.{Option}
-use Rattle.std.proofs.lemmas.Bool.Decides.{nat_tests}
-use Rattle.std.proofs.lemmas.List.{append_assoc, append-nil, length-append, take-append-le, take_at}
-use Rattle.std.proofs.lemmas.Bool.{and_parts}
-use mathlib.Core.List.{IsPrefix}
-use Rattle.rh_http.specs.declared.refusal.Refusal.{Refusal}
-use Rattle.rh_http.specs.declared.refusal.Refusal.TheVariants.{Bad, Missing, Unavailable}
-use Rattle.rh_http.specs.Texts.{refusal_text}
-use Rattle.law_order.proofs.ByNumber.{by_test}
-use Rattle.law_order.proofs.Prefixes.{prefix_trans}
-use Rattle.rh_pdu.specs.Frames.{IsFrame}
-use Rattle.rh_pdu.specs.Header.{frag_of, head_fault}
-use Rattle.rh_pdu.proofs.Headers.{frag_same, head_same}
-use Rattle.rh_sig.specs.declared.name.Pipe.{Pipe}
-use Rattle.rh_sig.specs.declared.name.Pipe.TheVariants.{IsU, OsU}
-use Rattle.rh_sig.specs.declared.named.Named.{Named}
-use Rattle.rh_sig.specs.declared.named.Named.TheVariants.{Ping}
-use Rattle.rh_shell.specs.declared.stage.Stage.{Stage}
+use Rattle.law_order.proofs.Vocabulary.{◌≡◌, ◌⊎◌, ◌<◌, ◌≤◌, inl, inr, ℕ, Bool, true, false, if◌then◌else◌, nat_lt, List, [], ◌∷◌, ◌++◌, length, take, drop, get_or, arith, refl, sym, ap, ◌∙◌, subst, Some, None, ◌&&◌, AllByRecursion, Option, nat_tests, append_assoc, append-nil, length-append, take-append-le, take_at, and_parts, IsPrefix}
 use Rattle.rh_shell.specs.declared.stage.Stage.TheVariants as stage
-use Rattle.law_moves.specs.Carrying.{message_in, named_messages, spelled}
-use Rattle.rh_shell.specs.Hearing.{is_ping}
-use Rattle.rh_shell.specs.Intakes.{ends_head, is_whole_head}
-use Rattle.rh_shell.specs.NearEnds.{first_stage}
-use Rattle.rh_shell.specs.Readings.{packet_of}
-use Rattle.rh_shell.specs.Rules.{Message, Text, Pdu, Packet, spell}
-use Rattle.law_moves.specs.Legible.Legible.{IsTaken, ReadsBack, taken_of}
-use Rattle.law_moves.specs.Passages.Counted.{packets}
-use Rattle.law_moves.specs.ReadBack.Reading.{AreNoTexts, Begins, BeginsBy, BeginsWith, IsWholeText, Reading, begin, frame_read, messages_from, messages_read, read_by, read_byte, reading, reading_after, text_read}
-use Rattle.law_node_streams.proofs.Streams.Bytes.{after_append, from_append}
+use Rattle.law_moves.proofs.Vocabulary.{by_test, prefix_trans, frag_same, head_same, IsFrame, frag_of, head_fault, Pipe, IsU, OsU, Named, Ping, Refusal, Bad, Missing, Unavailable, refusal_text, Stage, is_ping, ends_head, is_whole_head, first_stage, packet_of, Message, Text, Pdu, Packet, spell, message_in, named_messages, spelled, ReadsBack, taken_of, packets, AreNoTexts, Begins, BeginsBy, BeginsWith, IsWholeText, Reading, begin, frame_read, messages_from, messages_read}
+use Rattle.law_moves.proofs.Vocabulary.{read_by, read_byte, reading, reading_after, text_read}
+use Rattle.law_moves.proofs.Lemmas.{next_byte as next_from, TakesAt, read_behind as from_append}
+use Rattle.law_moves.specs.Legible.Legible.{IsTaken}
+use Rattle.law_node_streams.proofs.Streams.Bytes.{after_append}
 use Rattle.law_node_streams.specs.Streams.{IsDrawn}
 use Rattle.law_peers_moments.specs.Expecting.{HasNoPingFirst}
 use Rattle.law_world_expected.proofs.Amiss.Bytes.{IsPing, ping_is}
@@ -69,13 +44,6 @@ none_left (x ∷ a) b tail e = absurd cc
 
 -- ---- bytes that are taken whole, at their last byte and no sooner
 
-record TakesAt (pipe : Option Pipe) (s : Stage) (bytes : List ℕ) (out : List Message)
-    : Type 0 where
-  some : 0 < length bytes
-  front : (a c : List ℕ) (x : ℕ) → a ++ x ∷ c ≡ bytes → 0 < length c
-      → read_by pipe s (a ++ x ∷ []) ≡ (reading s (a ++ x ∷ []), [])
-  whole : read_by pipe s bytes ≡ (reading stage.Frames [], out)
-
 -- what is behind a byte, and what it gives
 next_after : (pipe : Option Pipe) (s : Stage) (held : List ℕ) (x : ℕ) (next : Reading)
     (out : List Message) (bytes : List ℕ) → read_by pipe s (held ++ x ∷ []) ≡ (next, out)
@@ -83,13 +51,6 @@ next_after : (pipe : Option Pipe) (s : Stage) (held : List ℕ) (x : ℕ) (next 
 unfolding read_byte
 next_after pipe s held x next out bytes e =
     ap (λ (q : Reading × List Message). reading_after pipe q.0 bytes) e
-
-next_from : (pipe : Option Pipe) (s : Stage) (held : List ℕ) (x : ℕ) (next : Reading)
-    (out : List Message) (bytes : List ℕ) → read_by pipe s (held ++ x ∷ []) ≡ (next, out)
-    → messages_from pipe (reading s held) (x ∷ bytes) ≡ out ++ messages_from pipe next bytes
-unfolding read_byte
-next_from pipe s held x next out bytes e =
-    ap (λ (q : Reading × List Message). q.1 ++ messages_from pipe q.0 bytes) e
 
 module _ (pipe : Option Pipe) (s : Stage) (bytes : List ℕ) (out : List Message)
     (t : TakesAt pipe s bytes out) where

@@ -1,51 +1,26 @@
 -- what a Ping that is heard on a leg towards the server says of what was put at its other end
-use Rattle.std.proofs.Common.{◌≡◌, ℕ, List, [], ◌∷◌, ◌++◌}
-use Rattle.std.specs.Prelude.{Some}
-use Rattle.std.specs.List.{AllByRecursion}
-use Rattle.std.specs.declared.option.Option.{Option}
-use mathlib.Core.List.{IsPrefix}
-use Rattle.rh_text.specs.declared.ends.Dir.{Dir}
-use Rattle.rh_text.specs.declared.ends.Dir.TheVariants.{U, D}
-use Rattle.rh_sig.specs.declared.name.Pipe.{Pipe}
-use Rattle.rh_sig.specs.declared.name.Pipe.TheVariants.{CiU, IsU, CoU, OsU}
-use Rattle.rh_line.specs.declared.leg.Leg.{Leg}
-use Rattle.rh_line.specs.declared.leg.LegKind.{LegKind}
-use Rattle.rh_line.specs.declared.leg.LegKind.TheVariants.{ClientOut, OutServer, ClientIn, InServer}
-use Rattle.rh_record.specs.declared.answer.Who.{Who}
-use Rattle.rh_shell.specs.declared.answers.Count.{Count}
-use Rattle.rh_shell.specs.declared.answers.Refused.{Refused}
-use Rattle.rh_shell.specs.Rules.{Message, Text, Pdu, Packet}
-use Rattle.rh_shell.specs.Shells.{begun}
-use Rattle.law_moves.specs.Wires.{of_leg}
-use Rattle.law_moves.specs.Legible.Legible.{ReadsBack}
-use Rattle.law_moves.proofs.Legible.Each.{each_so}
-use Rattle.rh_nodes.specs.Opening.{Makers}
-use Rattle.rh_nodes.specs.Settling.{leg_at}
-use Rattle.rh_nodes.specs.Wires.{sender}
-use Rattle.rh_nodes.specs.World.{World}
-use Rattle.rh_client.specs.declared.state.ClientRole.{ClientRole}
-use Rattle.rh_client.specs.Client as client
-use Rattle.law_role_client.specs.Legible as client_legible
-use Rattle.law_role_inproxy.specs.Legible as in_legible
+use Rattle.law_order.proofs.Vocabulary.{◌≡◌, ℕ, List, [], ◌∷◌, ◌++◌, Some, AllByRecursion, Option, IsPrefix}
 use Rattle.rh_inproxy.specs.Machine as in_proxy
-use Rattle.rh_inproxy.specs.State.{InProxy}
-use Rattle.rh_outproxy.specs.declared.out_proxy.TheConstants.{ROOMS}
-use Rattle.law_role_outproxy.specs.Legible as out_legible
 use Rattle.rh_outproxy.specs.Machine as out_proxy
-use Rattle.rh_outproxy.specs.OutProxy.{OutProxy, new_proxy}
-use Rattle.rh_server.specs.States.{Server}
-use Rattle.law_node_history.specs.Carried.{drawn_by, drawn_on, end_drawn_on, end_node}
-use Rattle.law_node_history.specs.Histories.{History}
-use Rattle.law_peers_moments.specs.Expecting.{HasNoPingFirst}
-use Rattle.law_moves.specs.Passages.Counted.{packets}
-use Rattle.law_moves.specs.ReadBack.Reading.{AreNoTexts, IsNoText, messages_read}
+use Rattle.rh_client.specs.Client as client
+use Rattle.law_moves.proofs.Vocabulary.{Dir, U, D, Pipe, CiU, IsU, CoU, OsU, Leg, LegKind, ClientOut, OutServer, ClientIn, InServer, Count, Refused, Message, Text, Pdu, Packet, begun, of_leg, ReadsBack, packets, AreNoTexts, IsNoText, messages_read}
+use Rattle.law_moves.proofs.Legible.Each.{each_so}
+use Rattle.law_role_inproxy.proofs.Vocabulary.{InProxy}
+use Rattle.law_role_inproxy.specs.Legible as in_legible
+use Rattle.law_role_client.proofs.Vocabulary.{ClientRole}
+use Rattle.law_role_client.specs.Legible as client_legible
+use Rattle.law_role_server.proofs.Vocabulary.{Server}
+use Rattle.law_node_history.proofs.Vocabulary.{Who, sender, Makers, leg_at, World, drawn_by, drawn_on, end_drawn_on, end_node, History}
+use Rattle.law_role_outproxy.proofs.Vocabulary.{ROOMS, OutProxy, new_proxy}
+use Rattle.law_role_outproxy.specs.Legible as out_legible
 use Rattle.law_node_streams.proofs.Streams.LegLogs.{on_leg}
-use Rattle.law_node_traces.specs.Traced.Ours.{AreOurs, deeds, rules}
-use Rattle.law_world_order.specs.Flows.{IsFlowing, numbers_of, read_on}
+use Rattle.law_peers_moments.specs.Expecting.{HasNoPingFirst}
+use Rattle.law_peers_moments.specs.Moments.{Passages, put_by}
+use Rattle.law_node_traces.proofs.Vocabulary.{AreOurs, deeds, rules}
 use Rattle.law_world_order.proofs.Heard.{from_client, from_in, from_out}
 use Rattle.law_world_order.proofs.Legs.{Reads}
 use Rattle.law_world_order.proofs.Joined.{all}
-use Rattle.law_peers_moments.specs.Moments.{Passages, put_by}
+use Rattle.law_world_order.proofs.Vocabulary.{IsFlowing, numbers_of, read_on}
 use Rattle.law_world_expected.proofs.Amiss.Pings.{IsHead, drawn_pinged, put_pinged}
 use Rattle.law_world_expected.proofs.Amiss.Stops.{PingsFirst}
 

@@ -1,34 +1,15 @@
 -- a node that closes by a byte since what came is amiss, between the streams of the leg
-use Rattle.std.proofs.Common.{◌≡◌, ◌⊎◌, inl, inr, ℕ, List, [], ◌∷◌, ◌++◌, cond, Bool, true, false, Some, None, refl, sym, ap, ◌∙◌, subst, append_assoc}
-use Rattle.std.proofs.lemmas.List.{append-nil}
-use Rattle.std.specs.declared.option.Option.{Option}
-use mathlib.Core.List.{IsPrefix}
-use Rattle.rh_http.specs.declared.refusal.Refusal.{Refusal}
-use Rattle.rh_sig.specs.declared.name.Pipe.{Pipe}
-use Rattle.rh_line.specs.declared.cause.Cause.{Cause}
-use Rattle.rh_line.specs.declared.leg.Leg.{Leg}
-use Rattle.rh_shell.specs.declared.answers.Count.{Count}
-use Rattle.rh_shell.specs.declared.answers.Refused.{Refused}
+use Rattle.law_order.proofs.Vocabulary.{◌≡◌, ◌⊎◌, inl, inr, ℕ, List, [], ◌∷◌, ◌++◌, cond, Bool, true, false, Some, None, refl, sym, ap, ◌∙◌, subst, append_assoc, append-nil, Option, IsPrefix}
 use Rattle.rh_shell.specs.declared.answers.Refused.TheVariants as refused
-use Rattle.rh_shell.specs.declared.course.Course.{Course}
-use Rattle.rh_shell.specs.declared.course.Course.TheVariants.{Going}
-use Rattle.rh_shell.specs.declared.stage.Stage.{Stage}
 use Rattle.rh_shell.specs.declared.stage.Stage.TheVariants as stage
-use Rattle.rh_shell.specs.declared.stop.Stop.{Stop}
-use Rattle.law_moves.specs.Carrying.{message_in}
-use Rattle.rh_shell.specs.Hearing.{Turn, goes, is_upward, is_zero, hear_byte, hear, heard}
-use Rattle.law_moves.specs.Laws.{ClosedWith}
-use Rattle.rh_shell.specs.NearEnds.{NearEnd, is_over}
-use Rattle.rh_shell.specs.Rules.{Message, Rules}
-use Rattle.rh_shell.specs.Shells.{Shell, bytes, bytes_at, bytes_by, end_at, stop_by, stopped, with_end}
-use Rattle.law_moves.specs.ReadBack.Reading.{Reading, begin, messages_read, read_by, read_byte, reading, reading_after}
-use Rattle.law_moves.specs.ReadBack.Well.{Answers, ByteIsWell, ReadsWell}
+use Rattle.law_moves.proofs.Vocabulary.{Pipe, Refusal, Cause, Leg, Count, Refused, Course, Going, Stage, Stop, Turn, goes, is_upward, is_zero, hear_byte, hear, heard, NearEnd, is_over, Message, Rules, Shell, bytes, bytes_at, bytes_by, end_at, stop_by, stopped, with_end, message_in, ClosedWith, Reading, begin, messages_read, read_by, read_byte, reading, reading_after, Answers, ByteIsWell, ReadsWell}
+use Rattle.law_moves.proofs.Lemmas.{leg_is}
+use Rattle.law_node_streams.proofs.Streams.Ends.{end_is, end_leg}
 use Rattle.law_node_streams.specs.Streams.{Seated, is_live}
-use Rattle.law_node_streams.proofs.Streams.Ends.{end_is, end_leg, leg_is}
 use Rattle.law_world_windows.proofs.OneByte.{AtByte}
 use Rattle.law_world_windows.proofs.Stopping.{Readings}
-use Rattle.law_world_expected.specs.Amiss.{amiss_by, RefusesBy}
 use Rattle.law_world_expected.proofs.Amiss.Bytes.{ByteAmiss, HaveNames, IsFirstPing, IsPing, Says, StopsByByte, byte_told}
+use Rattle.law_world_expected.specs.Amiss.{amiss_by, RefusesBy}
 
 -- ---- what stops it
 

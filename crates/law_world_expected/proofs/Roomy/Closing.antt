@@ -1,68 +1,42 @@
 -- whatever a change of a world is, it closes no node for a full leg, as far as its role has room
 -- for what comes at each moment
-use Rattle.std.proofs.Common.{◌≡◌, ◌≤◌, ℕ, zero, suc, arith, refl, sym, ◌∙◌, subst}
-use Rattle.std.specs.Prelude.{Some}
-use Rattle.rh_text.specs.declared.ends.Dir.{Dir}
-use Rattle.rh_text.specs.declared.ends.Dir.TheVariants.{U, D}
-use Rattle.rh_sig.specs.declared.name.Pipe.TheVariants.{CiU, IsU, IsD, CoU, OsU, OsD}
-use Rattle.rh_line.specs.declared.cause.Cause.{Cause}
+use Rattle.law_order.proofs.Vocabulary.{◌≡◌, ◌≤◌, ℕ, zero, suc, arith, refl, sym, ◌∙◌, subst, Some}
 use Rattle.rh_line.specs.declared.cause.Cause.TheVariants as cause
-use Rattle.rh_line.specs.declared.leg.Leg.{Leg}
-use Rattle.rh_line.specs.declared.leg.LegKind.{LegKind}
-use Rattle.rh_line.specs.declared.leg.LegKind.TheVariants.{ClientOut, OutServer, ClientIn, InServer}
 use Rattle.rh_record.specs.declared.answer.Who.TheVariants as who
-use Rattle.rh_shell.specs.declared.answers.Refused.{Refused}
 use Rattle.rh_shell.specs.declared.answers.Refused.TheVariants as refused
-use Rattle.rh_shell.specs.Shells.{Shell}
 use Rattle.rh_inproxy.specs.Machine as in_proxy
-use Rattle.rh_inproxy.specs.State.{InProxy}
 use Rattle.rh_outproxy.specs.Machine as out_proxy
-use Rattle.rh_outproxy.specs.OutProxy.{OutProxy}
-use Rattle.rh_client.specs.declared.state.ClientRole.{ClientRole}
 use Rattle.rh_client.specs.Client as client
-use Rattle.rh_client.specs.State.{ci}
 use Rattle.rh_server.specs.Servers as server
-use Rattle.rh_server.specs.States.{Server}
-use Rattle.rh_nodes.specs.declared.place.Place.TheVariants.{Absent, Here}
-use Rattle.rh_nodes.specs.Opening.{Makers}
-use Rattle.rh_nodes.specs.Readers.{reader_of}
-use Rattle.rh_nodes.specs.Settling.{leg_at}
-use Rattle.rh_nodes.specs.Wires.{receiver}
-use Rattle.rh_nodes.specs.World.{World, at}
-use Rattle.law_moves.specs.Moves.{EndPassage, Passage}
-use Rattle.law_moves.specs.Wires.{of_leg}
-use Rattle.law_moves.specs.ReadBack.Reading.{all_read_of}
-use Rattle.law_node_history.specs.Changes.{Change, IsFed, MayChange}
-use Rattle.law_node_history.specs.Closes.{ClosesNode}
-use Rattle.law_node_history.specs.Histories.{in_place}
+use Rattle.law_moves.proofs.Vocabulary.{Dir, U, D, CiU, IsU, IsD, CoU, OsU, OsD, Cause, Leg, LegKind, ClientOut, OutServer, ClientIn, InServer, Refused, Shell, EndPassage, Passage, of_leg, all_read_of}
+use Rattle.law_role_inproxy.proofs.Vocabulary.{InProxy}
+use Rattle.law_role_client.proofs.Vocabulary.{ClientRole, ci}
+use Rattle.law_role_server.proofs.Vocabulary.{Server}
+use Rattle.law_node_history.proofs.Vocabulary.{reader_of, receiver, Absent, Here, Makers, leg_at, World, at, Change, IsFed, MayChange, ClosesNode, in_place}
+use Rattle.law_role_outproxy.proofs.Vocabulary.{OutProxy}
 use Rattle.law_peers_moments.specs.Moments.{Moves, Numbers, in_behind, out_behind, server_behind}
-use Rattle.law_node_traces.specs.Traced.Cookies.{ByChanges}
-use Rattle.law_node_traces.specs.Traced.Ours.{AreOurs, deeds, rules}
-use Rattle.law_node_traces.specs.Traced.Recordings.{history_at}
-use Rattle.law_world_order.specs.Flows.{IsFlowing, numbers_of, read_on}
+use Rattle.law_node_traces.proofs.Vocabulary.{ByChanges, AreOurs, deeds, rules, history_at}
 use Rattle.law_world_order.proofs.Legs.{Reads}
-use Rattle.law_world_order.specs.Pasts.{moves_of, numbers}
+use Rattle.law_world_order.proofs.Vocabulary.{IsFlowing, numbers_of, read_on, moves_of, numbers}
 use Rattle.law_world_honest.specs.Honesty.Honest.{well_on}
-use Rattle.law_world_windows.specs.Hops.{is_leg, os_leg}
 use Rattle.law_world_windows.proofs.Moment.{Laws}
 use Rattle.law_world_windows.proofs.Stopping.{Readings}
-use Rattle.law_world_expected.specs.Amiss.{AmissNext}
+use Rattle.law_world_windows.proofs.Closing.{in_number, out_number}
+use Rattle.law_world_windows.specs.Hops.{is_leg, os_leg}
 use Rattle.law_world_expected.proofs.Amiss.AtNodes.{ClientKnows, RolesKnow, passages_then, put_then}
 use Rattle.law_world_expected.proofs.Amiss.Bytes.{HaveNames}
 use Rattle.law_world_expected.proofs.Amiss.Closing.{EachCloses, client_closes, in_closes, out_closes, server_closes}
 use Rattle.law_world_expected.proofs.Amiss.Moments.{AllFlow, flowing, flows, story, world}
-use Rattle.law_world_expected.specs.Roles.{Facts, Premise}
-use Rattle.law_world_expected.proofs.Closing.{AtMoment, out_number}
+use Rattle.law_world_expected.proofs.Closing.{AtMoment}
 use Rattle.law_world_expected.proofs.Facts.{IsKept}
-use Rattle.law_world_expected.specs.Roomy.{InHasRoom, NextFindsRoom, OutHasRoom, ServerHasRoom}
 use Rattle.law_world_expected.proofs.Roomy.ClientRows.{client_packets, client_pdus}
 use Rattle.law_world_expected.proofs.Roomy.Full.{never_full}
 use Rattle.law_world_expected.proofs.Roomy.InRows.{in_packets, in_pdus}
 use Rattle.law_world_expected.proofs.Roomy.OutRows.{out_packets, out_pdus}
 use Rattle.law_world_expected.proofs.Roomy.ServerRows.{server_packets, server_pdus}
-
-in_number : (a b : ℕ) → who.In a ≡ who.In b → a ≡ b
-in_number a b e = cc
+use Rattle.law_world_expected.specs.Amiss.{AmissNext}
+use Rattle.law_world_expected.specs.Roles.{Facts, Premise}
+use Rattle.law_world_expected.specs.Roomy.{InHasRoom, NextFindsRoom, OutHasRoom, ServerHasRoom}
 
 -- a full leg is no packet without a name
 names : (full : Leg) (leg : Leg) (dir : Dir)

@@ -1,6 +1,6 @@
 -- rows that find no leg full
-use Rattle.std.proofs.Common.{Bool, true, false, if◌then◌else◌}
-use Rattle.rh_shell.specs.Rules.{Row}
+use Rattle.law_order.proofs.Vocabulary.{Bool, true, false, if◌then◌else◌}
+use Rattle.law_moves.proofs.Vocabulary.{Row}
 use Rattle.law_world_expected.specs.Roomy.{FindsRoom}
 
 -- what a row answers

@@ -1,12 +1,7 @@
 -- what finds room for what comes next finds no leg full
-use Rattle.std.proofs.Common.{◌≡◌, inl, inr, List, Ok, Err, refl, subst}
-use Rattle.std.specs.declared.option.Option.{Option}
-use Rattle.rh_sig.specs.declared.name.Pipe.{Pipe}
-use Rattle.rh_line.specs.declared.leg.Leg.{Leg}
+use Rattle.law_order.proofs.Vocabulary.{◌≡◌, inl, inr, List, Ok, Err, refl, subst, Option}
 use Rattle.rh_shell.specs.declared.answers.Refused.TheVariants as refused
-use Rattle.rh_shell.specs.Rules.{Message, Text, Pdu, Packet, Row, Rules}
-use Rattle.law_moves.specs.Moves.{Passage}
-use Rattle.law_moves.specs.ReadBack.Reading.{all_read_of}
+use Rattle.law_moves.proofs.Vocabulary.{Pipe, Leg, Message, Text, Pdu, Packet, Row, Rules, Passage, all_read_of}
 use Rattle.law_peers_moments.specs.Expecting.{IsAhead}
 use Rattle.law_world_expected.specs.Amiss.{AmissNext, NextIsAmiss, RefusesBy}
 use Rattle.law_world_expected.specs.Roomy.{FindsRoom, NextFindsRoom, PdusFindRoom}

@@ -1,30 +1,15 @@
 -- the rows of an in proxy find no leg full, but those of what it forwards
-use Rattle.std.proofs.Common.{ℕ, List}
-use Rattle.std.specs.Prelude.{◌&&◌, ◌||◌, Some, None, Ok, Err}
-use Rattle.std.specs.declared.option.Option.{Option}
-use Rattle.std.specs.declared.result.Result.{Result}
-use Rattle.rh_window.specs.declared.fault.BadAck.{BadAck}
-use Rattle.rh_window.specs.Sending.{ack_verdict, after_acked}
-use Rattle.rh_rts.specs.declared.command.Cookie.{Cookie}
-use Rattle.rh_sig.specs.declared.named.Named.{Named}
+use Rattle.law_order.proofs.Vocabulary.{ℕ, List, ◌&&◌, ◌||◌, Some, None, Ok, Err, Option, Result}
 use Rattle.rh_sig.specs.declared.named.Named.TheVariants as named
-use Rattle.rh_line.specs.declared.leg.LegKind.TheVariants.{InServer}
-use Rattle.rh_line.specs.declared.line_fault.LineFault.{LineFault}
 use Rattle.rh_line.specs.declared.line_fault.LineFault.TheVariants as line_fault
-use Rattle.rh_line.specs.declared.which.Which.{Which}
 use Rattle.rh_line.specs.Lines as line
-use Rattle.rh_inproxy.specs.declared.state.Opener.{Opener}
-use Rattle.rh_inproxy.specs.Acknowledging.{ack_for, acked_by}
-use Rattle.rh_inproxy.specs.Answers.{unexpected}
-use Rattle.rh_inproxy.specs.InReplacement.{has_passed}
-use Rattle.rh_inproxy.specs.Machine.{on_is, rules}
 use Rattle.rh_inproxy.specs.Machine as machine
 use Rattle.rh_inproxy.specs.Passing as passing
-use Rattle.rh_inproxy.specs.State.{InProxy, channel_of, has_a5, is_client_leg, is_server_leg, same_cookie}
-use Rattle.rh_inproxy.specs.Opening.{is_connection, is_replacement, is_unknown, opener_of}
-use Rattle.rh_nodes.specs.Settling.{leg_at}
-use Rattle.law_world_expected.specs.Roomy.{PacketsFindRoom, PdusFindRoom}
+use Rattle.law_moves.proofs.Vocabulary.{BadAck, ack_verdict, after_acked, Cookie, Named, InServer, LineFault, Which}
+use Rattle.law_role_inproxy.proofs.Vocabulary.{Opener, ack_for, acked_by, unexpected, has_passed, on_is, rules, InProxy, channel_of, has_a5, is_client_leg, is_server_leg, same_cookie, is_connection, is_replacement, is_unknown, opener_of}
+use Rattle.law_node_history.proofs.Vocabulary.{leg_at}
 use Rattle.law_world_expected.proofs.Roomy.Fitting.{RowFits, either}
+use Rattle.law_world_expected.specs.Roomy.{PacketsFindRoom, PdusFindRoom}
 
 no_row : (s : InProxy) → RowFits (unexpected s)
 no_row s = record { is = tt }

@@ -1,23 +1,12 @@
 -- the rows of an out proxy find no leg full, but those of what it forwards
-use Rattle.std.proofs.Common.{ℕ, List}
-use Rattle.std.specs.Prelude.{◌&&◌, Ok, Err}
-use Rattle.std.specs.declared.result.Result.{Result}
-use Rattle.rh_sig.specs.declared.named.Named.{Named}
+use Rattle.law_order.proofs.Vocabulary.{ℕ, List, ◌&&◌, Ok, Err, Result}
 use Rattle.rh_sig.specs.declared.named.Named.TheVariants as named
-use Rattle.rh_line.specs.declared.leg.LegKind.TheVariants.{ClientOut}
-use Rattle.rh_line.specs.declared.line_fault.LineFault.{LineFault}
 use Rattle.rh_line.specs.declared.line_fault.LineFault.TheVariants as line_fault
-use Rattle.rh_line.specs.declared.which.Which.TheVariants.{Current}
-use Rattle.rh_line.specs.Lines.{admit_verdict}
-use Rattle.rh_shell.specs.declared.answers.Count.{Count}
-use Rattle.rh_outproxy.specs.Acknowledging.{line_row, on_pdu}
-use Rattle.rh_outproxy.specs.Machine.{on_co, rules}
-use Rattle.rh_outproxy.specs.Opening.{new_length, successor_length, told_length}
-use Rattle.rh_outproxy.specs.OutProxy.{OutProxy, is_successor}
-use Rattle.rh_outproxy.specs.Rows.{is_co, is_first, is_os, is_second, takes_pdus, unexpected}
-use Rattle.rh_nodes.specs.Settling.{leg_at}
-use Rattle.law_world_expected.specs.Roomy.{FindsRoom, PacketsFindRoom, PdusFindRoom}
+use Rattle.law_moves.proofs.Vocabulary.{Named, ClientOut, LineFault, Current, admit_verdict, Count}
+use Rattle.law_node_history.proofs.Vocabulary.{leg_at}
+use Rattle.law_role_outproxy.proofs.Vocabulary.{line_row, on_pdu, on_co, rules, new_length, successor_length, told_length, OutProxy, is_successor, is_co, is_first, is_os, is_second, takes_pdus, unexpected}
 use Rattle.law_world_expected.proofs.Roomy.Fitting.{RowFits, either}
+use Rattle.law_world_expected.specs.Roomy.{FindsRoom, PacketsFindRoom, PdusFindRoom}
 
 no_row : (s : OutProxy) → RowFits (unexpected s)
 no_row s = record { is = tt }

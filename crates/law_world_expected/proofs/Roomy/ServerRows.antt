@@ -1,33 +1,14 @@
 -- the rows of a server find no leg full, but those of what it forwards
-use Rattle.std.proofs.Common.{ℕ, List}
-use Rattle.std.specs.Prelude.{◌==◌, ◌&&◌, not, Some, None, Ok, Err, slice_get}
-use Rattle.std.specs.declared.option.Option.{Option}
-use Rattle.std.specs.declared.result.Result.{Result}
-use Rattle.rh_window.specs.declared.fault.BadAck.{BadAck}
-use Rattle.rh_window.specs.Sending.{ack_verdict}
-use Rattle.rh_rts.specs.declared.command.Cookie.{Cookie}
-use Rattle.rh_sig.specs.declared.named.Named.{Named}
+use Rattle.law_order.proofs.Vocabulary.{ℕ, List, ◌==◌, ◌&&◌, not, Some, None, Ok, Err, slice_get, Option, Result}
 use Rattle.rh_sig.specs.declared.named.Named.TheVariants as named
-use Rattle.rh_line.specs.declared.leg.LegKind.{LegKind}
-use Rattle.rh_line.specs.declared.leg.LegKind.TheVariants.{ClientOut, OutServer, ClientIn, InServer}
-use Rattle.rh_line.specs.declared.line_fault.LineFault.{LineFault}
 use Rattle.rh_line.specs.declared.line_fault.LineFault.TheVariants as line_fault
-use Rattle.rh_line.specs.declared.which.Which.{Which}
-use Rattle.rh_line.specs.Lines.{admit_verdict}
-use Rattle.rh_shell.specs.declared.answers.Count.{Count}
+use Rattle.rh_server.specs.Servers.{pdu_by}
 use Rattle.rh_server.specs.declared.out_line.Kind.TheVariants as kind
-use Rattle.rh_server.specs.declared.state.OutLeg.{OutLeg}
-use Rattle.rh_server.specs.declared.state.Stage.{Stage}
 use Rattle.rh_server.specs.declared.state.Stage.TheVariants as stage
-use Rattle.rh_server.specs.Acknowledging.{acked_at, acked_cookie, acked_in, admitted_by, admitted_on, channel_at}
-use Rattle.rh_server.specs.Opening.{conn_a2_at, is_first, unexpected}
-use Rattle.rh_server.specs.OutLegs.{acked_by}
-use Rattle.rh_server.specs.OutReplacement.{answered_by, may_answer, out_r1_a4_at, out_r1_a4_by}
-use Rattle.rh_server.specs.Servers.{on_os, pdu_by, rules}
-use Rattle.rh_server.specs.States.{Server, is_open, out_at, out_cookie, out_place, same_cookie}
-use Rattle.rh_server.specs.OutLines.{waits}
-use Rattle.law_world_expected.specs.Roomy.{FindsRoom, PacketsFindRoom, PdusFindRoom}
+use Rattle.law_moves.proofs.Vocabulary.{BadAck, ack_verdict, Cookie, Named, LegKind, ClientOut, OutServer, ClientIn, InServer, LineFault, Which, admit_verdict, Count}
+use Rattle.law_role_server.proofs.Vocabulary.{OutLeg, Stage, acked_at, acked_cookie, acked_in, admitted_by, admitted_on, channel_at, conn_a2_at, is_first, unexpected, acked_by, answered_by, may_answer, out_r1_a4_at, out_r1_a4_by, on_os, rules, Server, is_open, out_at, out_cookie, out_place, same_cookie, waits}
 use Rattle.law_world_expected.proofs.Roomy.Fitting.{RowFits, either}
+use Rattle.law_world_expected.specs.Roomy.{FindsRoom, PacketsFindRoom, PdusFindRoom}
 
 no_row : (s : Server) → RowFits (unexpected s)
 no_row s = record { is = tt }

@@ -1,13 +1,6 @@
 -- rows that refuse a value out of range in an acknowledgement alone
-use Rattle.std.proofs.Common.{◌≡◌, ℕ, Bool, true, false, if◌then◌else◌, refl}
-use Rattle.std.specs.Prelude.{Ok, Err, nat_lt}
-use Rattle.std.specs.declared.result.Result.{Result}
-use Rattle.rh_window.specs.declared.fault.BadAck.{BadAck}
-use Rattle.rh_window.specs.declared.fault.TheConstants.{FLOW_CONTROL_ACK}
-use Rattle.rh_window.specs.declared.range.TheConstants.{GREATEST_WINDOW}
-use Rattle.rh_window.specs.Sides.{Sender}
-use Rattle.rh_window.specs.Sending.{ack_verdict, bad_ack}
-use Rattle.rh_shell.specs.Rules.{Row}
+use Rattle.law_order.proofs.Vocabulary.{◌≡◌, ℕ, Bool, true, false, if◌then◌else◌, refl, Ok, Err, nat_lt, Result}
+use Rattle.law_moves.proofs.Vocabulary.{BadAck, FLOW_CONTROL_ACK, GREATEST_WINDOW, Sender, ack_verdict, bad_ack, Row}
 use Rattle.law_world_honest.specs.Honesty.Rows.{IsOfAck}
 
 -- what a row answers

@@ -1,30 +1,13 @@
 -- no node refuses a head that is a request or a response where it is read
-use Rattle.std.proofs.Common.{◌≡◌, ℕ, List, true, false, nat_le, Ok, Err}
-use Rattle.std.specs.Prelude.{◌==◌}
-use Rattle.std.specs.declared.result.Result.{Result}
-use Rattle.rh_text.specs.declared.ends.Dir.{Dir}
-use Rattle.rh_text.specs.declared.ends.Dir.TheVariants.{U, D}
-use Rattle.law_order.proofs.ByNumber.{by_test}
-use Rattle.rh_http.specs.declared.fault.HttpFault.{HttpFault}
-use Rattle.rh_http.specs.declared.response.Response.{Response}
-use Rattle.rh_http.specs.Lengths.{greatest_echo}
-use Rattle.rh_http.specs.Heads.Verdicts.{Asked, request_verdict, response_verdict}
+use Rattle.law_order.proofs.Vocabulary.{◌≡◌, ℕ, List, true, false, nat_le, Ok, Err, ◌==◌, Result}
 use Rattle.rh_line.specs.declared.cause.Cause.TheVariants as cause
-use Rattle.rh_line.specs.declared.leg.Leg.{Leg}
-use Rattle.rh_line.specs.declared.leg.LegKind.{LegKind}
-use Rattle.rh_line.specs.declared.leg.LegKind.TheVariants.{ClientOut, OutServer, ClientIn, InServer}
-use Rattle.rh_shell.specs.declared.answers.HeadRefused.{HeadRefused}
-use Rattle.rh_shell.specs.declared.answers.HeadTaken.{HeadTaken}
-use Rattle.rh_shell.specs.declared.stage.Stage.{Stage}
-use Rattle.rh_inproxy.specs.declared.opening.TheConstants.{ECHO_LENGTH}
 use Rattle.rh_inproxy.specs.Opening as in_opening
-use Rattle.rh_inproxy.specs.State.{InProxy}
 use Rattle.rh_outproxy.specs.Opening as out_opening
-use Rattle.rh_outproxy.specs.OutProxy.{OutProxy}
 use Rattle.rh_client.specs.Opening as client_opening
-use Rattle.rh_nodes.specs.Settling.{leg_at}
-use Rattle.rh_nodes.specs.Wires.{receiver}
-use Rattle.rh_nodes.specs.World.{node_by}
+use Rattle.law_moves.proofs.Vocabulary.{Dir, U, D, by_test, HttpFault, Response, greatest_echo, Asked, request_verdict, response_verdict, Leg, LegKind, ClientOut, OutServer, ClientIn, InServer, HeadRefused, HeadTaken, Stage}
+use Rattle.law_role_inproxy.proofs.Vocabulary.{ECHO_LENGTH, InProxy}
+use Rattle.law_node_history.proofs.Vocabulary.{receiver, leg_at, node_by}
+use Rattle.law_role_outproxy.proofs.Vocabulary.{OutProxy}
 use Rattle.law_node_streams.specs.Streams.{IsFirstHead}
 use Rattle.law_world_honest.specs.Honesty.Heads.{BreaksRule, HeadIsRead, IsHeadThere}
 use Rattle.law_world_honest.specs.Honesty.Honest.{IsOfNode}

@@ -1,42 +1,14 @@
 -- the rows of a client refuse a value out of range in an acknowledgement alone
-use Rattle.std.proofs.Common.{ℕ, Bool, true, false, List}
-use Rattle.std.specs.Prelude.{◌==◌, ◌&&◌, ◌||◌, not, nat_lt, Some, None, Ok, Err}
 use Rattle.std.specs.Option.{is_some}
-use Rattle.std.specs.declared.option.Option.{Option}
-use Rattle.std.specs.declared.result.Result.{Result}
-use Rattle.rh_window.specs.declared.fault.BadAck.{BadAck}
-use Rattle.rh_window.specs.Sending.{ack_verdict}
-use Rattle.rh_rts.specs.declared.command.Cookie.{Cookie}
-use Rattle.rh_sig.specs.declared.named.Named.{Named}
+use Rattle.law_order.proofs.Vocabulary.{ℕ, Bool, true, false, List, ◌==◌, ◌&&◌, ◌||◌, not, nat_lt, Some, None, Ok, Err, Option, Result}
 use Rattle.rh_sig.specs.declared.named.Named.TheVariants as named
-use Rattle.rh_line.specs.declared.leg.LegKind.{LegKind}
-use Rattle.rh_line.specs.declared.leg.LegKind.TheVariants.{ClientOut, OutServer, ClientIn, InServer}
-use Rattle.rh_line.specs.declared.line_fault.LineFault.{LineFault}
 use Rattle.rh_line.specs.declared.line_fault.LineFault.TheVariants as line_fault
-use Rattle.rh_line.specs.declared.which.Which.{Which}
-use Rattle.rh_line.specs.Lines.{admit_verdict, channel_of}
-use Rattle.rh_shell.specs.declared.answers.Count.{Count}
-use Rattle.rh_shell.specs.Hearing.{is_zero}
-use Rattle.rh_client.specs.declared.replacement.InStage.{InStage}
 use Rattle.rh_client.specs.declared.replacement.InStage.TheVariants as ins
-use Rattle.rh_client.specs.declared.replacement.OutStage.{OutStage}
 use Rattle.rh_client.specs.declared.replacement.OutStage.TheVariants as outs
-use Rattle.rh_client.specs.declared.replacement.Replacement.{Replacement}
-use Rattle.rh_client.specs.declared.replacement.Replacement.TheVariants.{NoneUnderWay, In, Out}
-use Rattle.rh_client.specs.declared.replacement.Waits.{Waits}
-use Rattle.rh_client.specs.declared.state.ClientRole.{ClientRole}
-use Rattle.rh_client.specs.Acknowledging.{ack_row, ack_row_by, admit_row, on_ack_to, pdu_channel, pdu_on}
-use Rattle.rh_client.specs.declared.channels.InChannel.{InChannel}
-use Rattle.rh_client.specs.declared.channels.TheConstants.{LAST_NUMBER}
-use Rattle.rh_client.specs.Client.{on_packet, packet_by, pdu_by, rules}
-use Rattle.rh_client.specs.Ending.{end_channel, end_on}
-use Rattle.rh_client.specs.InReplacement.{answer_at, answer_by}
-use Rattle.rh_client.specs.OutReplacement.{a10_at, a10_by, a2_by, a6_at, a6_by}
-use Rattle.rh_client.specs.State.{is_current, is_open, is_opening, is_out_successor, unexpected}
-use Rattle.rh_client.specs.Replacements.{has_out}
-use Rattle.rh_client.specs.Channels.{is_asked, is_named, is_put}
-use Rattle.law_world_honest.specs.Honesty.Rows.{IsOfAck, RefusesAcks}
+use Rattle.law_moves.proofs.Vocabulary.{BadAck, ack_verdict, Cookie, Named, LegKind, ClientOut, OutServer, ClientIn, InServer, LineFault, Which, admit_verdict, channel_of, Count, is_zero}
+use Rattle.law_role_client.proofs.Vocabulary.{InStage, OutStage, Replacement, NoneUnderWay, In, Out, Waits, ClientRole, ack_row, ack_row_by, admit_row, on_ack_to, pdu_channel, pdu_on, InChannel, LAST_NUMBER, on_packet, packet_by, pdu_by, rules, end_channel, end_on, answer_at, answer_by, a10_at, a10_by, a2_by, a6_at, a6_by, is_current, is_open, is_opening, is_out_successor, unexpected, has_out, is_asked, is_named, is_put}
 use Rattle.law_world_honest.proofs.Honesty.AckRows.{IsBadAck, RowFits, either, verdict_is}
+use Rattle.law_world_honest.specs.Honesty.Rows.{IsOfAck, RefusesAcks}
 
 no_row : (s : ClientRole) → RowFits (unexpected s)
 no_row s = record { is = tt }

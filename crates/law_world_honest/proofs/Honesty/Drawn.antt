@@ -1,70 +1,33 @@
 -- what each node drew on a leg reads well at its other end
-use Rattle.std.proofs.Common.{◌≡◌, ◌⊎◌, ℕ, false, List, refl, sym, ap, ◌∙◌, subst, inl, inr}
-use Rattle.std.specs.Prelude.{Some, None}
-use Rattle.std.specs.List.{AllByRecursion}
-use Rattle.std.specs.declared.option.Option.{Option}
-use mathlib.Core.List.{IsPrefix}
-use Rattle.rh_http.specs.declared.config.ClientConfig.{ClientConfig}
-use Rattle.rh_http.specs.declared.refusal.Refusal.{Refusal}
-use Rattle.rh_http.specs.Texts.{refusal_text}
-use Rattle.rh_text.specs.declared.ends.Dir.{Dir}
-use Rattle.rh_text.specs.declared.ends.Dir.TheVariants.{U, D}
-use Rattle.rh_sig.specs.declared.name.Pipe.{Pipe}
-use Rattle.rh_sig.specs.declared.name.Pipe.TheVariants.{IsU, CoD, OsU}
-use Rattle.rh_line.specs.declared.leg.Leg.{Leg}
-use Rattle.rh_line.specs.declared.leg.LegKind.{LegKind}
-use Rattle.rh_line.specs.declared.leg.LegKind.TheVariants.{ClientOut, OutServer, ClientIn, InServer}
-use Rattle.rh_record.specs.declared.answer.Who.{Who}
+use Rattle.law_order.proofs.Vocabulary.{◌≡◌, ◌⊎◌, ℕ, false, List, refl, sym, ap, ◌∙◌, subst, inl, inr, Some, None, AllByRecursion, Option, IsPrefix}
 use Rattle.rh_record.specs.declared.answer.Who.TheVariants as who
-use Rattle.law_order.proofs.Prefixes.{prefix_trans}
-use Rattle.rh_shell.specs.declared.course.Course.{Course}
-use Rattle.rh_shell.specs.declared.course.Course.TheVariants.{Going, Closed, Refusing}
-use Rattle.rh_shell.specs.declared.rooms.Rooms.{Rooms}
 use Rattle.rh_shell.specs.declared.stage.Stage.TheVariants as stage
-use Rattle.law_moves.specs.Carrying.{spelled}
-use Rattle.law_moves.specs.Moves.{EndMove, EndPassage, Move, Passage, AreAllowed, AreAllowedAtEnd, all_end_moved, all_moved, end_started, started}
-use Rattle.law_moves.specs.Moving.{EndEvent, Event, after_events}
-use Rattle.rh_shell.specs.NearEnds.{first_stage}
-use Rattle.rh_shell.specs.Rules.{Acts, Message, Rules}
-use Rattle.rh_shell.specs.Shells.{begun, same_leg}
-use Rattle.law_moves.specs.Wires.{of_leg}
-use Rattle.law_moves.specs.Legible.Legible.{AreLegible, MayGoOn}
-use Rattle.rh_nodes.specs.Opening.{Makers}
-use Rattle.rh_nodes.specs.Settling.{leg_at}
-use Rattle.rh_nodes.specs.Wires.{sender}
-use Rattle.rh_nodes.specs.World.{World}
-use Rattle.rh_client.specs.declared.state.ClientRole.{ClientRole}
-use Rattle.rh_client.specs.Client as client
-use Rattle.law_role_client.specs.Legible as client_legible
-use Rattle.law_role_client.specs.Order.{AreAllowedMoves, client_moved}
-use Rattle.rh_client.specs.State as client_state
-use Rattle.rh_inproxy.specs.declared.state.InProxyConfig.{InProxyConfig}
-use Rattle.law_role_inproxy.specs.Legible as in_legible
 use Rattle.rh_inproxy.specs.Machine as in_proxy
-use Rattle.rh_inproxy.specs.State.{InProxy}
 use Rattle.rh_inproxy.specs.State as in_state
-use Rattle.rh_outproxy.specs.declared.out_proxy.TheConstants.{ROOMS}
-use Rattle.rh_outproxy.specs.declared.state.OutProxyConfig.{OutProxyConfig}
-use Rattle.law_role_outproxy.specs.Legible as out_legible
 use Rattle.rh_outproxy.specs.Machine as out_proxy
-use Rattle.rh_outproxy.specs.OutProxy.{OutProxy, new_proxy}
-use Rattle.law_role_server.specs.Legible as server_legible
+use Rattle.rh_client.specs.Client as client
+use Rattle.rh_client.specs.State as client_state
 use Rattle.rh_server.specs.Servers as server
-use Rattle.rh_server.specs.States.{Server}
+use Rattle.law_moves.proofs.Vocabulary.{Dir, U, D, prefix_trans, Pipe, IsU, CoD, OsU, ClientConfig, Refusal, refusal_text, Leg, LegKind, ClientOut, OutServer, ClientIn, InServer, Course, Going, Closed, Refusing, Rooms, first_stage, Acts, Message, Rules, begun, same_leg, spelled, EndMove, EndPassage, Move, Passage, AreAllowed, AreAllowedAtEnd, all_end_moved, all_moved, end_started, started, EndEvent, Event, after_events, of_leg, AreLegible, MayGoOn, Begins, Answers, AreTaken}
+use Rattle.law_moves.proofs.Vocabulary.{IsWellText, ReadsWell, TextIsWell, is_named, is_packet, AreInTurn}
+use Rattle.law_role_inproxy.proofs.Vocabulary.{InProxyConfig, InProxy}
+use Rattle.law_role_inproxy.specs.Legible as in_legible
+use Rattle.law_role_client.proofs.Vocabulary.{ClientRole, AreAllowedMoves, client_moved}
+use Rattle.law_role_client.specs.Legible as client_legible
+use Rattle.law_role_server.proofs.Vocabulary.{Server}
+use Rattle.law_role_server.specs.Legible as server_legible
+use Rattle.law_node_history.proofs.Vocabulary.{Who, sender, Makers, leg_at, World, drawn_by, drawn_on, end_drawn_on, end_node, History}
+use Rattle.law_node_history.proofs.Lemmas.{cases_leg}
 use Rattle.law_node_causes.specs.Refusals.{MayRefuseOn}
-use Rattle.law_node_history.specs.Carried.{drawn_by, drawn_on, end_drawn_on, end_node}
-use Rattle.law_node_history.specs.Histories.{History}
-use Rattle.law_node_history.proofs.Wired.{cases_leg}
-use Rattle.law_moves.specs.ReadBack.Reading.{Begins}
-use Rattle.law_moves.specs.ReadBack.Well.{Answers, AreTaken, IsWellText, ReadsWell, TextIsWell, is_named, is_packet}
-use Rattle.law_node_streams.specs.Streams.{EndStream, IsDrawn, Stream, is_refused_on}
-use Rattle.law_moves.specs.Turns.{AreInTurn}
+use Rattle.law_role_outproxy.proofs.Vocabulary.{ROOMS, OutProxyConfig, OutProxy, new_proxy}
+use Rattle.law_role_outproxy.specs.Legible as out_legible
 use Rattle.law_node_streams.proofs.Streams.LegLogs.{on_leg}
+use Rattle.law_node_streams.specs.Streams.{EndStream, IsDrawn, Stream, is_refused_on}
 use Rattle.law_node_begins.specs.ProxiesBegin.Pipes as pipes
+use Rattle.law_node_traces.proofs.Vocabulary.{AreOurs, deeds, rules}
 use Rattle.law_peers_routes.specs.Downwards as down
-use Rattle.law_node_traces.specs.Traced.Ours.{AreOurs, deeds, rules}
-use Rattle.law_world_order.specs.Flows.{IsFlowing, numbers_of, read_on}
 use Rattle.law_world_order.proofs.Heard.{as_first, from_client, from_in, from_out, from_server}
+use Rattle.law_world_order.proofs.Vocabulary.{IsFlowing, numbers_of, read_on}
 use Rattle.law_world_honest.specs.Honesty.Honest.{well_on}
 
 -- ---- the laws that this stands on

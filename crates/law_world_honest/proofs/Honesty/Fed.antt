@@ -1,63 +1,29 @@
 -- what is fed to each node closes it for its role alone
-use Rattle.std.proofs.Common.{◌≡◌, ℕ, Bool, true, List, [], ◌∷◌, ◌++◌, refl, sym, ap, ◌∙◌, subst}
-use Rattle.std.specs.Prelude.{Some, None, if◌then◌else◌}
-use Rattle.std.specs.declared.option.Option.{Option}
-use Rattle.std.proofs.lemmas.Bool.{eq-eqb}
-use Rattle.std.proofs.lemmas.List.{append-nil}
-use Rattle.rh_text.specs.declared.ends.Dir.{Dir}
-use Rattle.rh_text.specs.declared.ends.Dir.TheVariants.{U, D}
 use Rattle.rh_text.specs.declared.ends.Side.TheVariants as side
-use Rattle.rh_sig.specs.declared.name.Pipe.{Pipe}
-use Rattle.rh_line.specs.declared.cause.Cause.{Cause}
-use Rattle.rh_line.specs.declared.leg.Leg.{Leg}
-use Rattle.rh_line.specs.declared.leg.LegKind.{LegKind}
-use Rattle.rh_line.specs.declared.leg.LegKind.TheVariants.{ClientOut, OutServer, ClientIn, InServer}
-use Rattle.rh_record.specs.declared.answer.Who.{Who}
+use Rattle.law_order.proofs.Vocabulary.{◌≡◌, ℕ, Bool, List, [], ◌∷◌, ◌++◌, refl, sym, ap, ◌∙◌, subst, Some, None, if◌then◌else◌, Option, append-nil}
 use Rattle.rh_record.specs.declared.answer.Who.TheVariants as who
-use Rattle.rh_shell.specs.declared.course.Course.TheVariants.{Going}
-use Rattle.rh_shell.specs.declared.rooms.Rooms.{Rooms}
-use Rattle.rh_shell.specs.NearEnds.{NearEnd}
-use Rattle.rh_shell.specs.Rules.{Acts, Message, Rules}
-use Rattle.rh_shell.specs.Shells.{Shell, begun, end_at}
 use Rattle.rh_inproxy.specs.Machine as in_proxy
-use Rattle.rh_inproxy.specs.State.{InProxy}
 use Rattle.rh_inproxy.specs.State as in_state
-use Rattle.rh_outproxy.specs.declared.out_proxy.TheConstants.{ROOMS}
 use Rattle.rh_outproxy.specs.Machine as out_proxy
-use Rattle.rh_outproxy.specs.OutProxy.{OutProxy, new_proxy}
-use Rattle.rh_client.specs.declared.state.ClientRole.{ClientRole}
 use Rattle.rh_client.specs.Client as client
 use Rattle.rh_client.specs.State as client_state
 use Rattle.rh_server.specs.Servers as server
-use Rattle.rh_server.specs.States.{Server}
-use Rattle.rh_nodes.specs.declared.event.Event.{Event}
-use Rattle.rh_nodes.specs.declared.event.Event.TheVariants.{Comes}
-use Rattle.rh_nodes.specs.declared.place.Place.{Place}
-use Rattle.rh_nodes.specs.declared.place.Place.TheVariants.{Absent, Here, Gone}
-use Rattle.rh_nodes.specs.Company as company
-use Rattle.rh_nodes.specs.Halves.{is_same}
-use Rattle.rh_nodes.specs.Legs as legs
-use Rattle.rh_nodes.specs.Opening.{Makers}
-use Rattle.rh_nodes.specs.Places as places
-use Rattle.rh_nodes.specs.Readers.{reader_of}
-use Rattle.rh_nodes.specs.Wires.{receiver}
-use Rattle.rh_nodes.specs.World.{World, at}
+use Rattle.rh_wires.specs.Legs as legs
+use Rattle.rh_company.specs.Company as company
+use Rattle.rh_company.specs.Places as places
+use Rattle.law_moves.proofs.Vocabulary.{Dir, U, D, Pipe, Cause, Leg, LegKind, ClientOut, OutServer, ClientIn, InServer, Going, Rooms, NearEnd, Acts, Message, Rules, Shell, begun, end_at, EndEvent, after_end_events, after_events, of_leg, Answers, ReadsWell, is_named, is_packet}
 use Rattle.law_moves.specs.Moving as moving
-use Rattle.law_moves.specs.Moving.{EndEvent, after_end_events, after_events}
-use Rattle.law_moves.specs.Wires.{of_leg}
-use Rattle.law_moves.specs.ReadBack.Well.{Answers, ReadsWell, is_named, is_packet}
-use Rattle.law_node_history.specs.Carried.{IsTraced, drawn_on, end_drawn_on, events_of, happened, heard_on}
-use Rattle.law_node_history.specs.Changes.{Change, IsFed}
-use Rattle.law_node_history.specs.Closes.{ClosesNode}
-use Rattle.law_node_history.specs.Histories.{History, IsRun, at_place, in_place, made_by, noted, out_place, to_node, told_to}
-use Rattle.law_node_history.proofs.Appended.{happened_more, heard_append}
-use Rattle.law_node_history.proofs.Numbers.{answered}
-use Rattle.law_node_history.proofs.Wired.{same_itself}
+use Rattle.law_role_inproxy.proofs.Vocabulary.{InProxy}
+use Rattle.law_role_client.proofs.Vocabulary.{ClientRole}
+use Rattle.law_role_server.proofs.Vocabulary.{Server}
+use Rattle.law_node_history.proofs.Vocabulary.{Who, reader_of, receiver, Event, Comes, Place, Absent, Here, Gone, is_same, Makers, World, at, IsTraced, drawn_on, end_drawn_on, events_of, happened, heard_on, Change, IsFed, ClosesNode, History, IsRun, at_place, in_place, made_by, noted, out_place, to_node, told_to}
+use Rattle.law_node_history.proofs.Lemmas.{happened_more, heard_append, answered, same_itself, who_itself as same_who}
 use Rattle.law_node_causes.specs.Closings.{ClosesWith}
+use Rattle.law_role_outproxy.proofs.Vocabulary.{ROOMS, OutProxy, new_proxy}
 use Rattle.law_node_streams.specs.Streams.{EndStream, Seated, Stream}
-use Rattle.law_node_traces.specs.Traced.Ours.{AreOurs, deeds, rules}
-use Rattle.law_world_order.specs.Flows.{IsFlowing, numbers_of, read_on}
+use Rattle.law_node_traces.proofs.Vocabulary.{AreOurs, deeds, rules}
 use Rattle.law_world_order.proofs.Heard.{node_reads, reads_on}
+use Rattle.law_world_order.proofs.Vocabulary.{IsFlowing, numbers_of, read_on}
 use Rattle.law_world_honest.specs.Honesty.Causes.{AreStrict, IsOfHeard}
 use Rattle.law_world_honest.specs.Honesty.Honest.{IsOfNode, well_on}
 
@@ -113,12 +79,6 @@ pub told_what : (a b : Who) (x y : Event)
     → ◌≡◌ {A = Option (Who × Event)} (Some (a, x)) (Some (b, y)) → x ≡ y
 unfolding what_in
 told_what a b x y e = ap (what_in x) e
-
-pub same_who : (node : Who) → is_same node node ≡ true
-same_who who.Client = refl
-same_who who.Server = refl
-same_who (who.In n) = eq-eqb n n refl
-same_who (who.Out n) = eq-eqb n n refl
 
 piece_told : (one node : Who) (leg : Leg) (piece : List ℕ) → one ≡ node
     → heard_on leg (to_node one node (moving.Hears leg piece)) ≡ piece

@@ -1,66 +1,26 @@
 -- the head with which what each node drew on a leg begins is a request or a response
-use Rattle.std.proofs.Common.{◌≡◌, ◌≤◌, ℕ, List, [], ◌∷◌, ◌++◌, length, true, false, Ok, arith, inl, inr, refl, sym, ◌∙◌}
-use Rattle.std.specs.List.{AllByRecursion}
-use Rattle.std.specs.Prelude.{Some}
-use Rattle.std.proofs.lemmas.List.{append-nil}
-use mathlib.Core.List.{IsPrefix}
-use Rattle.rh_http.specs.declared.config.ClientConfig.{ClientConfig}
+use Rattle.law_order.proofs.Vocabulary.{◌≡◌, ◌≤◌, ℕ, List, [], ◌∷◌, ◌++◌, length, true, false, Ok, arith, inl, inr, refl, sym, ◌∙◌, AllByRecursion, Some, append-nil, IsPrefix}
 use Rattle.rh_http.specs.declared.got.Got.TheVariants.{Head}
-use Rattle.rh_http.specs.declared.refusal.Refusal.{Refusal}
-use Rattle.rh_http.specs.declared.response.Response.{Response}
-use Rattle.rh_http.specs.Responses.{JudgesResponse}
-use Rattle.rh_http.specs.Texts.{IsToldAs, in_request, out_request, refusal_text, response_text, status_of}
-use Rattle.rh_http.proofs.WrittenResponses.{refusal_told, response_told}
-use Rattle.rh_http.specs.Heads.Verdicts.{response_verdict}
-use Rattle.rh_http.proofs.Heads.Judged.{response_answered}
-use Rattle.rh_text.specs.declared.ends.Dir.{Dir}
-use Rattle.rh_text.specs.declared.ends.Dir.TheVariants.{U, D}
-use Rattle.rh_sig.specs.declared.name.Pipe.TheVariants.{CoD}
-use Rattle.rh_line.specs.declared.leg.Leg.{Leg}
-use Rattle.rh_line.specs.declared.leg.LegKind.{LegKind}
-use Rattle.rh_line.specs.declared.leg.LegKind.TheVariants.{ClientOut, OutServer, ClientIn, InServer}
-use Rattle.rh_record.specs.declared.answer.Who.{Who}
 use Rattle.rh_record.specs.declared.answer.Who.TheVariants as who
-use Rattle.law_order.proofs.Prefixes.{prefix_trans}
 use Rattle.rh_shell.specs.declared.stage.Stage.TheVariants as stage
-use Rattle.law_moves.specs.Carrying.{spelled}
-use Rattle.rh_shell.specs.Intakes.{is_whole_head}
-use Rattle.law_moves.specs.Moves.{EndMove}
-use Rattle.rh_shell.specs.NearEnds.{first_stage}
-use Rattle.rh_shell.specs.Rules.{Message, Text, Pdu, Packet}
-use Rattle.rh_shell.specs.Shells.{begun}
-use Rattle.law_moves.specs.Wires.{of_leg}
-use Rattle.rh_nodes.specs.Opening.{Makers}
-use Rattle.rh_nodes.specs.Settling.{leg_at}
-use Rattle.rh_nodes.specs.Wires.{sender}
-use Rattle.rh_nodes.specs.World.{World}
-use Rattle.rh_client.specs.declared.state.ClientRole.{ClientRole}
-use Rattle.law_role_client.specs.Legible.{pipe_put}
-use Rattle.law_role_client.specs.Order.{AreAllowedMoves, client_moved}
 use Rattle.rh_inproxy.specs.Machine as in_proxy
-use Rattle.rh_inproxy.specs.Opening.{echo_packet}
-use Rattle.rh_inproxy.specs.State.{InProxy}
-use Rattle.rh_outproxy.specs.declared.out_proxy.TheConstants.{ROOMS}
-use Rattle.rh_outproxy.specs.declared.state.OutProxyConfig.{OutProxyConfig}
-use Rattle.law_role_outproxy.specs.Legible.{IsConfig}
 use Rattle.rh_outproxy.specs.Machine as out_proxy
-use Rattle.rh_outproxy.specs.OutProxy.{OutProxy, new_proxy}
-use Rattle.rh_server.specs.States.{Server}
-use Rattle.law_node_history.specs.Carried.{drawn_by, drawn_on, end_node}
-use Rattle.law_node_history.specs.Histories.{History}
-use Rattle.law_moves.specs.ReadBack.Reading.{Begins, IsWholeText}
+use Rattle.law_moves.proofs.Vocabulary.{Dir, U, D, prefix_trans, CoD, refusal_told, response_told, response_answered, ClientConfig, Refusal, Response, JudgesResponse, IsToldAs, in_request, out_request, refusal_text, response_text, status_of, response_verdict, Leg, LegKind, ClientOut, OutServer, ClientIn, InServer, is_whole_head, first_stage, Message, Text, Pdu, Packet, begun, spelled, EndMove, of_leg, Begins, IsWholeText}
+use Rattle.law_role_inproxy.proofs.Vocabulary.{echo_packet, InProxy}
+use Rattle.law_role_client.proofs.Vocabulary.{ClientRole, pipe_put, AreAllowedMoves, client_moved}
+use Rattle.law_role_server.proofs.Vocabulary.{Server}
+use Rattle.law_node_history.proofs.Vocabulary.{Who, sender, Makers, leg_at, World, drawn_by, drawn_on, end_node, History}
+use Rattle.law_role_outproxy.proofs.Vocabulary.{ROOMS, OutProxyConfig, OutProxy, new_proxy, IsConfig}
 use Rattle.law_node_streams.specs.Streams.{IsDrawn, IsFirstHead}
 use Rattle.law_node_begins.specs.EndsBegin.{Asks, BeginsLegs, IsRequestOf}
-use Rattle.law_node_traces.specs.Traced.Ours.{AreOurs, deeds, rules}
-use Rattle.law_world_order.specs.Flows.{IsFlowing, numbers_of}
-use Rattle.law_world_order.specs.Premises.{AreInRange}
+use Rattle.law_node_traces.proofs.Vocabulary.{AreOurs, deeds, rules}
 use Rattle.law_world_order.proofs.Heard.{as_first, from_client, from_in, from_out}
-use Rattle.law_world_order.specs.FirstTexts.{IsPort}
 use Rattle.law_world_order.proofs.FirstTexts.InTexts.{IsEcho, echo_begins, echoes_alone}
 use Rattle.law_world_order.proofs.FirstTexts.Asking.{head_is, whole_requests}
 use Rattle.law_world_order.proofs.FirstTexts.OutTexts.{Succeeds, in_range, puts_200, success_begins}
 use Rattle.law_world_order.proofs.FirstTexts.Requests.{BegunBy, answered, head_holds, short, whole_verdict}
 use Rattle.law_world_order.proofs.FirstTexts.Taken.{asked_for, in_asks, out_asks}
+use Rattle.law_world_order.proofs.Vocabulary.{IsFlowing, numbers_of, AreInRange, IsPort}
 use Rattle.law_world_honest.specs.Honesty.Heads.{HeadIsRead, IsRequest, IsResponse}
 
 -- ---- the laws that this stands on

@@ -1,48 +1,20 @@
 -- what bytes that read well close a node with
-use Rattle.std.proofs.Common.{◌≡◌, inl, inr, ℕ, List, [], ◌∷◌, ◌++◌, length, cond, Bool, true, false, nat_lt, Some, None, Ok, Err, refl, sym, ap, ◌∙◌, subst}
-use Rattle.std.specs.Prelude.{slice_index, ◌==◌, ◌&&◌, ◌+◌}
-use Rattle.std.specs.declared.option.Option.{Option}
-use Rattle.std.specs.declared.result.Result.{Result}
-use Rattle.std.proofs.lemmas.Bool.{eqb-true}
-use Rattle.rh_pdu.specs.declared.fault.HeadFault.{HeadFault}
-use Rattle.rh_pdu.specs.Header.{rts, header_length, frag_of, head_fault}
+use Rattle.law_order.proofs.Vocabulary.{◌≡◌, inl, inr, ℕ, List, [], ◌∷◌, ◌++◌, length, cond, Bool, true, false, nat_lt, Some, None, Ok, Err, refl, sym, ap, ◌∙◌, subst, slice_index, ◌==◌, ◌&&◌, ◌+◌, Option, Result, eqb-true}
 use Rattle.rh_sig.specs.declared.fault.SigFault.TheVariants as sig
-use Rattle.rh_sig.specs.declared.name.Pipe.{Pipe}
-use Rattle.rh_sig.specs.declared.named.Named.{Named}
-use Rattle.rh_http.specs.declared.refusal.Refusal.{Refusal}
-use Rattle.rh_line.specs.declared.leg.Leg.{Leg}
-use Rattle.rh_line.specs.declared.cause.Cause.{Cause}
 use Rattle.rh_line.specs.declared.cause.Cause.TheVariants as cause
-use Rattle.rh_shell.specs.declared.answers.Behind.{Behind}
+use Rattle.rh_shell.specs.Intakes.{Over, behind}
 use Rattle.rh_shell.specs.declared.answers.Behind.TheVariants as passed
-use Rattle.rh_shell.specs.declared.answers.Count.{Count}
-use Rattle.rh_shell.specs.declared.answers.HeadRefused.{HeadRefused}
 use Rattle.rh_shell.specs.declared.answers.HeadRefused.TheVariants as head
-use Rattle.rh_shell.specs.declared.answers.HeadTaken.{HeadTaken}
-use Rattle.rh_shell.specs.declared.answers.Refused.{Refused}
 use Rattle.rh_shell.specs.declared.answers.Refused.TheVariants as refused
-use Rattle.rh_shell.specs.declared.course.Course.{Course}
-use Rattle.rh_shell.specs.declared.course.Course.TheVariants.{Going, Closed, Refusing}
-use Rattle.rh_shell.specs.declared.heading.Heading.{Heading}
-use Rattle.rh_shell.specs.declared.reading.PacketFault.{PacketFault}
 use Rattle.rh_shell.specs.declared.reading.PacketFault.TheVariants as unread
-use Rattle.rh_shell.specs.declared.stage.Stage.{Stage}
 use Rattle.rh_shell.specs.declared.stage.Stage.TheVariants as stage
-use Rattle.rh_shell.specs.declared.stop.Stop.{Stop}
-use Rattle.rh_shell.specs.Hearing.{Turn, goes, stops, stop, stop_head, head_row, stage_of, begun_body, behind_head, behind_frame, row_by, close_row, one_more, is_zero, is_upward, is_ping, take_ping, take_packet, take_frame, is_greeting, heading, touched, with_intake, take, hear_byte, hear, heard}
-use Rattle.rh_shell.specs.Intakes.{Intake, Came, Nothing, Head, Greeting, Frame, Fault, Over, on_byte, byte_by, text_by, frame_by, frame_byte, holds, behind, is_whole_head, is_whole_greeting, is_full, length_told, counted}
-use Rattle.rh_shell.specs.NearEnds.{NearEnd, is_over}
-use Rattle.rh_shell.specs.Readings.{packet_of}
-use Rattle.rh_shell.specs.Rules.{Message, Rules, Row}
-use Rattle.rh_shell.specs.Shells.{Shell, bytes_at, bytes_by, end_at, stop_by, stopped, with_end}
-use Rattle.law_moves.specs.Carrying.{is_deaf, message_in}
-use Rattle.law_moves.specs.Laws.{ClosedWith}
-use Rattle.law_moves.specs.ReadBack.Reading.{Reading, frame_read, read_by, read_byte, reading, text_read}
-use Rattle.law_moves.specs.ReadBack.Well.{Answers, ByteIsWell, FrameIsWell, HeaderIsWell, ReadsWellFrom}
+use Rattle.law_moves.proofs.Vocabulary.{HeadFault, rts, header_length, frag_of, head_fault, Pipe, Named, Refusal, Leg, Cause, Behind, Count, HeadRefused, HeadTaken, Refused, Course, Going, Closed, Refusing, Heading, PacketFault, Stage, Stop, Turn, goes, stops, stop, stop_head, head_row, stage_of, begun_body, behind_head, behind_frame, row_by, close_row, one_more, is_zero, is_upward, is_ping, take_ping, take_packet, take_frame, is_greeting, heading, touched, with_intake, take}
+use Rattle.law_moves.proofs.Vocabulary.{hear_byte, hear, heard, Intake, Came, Nothing, Head, Greeting, Frame, Fault, on_byte, byte_by, text_by, frame_by, frame_byte, holds, is_whole_head, is_whole_greeting, is_full, length_told, counted, NearEnd, is_over, packet_of, Message, Rules, Row, Shell, bytes_at, bytes_by, end_at, stop_by, stopped, with_end, is_deaf, message_in, ClosedWith, Reading, frame_read, read_by, read_byte, reading, text_read, Answers, ByteIsWell, FrameIsWell}
+use Rattle.law_moves.proofs.Vocabulary.{HeaderIsWell, ReadsWellFrom}
 use Rattle.law_node_streams.specs.Streams.{is_live}
+use Rattle.law_world_honest.proofs.Honesty.WaitedHeads.{waits_on, whole_there}
 use Rattle.law_world_honest.specs.Honesty.Causes.{AreStrict, IsOfRole, RowRefuses}
 use Rattle.law_world_honest.specs.Honesty.Heads.{BreaksRule, IsHeadThere, IsWaitedFor, RefusesBadHead}
-use Rattle.law_world_honest.proofs.Honesty.WaitedHeads.{waits_on, whole_there}
 
 module _ {S : Type 0} (well : Answers) (strict : AreStrict well) (rules : Rules S) (leg : Leg)
     (pipe : Option Pipe) (start : Stage) (from : ℕ) (bytes : List ℕ) where

@@ -1,34 +1,16 @@
 -- the rows of an in proxy refuse a value out of range in an acknowledgement alone
-use Rattle.std.proofs.Common.{ℕ, Bool, true, false, List}
-use Rattle.std.specs.Prelude.{◌==◌, ◌&&◌, ◌||◌, not, Some, None, Ok, Err}
-use Rattle.std.specs.declared.option.Option.{Option}
-use Rattle.std.specs.declared.result.Result.{Result}
-use Rattle.rh_window.specs.declared.fault.BadAck.{BadAck}
-use Rattle.rh_window.specs.Sending.{ack_verdict, after_acked}
-use Rattle.rh_rts.specs.declared.command.Cookie.{Cookie}
-use Rattle.rh_sig.specs.declared.named.Named.{Named}
+use Rattle.law_order.proofs.Vocabulary.{ℕ, Bool, true, false, List, ◌==◌, ◌&&◌, ◌||◌, not, Some, None, Ok, Err, Option, Result}
 use Rattle.rh_sig.specs.declared.named.Named.TheVariants as named
-use Rattle.rh_line.specs.declared.line_fault.LineFault.{LineFault}
 use Rattle.rh_line.specs.declared.line_fault.LineFault.TheVariants as line_fault
-use Rattle.rh_line.specs.declared.which.Which.{Which}
-use Rattle.rh_line.specs.declared.which.Which.TheVariants.{Current, Next}
 use Rattle.rh_line.specs.Lines as line
 use Rattle.rh_shell.specs.Waiting as waiting
 use Rattle.rh_inproxy.specs.declared.state.Joining.TheVariants as joins
-use Rattle.rh_inproxy.specs.declared.state.Opener.{Opener}
-use Rattle.rh_inproxy.specs.declared.state.Successor.{Successor}
-use Rattle.rh_inproxy.specs.declared.state.Successor.TheVariants.{Absent, Up, Joined}
-use Rattle.rh_inproxy.specs.Acknowledging.{ack_for, acked_by, forward_by, forwarded}
-use Rattle.rh_inproxy.specs.Answers.{unexpected}
-use Rattle.rh_inproxy.specs.InReplacement.{finish_by, hand_over, has_passed, is_newcomer, join, on_later_in_r1_a1}
-use Rattle.rh_inproxy.specs.Machine.{on_channel, on_channel_by, on_ci, on_is, rules}
 use Rattle.rh_inproxy.specs.Machine as machine
 use Rattle.rh_inproxy.specs.Passing as passing
-use Rattle.rh_inproxy.specs.State.{InProxy, channel_of, has_a5, is_client_leg, is_server_leg, same_cookie}
-use Rattle.rh_inproxy.specs.Ending.{has_later}
-use Rattle.rh_inproxy.specs.Opening.{is_connection, is_first, is_replacement, is_unknown, opener_of}
-use Rattle.law_world_honest.specs.Honesty.Rows.{RefusesAcks}
+use Rattle.law_moves.proofs.Vocabulary.{BadAck, ack_verdict, after_acked, Cookie, Named, LineFault, Which, Current, Next}
+use Rattle.law_role_inproxy.proofs.Vocabulary.{Opener, Successor, Absent, Up, Joined, ack_for, acked_by, forward_by, forwarded, unexpected, finish_by, hand_over, has_passed, is_newcomer, join, on_later_in_r1_a1, on_channel, on_channel_by, on_ci, on_is, rules, InProxy, channel_of, has_a5, is_client_leg, is_server_leg, same_cookie, has_later, is_connection, is_first, is_replacement, is_unknown, opener_of}
 use Rattle.law_world_honest.proofs.Honesty.AckRows.{IsBadAck, RowFits, either, verdict_is}
+use Rattle.law_world_honest.specs.Honesty.Rows.{RefusesAcks}
 
 no_row : (s : InProxy) → RowFits (unexpected s)
 no_row s = record { is = tt }

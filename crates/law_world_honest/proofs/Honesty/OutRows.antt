@@ -1,30 +1,14 @@
 -- the rows of an out proxy refuse a value out of range in an acknowledgement alone
-use Rattle.std.proofs.Common.{ℕ, Bool, true, false, List}
-use Rattle.std.specs.Prelude.{◌==◌, ◌&&◌, Some, None, Ok, Err}
-use Rattle.std.specs.declared.option.Option.{Option}
-use Rattle.std.specs.declared.result.Result.{Result}
-use Rattle.rh_window.specs.declared.fault.BadAck.{BadAck}
-use Rattle.rh_window.specs.Sending.{ack_verdict}
-use Rattle.rh_rts.specs.declared.command.Cookie.{Cookie}
-use Rattle.rh_rts.specs.declared.command.TheConstants.{TO_OUT_PROXY}
-use Rattle.rh_sig.specs.declared.named.Named.{Named}
+use Rattle.law_order.proofs.Vocabulary.{ℕ, Bool, true, false, List, ◌==◌, ◌&&◌, Some, None, Ok, Err, Option, Result}
 use Rattle.rh_sig.specs.declared.named.Named.TheVariants as named
-use Rattle.rh_line.specs.declared.line_fault.LineFault.{LineFault}
 use Rattle.rh_line.specs.declared.line_fault.LineFault.TheVariants as line_fault
-use Rattle.rh_line.specs.declared.which.Which.TheVariants.{Current}
-use Rattle.rh_line.specs.Lines.{admit_verdict}
-use Rattle.rh_shell.specs.declared.answers.Count.{Count}
-use Rattle.rh_shell.specs.Waiting.{Waiting}
 use Rattle.rh_shell.specs.Waiting as waits
-use Rattle.rh_outproxy.specs.declared.state.Channel.{Channel}
+use Rattle.rh_outproxy.specs.Acknowledging.{ack_by}
 use Rattle.rh_outproxy.specs.declared.state.Channel.TheVariants as channels
-use Rattle.rh_outproxy.specs.Acknowledging.{ack_by, ack_row, line_row, on_ack_to, on_pdu}
-use Rattle.rh_outproxy.specs.Machine.{on_co, on_os, rules}
-use Rattle.rh_outproxy.specs.Opening.{conn_c1_by, new_length, successor_length, told_length}
-use Rattle.rh_outproxy.specs.OutProxy.{OutProxy, is_client_marked, is_successor, joined}
-use Rattle.rh_outproxy.specs.Rows.{forwarded, forwarded_by, is_carrying, is_co, is_first, is_os, is_second, passed_on, same_cookie, takes_pdus, unexpected}
-use Rattle.law_world_honest.specs.Honesty.Rows.{IsOfAck, RefusesAcks}
+use Rattle.law_moves.proofs.Vocabulary.{BadAck, ack_verdict, Cookie, TO_OUT_PROXY, Named, LineFault, Current, admit_verdict, Count, Waiting}
+use Rattle.law_role_outproxy.proofs.Vocabulary.{Channel, ack_row, line_row, on_ack_to, on_pdu, on_co, on_os, rules, conn_c1_by, new_length, successor_length, told_length, OutProxy, is_client_marked, is_successor, joined, forwarded, forwarded_by, is_carrying, is_co, is_first, is_os, is_second, passed_on, same_cookie, takes_pdus, unexpected}
 use Rattle.law_world_honest.proofs.Honesty.AckRows.{IsBadAck, RowFits, either, verdict_is}
+use Rattle.law_world_honest.specs.Honesty.Rows.{IsOfAck, RefusesAcks}
 
 no_row : (s : OutProxy) → RowFits (unexpected s)
 no_row s = record { is = tt }

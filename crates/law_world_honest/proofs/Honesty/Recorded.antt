@@ -1,41 +1,19 @@
 -- what is fed to a node of a recording closes it for its role alone; up to the change that closes
 -- it the legs of the client have cookies of their own
-use Rattle.std.proofs.Common.{◌≡◌, true, List, [], ◌∷◌, ◌++◌, append_assoc, sym, ap, ◌∙◌, subst}
-use Rattle.std.specs.List.{list_all}
-use Rattle.std.proofs.lemmas.Bool.{and_parts}
-use Rattle.std.proofs.lemmas.List.Folds.{list_all-append}
-use Rattle.rh_line.specs.declared.cause.Cause.{Cause}
-use Rattle.rh_record.specs.declared.answer.Who.{Who}
-use Rattle.rh_record.specs.declared.line.Line.{Line}
-use Rattle.rh_nodes.specs.Company.{Rulebook}
-use Rattle.rh_nodes.specs.Giving.{Deeds}
-use Rattle.rh_nodes.specs.Opening.{Makers}
-use Rattle.rh_nodes.specs.Steps.{step, step_line}
-use Rattle.rh_nodes.specs.World.{World}
-use Rattle.law_node_history.specs.Carried.{happened}
-use Rattle.law_node_history.specs.Changes.{AreAllowed, ByLines, Change, MayChange, all_changed, changed, is_work, of_line}
-use Rattle.law_node_history.specs.Closes.{ClosesNode}
-use Rattle.law_node_history.specs.Drawn.{AreLeft, DrawnByLines, HaveOwnCookies}
-use Rattle.law_node_history.specs.Histories.{all_noted, nothing}
-use Rattle.law_node_history.proofs.Drawing.{draws_by_lines, draws_then}
-use Rattle.law_node_history.proofs.Drawn.{own_cookies}
-use Rattle.law_node_history.proofs.Working.{all_wider, work_of_line, works_then}
-use Rattle.rh_world.specs.declared.any_world.AnyWorld.{AnyWorld}
-use Rattle.rh_world.specs.declared.any_world.AnyWorld.TheVariants.{Before, Direct, Settings, Roles}
-use Rattle.rh_world.specs.Any.{act, after, prepared}
-use Rattle.rh_world.specs.declared.config.WorldConfig.{WorldConfig}
+use Rattle.law_order.proofs.Vocabulary.{◌≡◌, true, List, [], ◌∷◌, ◌++◌, append_assoc, sym, ap, ◌∙◌, subst, list_all, and_parts, list_all-append}
+use Rattle.law_moves.proofs.Vocabulary.{Cause}
+use Rattle.law_node_history.proofs.Vocabulary.{Who, Line, Rulebook, Deeds, Makers, step, step_line, World, happened, AreAllowed, ByLines, Change, MayChange, all_changed, changed, is_work, of_line, ClosesNode, AreLeft, DrawnByLines, HaveOwnCookies, all_noted, nothing}
+use Rattle.law_node_history.proofs.Lemmas.{draws_by_lines, draws_then, own_cookies, all_wider, work_of_line, works_then}
 use Rattle.rh_world.specs.Config as config_ranges
 use Rattle.rh_world.specs.Roles as roles
-use Rattle.law_node_traces.specs.Traced.Cookies.{ByChanges}
 use Rattle.law_node_traces.proofs.Traced.ByChanges.{lines_by_changes}
+use Rattle.law_node_traces.proofs.Vocabulary.{ByChanges}
+use Rattle.law_world_reports.proofs.Vocabulary.{AnyWorld, Before, Direct, Settings, Roles, act, after, prepared, WorldConfig, IsLicensed, midst, IsLicensedIn}
 use Rattle.law_world_reports.proofs.Bounded.Reached.{IsRecorded, behind_lines, prepared_is_recorded, reached_draws}
-use Rattle.law_world_reports.specs.Closed.Licences.{IsLicensed, midst}
-use Rattle.law_world_reports.specs.Closed.Recordings.{IsLicensedIn}
 use Rattle.law_world_reports.proofs.Closed.Refused.{leads_midst}
 use Rattle.law_world_reports.proofs.Closed.Showing.{shown_draws}
-use Rattle.law_world_order.specs.Flows.{numbers_of}
-use Rattle.law_world_order.specs.Premises.{AreInRange, AreLeftIn}
 use Rattle.law_world_order.proofs.Recorded.{in_range, ours}
+use Rattle.law_world_order.proofs.Vocabulary.{numbers_of, AreInRange, AreLeftIn}
 
 -- ---- the world in the midst of a line
 

@@ -1,41 +1,17 @@
 -- the rows of a server refuse a value out of range in an acknowledgement alone
-use Rattle.std.proofs.Common.{ℕ, Bool, true, false, List}
-use Rattle.std.specs.Prelude.{◌==◌, ◌&&◌, not, nat_lt, Some, None, Ok, Err, slice_get}
-use Rattle.std.specs.declared.option.Option.{Option}
-use Rattle.std.specs.declared.result.Result.{Result}
-use Rattle.rh_window.specs.declared.fault.BadAck.{BadAck}
-use Rattle.rh_window.specs.Sending.{ack_verdict}
-use Rattle.rh_rts.specs.declared.command.Cookie.{Cookie}
-use Rattle.rh_sig.specs.declared.named.Named.{Named}
+use Rattle.law_order.proofs.Vocabulary.{ℕ, Bool, true, false, List, ◌==◌, ◌&&◌, not, nat_lt, Some, None, Ok, Err, slice_get, Option, Result}
 use Rattle.rh_sig.specs.declared.named.Named.TheVariants as named
-use Rattle.rh_line.specs.declared.leg.LegKind.{LegKind}
-use Rattle.rh_line.specs.declared.leg.LegKind.TheVariants.{ClientOut, OutServer, ClientIn, InServer}
-use Rattle.rh_line.specs.declared.line_fault.LineFault.{LineFault}
 use Rattle.rh_line.specs.declared.line_fault.LineFault.TheVariants as line_fault
-use Rattle.rh_line.specs.declared.which.Which.{Which}
-use Rattle.rh_line.specs.Lines.{admit_verdict}
-use Rattle.rh_shell.specs.declared.answers.Count.{Count}
-use Rattle.rh_shell.specs.Waiting.{Waiting, forwarded, takes}
+use Rattle.rh_server.specs.Servers.{pdu_by}
 use Rattle.rh_server.specs.declared.out_line.Kind.TheVariants as kind
-use Rattle.rh_server.specs.declared.state.InLeg.{InLeg}
-use Rattle.rh_server.specs.declared.state.InStage.{InStage}
 use Rattle.rh_server.specs.declared.state.InStage.TheVariants as ins
-use Rattle.rh_server.specs.declared.state.OutLeg.{OutLeg}
-use Rattle.rh_server.specs.declared.state.Replacement.{Replacement}
 use Rattle.rh_server.specs.declared.state.Replacement.TheVariants as outs
-use Rattle.rh_server.specs.declared.state.Stage.{Stage}
 use Rattle.rh_server.specs.declared.state.Stage.TheVariants as stage
-use Rattle.rh_server.specs.Acknowledging.{acked_at, acked_cookie, acked_in, admitted_by, admitted_on, channel_at, channel_leg, forward_by, forwards_to, forwards_writing, is_full, on_ack_to}
-use Rattle.rh_server.specs.Ending.{end_a2_at, end_a2_on_leg, end_a2_waiting, is_over_on}
-use Rattle.rh_server.specs.InReplacement.{has_fresh_below, in_r1_a2_at, in_r1_a2_by, in_r2_a2_on}
-use Rattle.rh_server.specs.Opening.{conn_a2_at, conn_b2_at, is_first, unexpected}
-use Rattle.rh_server.specs.OutLegs.{acked_by}
-use Rattle.rh_server.specs.OutReplacement.{answered_by, may_answer, out_r1_a4_at, out_r1_a4_by, out_r1_a8_at}
-use Rattle.rh_server.specs.Servers.{on_is, on_os, packet_by, pdu_by, rules}
-use Rattle.rh_server.specs.States.{Server, in_leg, is_fresh, is_open, out_at, out_cookie, out_place, same_cookie}
-use Rattle.rh_server.specs.OutLines.{has, waits}
-use Rattle.law_world_honest.specs.Honesty.Rows.{IsOfAck, RefusesAcks}
+use Rattle.law_moves.proofs.Vocabulary.{BadAck, ack_verdict, Cookie, Named, LegKind, ClientOut, OutServer, ClientIn, InServer, LineFault, Which, admit_verdict, Count, Waiting, forwarded, takes}
+use Rattle.law_role_server.proofs.Vocabulary.{InLeg, InStage, OutLeg, Replacement, Stage, acked_at, acked_cookie, acked_in, admitted_by, admitted_on, channel_at, channel_leg, forward_by, forwards_to, forwards_writing, is_full, on_ack_to, end_a2_at, end_a2_on_leg, end_a2_waiting, is_over_on, has_fresh_below, in_r1_a2_at, in_r1_a2_by, in_r2_a2_on, conn_a2_at, conn_b2_at, is_first, unexpected, acked_by, answered_by, may_answer, out_r1_a4_at, out_r1_a4_by, out_r1_a8_at, on_is}
+use Rattle.law_role_server.proofs.Vocabulary.{on_os, packet_by, rules, Server, in_leg, is_fresh, is_open, out_at, out_cookie, out_place, same_cookie, has, waits}
 use Rattle.law_world_honest.proofs.Honesty.AckRows.{IsBadAck, RowFits, either, verdict_is}
+use Rattle.law_world_honest.specs.Honesty.Rows.{IsOfAck, RefusesAcks}
 
 no_row : (s : Server) → RowFits (unexpected s)
 no_row s = record { is = tt }

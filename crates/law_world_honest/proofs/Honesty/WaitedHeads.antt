@@ -1,14 +1,7 @@
 -- a head that is waited for, and the next byte
-use Rattle.std.proofs.Common.{◌≡◌, ◌≤◌, ◌<◌, ℕ, List, [], ◌∷◌, ◌++◌, append_assoc, length, take, true, false, arith, ap, ◌∙◌, ⊎_elim}
-use Rattle.std.specs.declared.option.Option.{Option}
-use Rattle.std.proofs.lemmas.Bool.{cases_lt}
-use Rattle.std.proofs.lemmas.List.{length-append, take_all, take-append-le}
-use Rattle.rh_sig.specs.declared.name.Pipe.{Pipe}
-use Rattle.rh_shell.specs.declared.stage.Stage.{Stage}
+use Rattle.law_order.proofs.Vocabulary.{◌≡◌, ◌≤◌, ◌<◌, ℕ, List, [], ◌∷◌, ◌++◌, append_assoc, length, take, true, false, arith, ap, ◌∙◌, ⊎_elim, Option, cases_lt, length-append, take_all, take-append-le}
 use Rattle.rh_shell.specs.declared.stage.Stage.TheVariants as stage
-use Rattle.rh_shell.specs.Intakes.{is_whole_head}
-use Rattle.rh_shell.specs.NearEnds.{first_stage}
-use Rattle.law_moves.specs.ReadBack.Reading.{begin, reading, reading_after}
+use Rattle.law_moves.proofs.Vocabulary.{Pipe, Stage, is_whole_head, first_stage, begin, reading, reading_after}
 use Rattle.law_node_streams.proofs.Streams.Heads.{waited}
 use Rattle.law_world_honest.specs.Honesty.Heads.{IsHeadThere, IsWaitedFor}
 

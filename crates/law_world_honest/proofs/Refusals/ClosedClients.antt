@@ -1,31 +1,17 @@
 -- a client that is closed for a response heard it
-use Rattle.std.proofs.Common.{◌≡◌, ℕ, List, [], ◌∷◌, ◌++◌, append_assoc, cond, Bool, Some, None, refl, sym, ap, ◌∙◌, subst}
-use Rattle.std.specs.declared.option.Option.{Option}
-use Rattle.std.proofs.lemmas.List.{append-nil}
-use Rattle.law_order.proofs.Prefixes.{prefix_trans}
-use Rattle.rh_http.specs.declared.config.ClientConfig.{ClientConfig}
-use Rattle.rh_line.specs.declared.cause.Cause.{Cause}
+use Rattle.law_order.proofs.Vocabulary.{◌≡◌, ℕ, List, [], ◌∷◌, ◌++◌, append_assoc, cond, Bool, Some, None, refl, sym, ap, ◌∙◌, subst, Option, append-nil}
 use Rattle.rh_line.specs.declared.cause.Cause.TheVariants as cause
-use Rattle.rh_line.specs.declared.leg.Leg.{Leg}
-use Rattle.rh_line.specs.declared.state.State.{State}
 use Rattle.rh_line.specs.declared.state.State.TheVariants as state
-use Rattle.rh_shell.specs.declared.course.Course.{Course}
-use Rattle.rh_shell.specs.declared.course.Course.TheVariants.{Going, Closed, Refusing}
-use Rattle.rh_shell.specs.Ends.{cause_of, give_where, take_where, close_where, recycle_where}
-use Rattle.rh_shell.specs.Rules.{Rules, Acts}
-use Rattle.rh_shell.specs.Shells.{Shell, state_of}
-use Rattle.rh_client.specs.declared.state.ClientRole.{ClientRole}
 use Rattle.rh_client.specs.Client as client
-use Rattle.law_moves.specs.Laws.{ClosedWith}
-use Rattle.law_moves.specs.Moving.{Event, Hears, EndEvent, Happens, IsGiven, IsTaken, IsClosed, IsRecycled, after_event, after_end_event, after_end_events}
-use Rattle.law_node_history.specs.Carried.{AreAcceptedAtEnd, happened, heard_in, heard_on}
-use Rattle.law_node_history.specs.Histories.{heard}
-use Rattle.law_node_history.proofs.Appended.{heard_append, happened_append}
-use Rattle.law_node_history.proofs.Wired.{same_itself}
+use Rattle.law_moves.proofs.Vocabulary.{prefix_trans, ClientConfig, Cause, Leg, State, Course, Going, Closed, Refusing, cause_of, give_where, take_where, close_where, recycle_where, Rules, Acts, Shell, state_of, ClosedWith, Event, Hears, EndEvent, Happens, IsGiven, IsTaken, IsClosed, IsRecycled, after_event, after_end_event, after_end_events}
+use Rattle.law_role_client.proofs.Vocabulary.{ClientRole}
+use Rattle.law_node_history.proofs.Lemmas.{heard_append, happened_append, same_itself}
+use Rattle.law_node_history.proofs.Vocabulary.{AreAcceptedAtEnd, happened, heard_in, heard_on, heard}
+use Rattle.law_node_streams.proofs.Grown.Ends.{turn_front as turns_front}
 use Rattle.law_node_streams.specs.Streams.{HearsInTurn}
 use Rattle.law_node_traces.proofs.Traced.LostLegs.{closes_now, one_cause}
-use Rattle.law_world_honest.specs.Refusals.Refused.{BeginsRefused, HeardRefusal}
 use Rattle.law_world_honest.proofs.Refusals.Heard.{ClientLaws, heard_refusal}
+use Rattle.law_world_honest.specs.Refusals.Refused.{BeginsRefused, HeardRefusal}
 
 -- ---- an act of an end closes nothing
 
@@ -66,17 +52,12 @@ module _ {S : Type 0} (rules : Rules S) (s : Shell S) (going : s.course ≡ Goin
         by IsClosed none = closed (cause_of s.course)
         by IsRecycled none = recycled (state_of rules s)
 
-accepted_front : {S : Type 0} (rules : Rules S) (acts : Acts S) (s : Shell S)
+pub accepted_front : {S : Type 0} (rules : Rules S) (acts : Acts S) (s : Shell S)
     (es fs : List EndEvent) → AreAcceptedAtEnd rules acts s (es ++ fs)
     → AreAcceptedAtEnd rules acts s es
 accepted_front rules acts s [] fs a = tt
 accepted_front rules acts s (e ∷ es) fs a =
     (a.0, accepted_front rules acts (after_end_event rules acts s e) es fs a.1)
-
-pub turns_front : (xs ys : List Event) → HearsInTurn (xs ++ ys) → HearsInTurn xs
-turns_front xs ys turns before behind leg piece at =
-    turns before (behind ++ ys) leg piece
-    (ap (λ (l : List Event). l ++ ys) at ∙ append_assoc before (Hears leg piece ∷ behind) ys)
 
 -- ---- a client
 

@@ -1,30 +1,16 @@
 -- what a client that is closed for a response heard was drawn at the other end
-use Rattle.std.proofs.Common.{◌≡◌, ℕ, List, ◌∙◌, ap, subst}
-use mathlib.Core.List.{IsPrefix}
-use Rattle.rh_http.specs.declared.config.ClientConfig.{ClientConfig}
-use Rattle.rh_text.specs.declared.ends.Dir.TheVariants.{D}
-use Rattle.law_order.proofs.Prefixes.{prefix_trans}
+use Rattle.law_order.proofs.Vocabulary.{◌≡◌, ℕ, List, ◌∙◌, ap, subst, IsPrefix}
 use Rattle.rh_line.specs.declared.cause.Cause.TheVariants as cause
-use Rattle.rh_line.specs.declared.leg.Leg.{Leg}
 use Rattle.rh_record.specs.declared.answer.Who.TheVariants as who
-use Rattle.law_moves.specs.Laws.{ClosedWith}
-use Rattle.law_moves.specs.Moving.{EndEvent, after_end_events}
-use Rattle.rh_shell.specs.Shells.{Shell}
-use Rattle.rh_nodes.specs.Company.{Company}
-use Rattle.rh_nodes.specs.Opening.{Makers}
-use Rattle.rh_nodes.specs.Wires.{receiver, sender}
-use Rattle.rh_nodes.specs.World.{World}
-use Rattle.rh_client.specs.declared.state.ClientRole.{ClientRole}
 use Rattle.rh_client.specs.Client as client
-use Rattle.rh_inproxy.specs.State.{InProxy}
-use Rattle.rh_outproxy.specs.OutProxy.{OutProxy}
-use Rattle.rh_server.specs.States.{Server}
-use Rattle.law_node_history.specs.Carried.{AreAcceptedAtEnd, IsTraced, drawn_by, end_node, events_of, happened, heard_on}
-use Rattle.law_node_history.specs.Changes.{Leads}
-use Rattle.law_node_history.specs.Histories.{History, IsNew, all_noted, nothing}
+use Rattle.law_moves.proofs.Vocabulary.{D, prefix_trans, ClientConfig, Leg, Shell, ClosedWith, EndEvent, after_end_events}
+use Rattle.law_role_inproxy.proofs.Vocabulary.{InProxy}
+use Rattle.law_role_client.proofs.Vocabulary.{ClientRole}
+use Rattle.law_role_server.proofs.Vocabulary.{Server}
+use Rattle.law_node_history.proofs.Vocabulary.{receiver, sender, Company, Makers, World, AreAcceptedAtEnd, IsTraced, drawn_by, end_node, events_of, happened, heard_on, Leads, History, IsNew, all_noted, nothing}
+use Rattle.law_role_outproxy.proofs.Vocabulary.{OutProxy}
 use Rattle.law_node_streams.specs.Streams.{HearsInTurn}
-use Rattle.law_node_traces.specs.Traced.Ours.{AreOurs, deeds, rules}
-use Rattle.law_node_traces.specs.Traced.Recordings.{IsKnown}
+use Rattle.law_node_traces.proofs.Vocabulary.{AreOurs, deeds, rules, IsKnown}
 use Rattle.law_world_honest.specs.Refusals.Refused.{BeginsRefused}
 
 -- what begins so does where more bytes follow

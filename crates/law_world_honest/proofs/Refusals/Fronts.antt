@@ -1,17 +1,10 @@
 -- the stream of a proxy at each front of its events
-use Rattle.std.proofs.Common.{◌≡◌, List, [], ◌∷◌, ◌++◌, sym, subst}
-use Rattle.std.specs.declared.option.Option.{Option}
-use Rattle.std.proofs.lemmas.List.{append-nil}
-use Rattle.rh_sig.specs.declared.name.Pipe.{Pipe}
-use Rattle.rh_line.specs.declared.leg.Leg.{Leg}
-use Rattle.rh_shell.specs.declared.rooms.Rooms.{Rooms}
-use Rattle.rh_shell.specs.Rules.{Rules}
-use Rattle.rh_shell.specs.Shells.{Shell, begun}
-use Rattle.law_moves.specs.Moving.{Event, after_event}
-use Rattle.law_node_history.specs.Carried.{AreAccepted, ComesUpOnce}
+use Rattle.law_order.proofs.Vocabulary.{◌≡◌, List, [], ◌∷◌, ◌++◌, subst, Option}
+use Rattle.law_moves.proofs.Vocabulary.{Pipe, Leg, Rooms, Rules, Shell, begun, Event, after_event}
+use Rattle.law_node_history.proofs.Vocabulary.{AreAccepted, ComesUpOnce}
+use Rattle.law_node_streams.proofs.Grown.Ends.{turn_front as turns_front}
 use Rattle.law_node_streams.specs.Streams.{HasPipes, HearsInTurn, StaysUnused, Stream}
 use Rattle.law_world_order.proofs.Flowing.{NodeStreams}
-use Rattle.law_world_honest.proofs.Refusals.ClosedClients.{turns_front}
 
 pub accepted_front : {S : Type 0} (rules : Rules S) (s : Shell S) (xs ys : List Event)
     → AreAccepted rules s (xs ++ ys) → AreAccepted rules s xs
@@ -38,6 +31,3 @@ module _ {S : Type 0} (rules : Rules S) (first : S) (rooms : Rooms) (pipe : Leg 
       (accepted_front rules (begun first rooms) before behind
       (subst (AreAccepted rules (begun first rooms)) is law.accepted))
       (turns_front before behind (subst HearsInTurn is law.turns))
-
-  pub stream : Stream rules first rooms pipe events
-  stream = front_stream events [] (sym (append-nil events))

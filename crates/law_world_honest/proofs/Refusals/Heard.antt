@@ -1,29 +1,16 @@
 -- what a client heard where it closes for a response
-use Rattle.std.proofs.Common.{◌≡◌, ℕ, List, ◌++◌, append_assoc, Bool, true, false, Some, None, refl, sym, ap, ◌∙◌, subst}
-use Rattle.std.specs.Prelude.{◌&&◌, not}
-use Rattle.rh_http.specs.declared.config.ClientConfig.{ClientConfig}
-use Rattle.rh_line.specs.declared.cause.Cause.{Cause}
+use Rattle.law_order.proofs.Vocabulary.{◌≡◌, ℕ, List, ◌++◌, append_assoc, Bool, true, false, Some, None, refl, sym, ap, ◌∙◌, subst, ◌&&◌, not}
 use Rattle.rh_line.specs.declared.cause.Cause.TheVariants as cause
-use Rattle.rh_line.specs.declared.leg.Leg.{Leg}
-use Rattle.rh_shell.specs.declared.course.Course.{Course}
-use Rattle.rh_shell.specs.declared.course.Course.TheVariants.{Going, Closed, Refusing}
+use Rattle.rh_shell.specs.NearEnds.{is_empty}
 use Rattle.rh_shell.specs.declared.stage.Stage.TheVariants as stage
-use Rattle.rh_shell.specs.NearEnds.{NearEnd, is_empty, is_over}
-use Rattle.rh_shell.specs.Shells.{Shell, end_at}
-use Rattle.rh_client.specs.declared.state.ClientRole.{ClientRole}
-use Rattle.rh_client.specs.Client.{rules, acts, first_client, rooms}
-use Rattle.rh_client.specs.State.{first}
-use Rattle.rh_nodes.specs.declared.event.Event as told
-use Rattle.rh_nodes.specs.declared.event.Event.TheVariants.{Comes}
-use Rattle.rh_nodes.specs.Telling.{tell}
-use Rattle.law_moves.specs.Laws.{ClosedWith}
-use Rattle.law_moves.specs.Moving.{Hears, EndEvent, after_event, after_end_events}
-use Rattle.law_moves.specs.ReadBack.Reading.{begin, reading}
-use Rattle.law_node_history.specs.Carried.{AreAcceptedAtEnd, happened, heard_on}
+use Rattle.rh_company.specs.declared.event.Event as told
+use Rattle.law_moves.proofs.Vocabulary.{ClientConfig, Cause, Leg, Course, Going, Closed, Refusing, NearEnd, is_over, Shell, end_at, ClosedWith, Hears, EndEvent, after_event, after_end_events, begin, reading}
+use Rattle.law_role_client.proofs.Vocabulary.{ClientRole, rules, acts, first_client, rooms, first}
+use Rattle.law_node_history.proofs.Vocabulary.{Comes, tell, AreAcceptedAtEnd, happened, heard_on}
 use Rattle.law_node_causes.specs.Closings.{ClosesWith, ComesFrom, IsRefusal, IsResponse}
 use Rattle.law_node_causes.specs.Moments.{hears_bytes, is_heard_on}
-use Rattle.law_node_streams.specs.Streams.{EndStream, HearsInTurn, is_live}
 use Rattle.law_node_streams.proofs.Streams.Heads.{waited}
+use Rattle.law_node_streams.specs.Streams.{EndStream, HearsInTurn, is_live}
 use Rattle.law_node_begins.specs.EndsBegin.{client_reads}
 use Rattle.law_world_honest.specs.Refusals.Refused.{HeardRefusal}
 

@@ -1,37 +1,22 @@
 -- a proxy whose client is refused was told that its server is lost
-use Rattle.std.proofs.Common.{arith, ◌≡◌, ℕ, List, refl, sym, ap, subst}
-use Rattle.std.specs.Prelude.{Some}
-use Rattle.rh_sig.specs.declared.name.Pipe.TheVariants.{CoD}
-use Rattle.rh_line.specs.declared.leg.Leg.{Leg}
-use Rattle.rh_line.specs.declared.leg.LegKind.{LegKind}
-use Rattle.rh_line.specs.declared.leg.LegKind.TheVariants.{ClientIn, ClientOut, InServer, OutServer}
-use Rattle.rh_shell.specs.declared.course.Course.{Course}
-use Rattle.rh_shell.specs.Shells.{begun}
-use Rattle.rh_inproxy.specs.declared.state.InProxyConfig.{InProxyConfig}
+use Rattle.law_order.proofs.Vocabulary.{arith, ◌≡◌, ℕ, List, refl, sym, ap, subst, Some}
 use Rattle.rh_inproxy.specs.Machine as in_proxy
 use Rattle.rh_inproxy.specs.State as in_state
-use Rattle.rh_outproxy.specs.declared.out_proxy.TheConstants.{ROOMS}
-use Rattle.rh_outproxy.specs.declared.state.OutProxyConfig.{OutProxyConfig}
 use Rattle.rh_outproxy.specs.Machine as out_proxy
-use Rattle.rh_outproxy.specs.OutProxy.{OutProxy, new_proxy}
-use Rattle.rh_nodes.specs.Settling.{leg_at}
-use Rattle.law_moves.specs.Moves.{Move, Passage, started, all_moved, AreAllowed}
-use Rattle.law_moves.specs.Moving.{Event, after_events}
-use Rattle.law_moves.specs.Wires.{of_leg}
-use Rattle.law_moves.specs.ReadBack.Reading.{Begins}
-use Rattle.law_moves.specs.Turns.{AreInTurn}
-use Rattle.law_node_history.specs.Carried.{drawn_on}
+use Rattle.law_moves.proofs.Vocabulary.{CoD, Leg, LegKind, ClientIn, ClientOut, InServer, OutServer, Course, begun, Move, Passage, started, all_moved, AreAllowed, Event, after_events, of_leg, Begins, AreInTurn}
+use Rattle.law_role_inproxy.proofs.Vocabulary.{InProxyConfig}
+use Rattle.law_node_history.proofs.Vocabulary.{leg_at, drawn_on}
 use Rattle.law_node_causes.specs.Refusals.{MayRefuseOn}
-use Rattle.law_role_outproxy.specs.Legible.{IsConfig}
+use Rattle.law_role_outproxy.proofs.Vocabulary.{ROOMS, OutProxyConfig, OutProxy, new_proxy, IsConfig}
 use Rattle.law_node_streams.specs.Streams.{Stream}
 use Rattle.law_node_begins.specs.ProxiesBegin.Pipes.{in_pipe, out_pipe}
-use Rattle.law_node_traces.specs.Traced.Refusals.{DrawsRightly}
+use Rattle.law_node_traces.proofs.Vocabulary.{DrawsRightly}
 use Rattle.law_world_order.proofs.FirstTexts.InTexts.{echoes_alone}
 use Rattle.law_world_order.proofs.FirstTexts.OutTexts.{puts_200}
-use Rattle.law_world_honest.specs.Refusals.Refused.{DrewRefusal, IsUnreached}
 use Rattle.law_world_honest.proofs.Refusals.Fronts.{Traced}
 use Rattle.law_world_honest.proofs.Refusals.Lost.{PutsNone, lost_503}
 use Rattle.law_world_honest.proofs.Refusals.Refusals.{echo_success, put_none}
+use Rattle.law_world_honest.specs.Refusals.Refused.{DrewRefusal, IsUnreached}
 
 -- the legs that a proxy of this number refuses on
 own_legs : (client server : LegKind) (number n : ℕ) → number ≡ n → (c : Course)

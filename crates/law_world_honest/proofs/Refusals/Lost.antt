@@ -1,29 +1,16 @@
 -- a proxy that drew the refusal of status 503 was told that its server is lost, since what it put
 -- while it went on does not begin with that; and it drew it on its client's leg
-use Rattle.std.proofs.Common.{◌≡◌, ◌⊎◌, inl, inr, ℕ, List, ◌++◌, sym, ap, ◌∙◌, subst}
-use Rattle.std.specs.declared.option.Option.{Option}
-use mathlib.Core.List.{IsPrefix}
-use Rattle.rh_http.specs.declared.refusal.Refusal.TheVariants.{Unavailable}
-use Rattle.rh_http.specs.Texts.{refusal_text, status_of}
-use Rattle.rh_sig.specs.declared.name.Pipe.{Pipe}
-use Rattle.rh_line.specs.declared.leg.Leg.{Leg}
-use Rattle.rh_shell.specs.declared.course.Course.TheVariants.{Going}
-use Rattle.rh_shell.specs.declared.rooms.Rooms.{Rooms}
-use Rattle.law_moves.specs.Carrying.{spelled}
-use Rattle.law_moves.specs.Moving.{Event, after_events}
-use Rattle.rh_shell.specs.Rules.{Rules}
-use Rattle.rh_shell.specs.Shells.{begun}
-use Rattle.law_moves.specs.Wires.{of_leg}
-use Rattle.law_node_history.specs.Carried.{drawn_on, heard_on}
-use Rattle.law_node_streams.specs.Streams.{RefusalDrawn, RefusesText, Stream}
-use Rattle.law_moves.specs.Turns.{RefusesInTurn}
+use Rattle.law_order.proofs.Vocabulary.{◌≡◌, ◌⊎◌, inl, inr, ℕ, List, ◌++◌, sym, ap, ◌∙◌, subst, Option, IsPrefix}
+use Rattle.law_moves.proofs.Vocabulary.{Pipe, Unavailable, refusal_text, status_of, Leg, Going, Rooms, Rules, begun, spelled, Event, after_events, of_leg, RefusesInTurn}
+use Rattle.law_node_history.proofs.Vocabulary.{drawn_on, heard_on}
 use Rattle.law_node_causes.specs.Refusals.{MayRefuseOn}
-use Rattle.law_node_traces.specs.Traced.Refusals.{DrawsRightly}
-use Rattle.law_world_honest.specs.Refusals.Refused.{BeginsRefused, DrewRefusal, IsUnreached}
+use Rattle.law_node_streams.specs.Streams.{RefusalDrawn, RefusesText, Stream}
+use Rattle.law_node_traces.proofs.Vocabulary.{DrawsRightly}
 use Rattle.law_world_honest.proofs.Refusals.Drawn.{refused_more}
 use Rattle.law_world_honest.proofs.Refusals.Fronts.{Traced, front_stream}
 use Rattle.law_world_honest.proofs.Refusals.Refusals.{refusal_whole}
 use Rattle.law_world_honest.proofs.Refusals.Unavailables.{told_503, unavailable_refuses}
+use Rattle.law_world_honest.specs.Refusals.Refused.{BeginsRefused, DrewRefusal, IsUnreached}
 
 module _ {S : Type 0} (rules : Rules S) (first : S) (rooms : Rooms) (pipe : Leg → Option Pipe)
     (leg : Leg) where

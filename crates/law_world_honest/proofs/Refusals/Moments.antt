@@ -1,32 +1,18 @@
 -- the proxies of a world of roles at a moment that lines reach
-use Rattle.std.proofs.Common.{◌≡◌, ℕ, List, ap, ◌∙◌, subst}
-use Rattle.std.specs.declared.option.Option.{Option}
-use mathlib.Core.List.{IsPrefix}
-use Rattle.rh_sig.specs.declared.name.Pipe.{Pipe}
-use Rattle.rh_line.specs.declared.leg.Leg.{Leg}
-use Rattle.rh_shell.specs.declared.rooms.Rooms.{Rooms}
-use Rattle.law_moves.specs.Moving.{Event}
-use Rattle.rh_shell.specs.Rules.{Rules}
-use Rattle.rh_shell.specs.Shells.{Shell, begun}
-use Rattle.rh_nodes.specs.Opening.{Makers}
-use Rattle.rh_nodes.specs.World.{World}
-use Rattle.rh_client.specs.declared.state.ClientRole.{ClientRole}
+use Rattle.law_order.proofs.Vocabulary.{◌≡◌, ℕ, List, ap, ◌∙◌, subst, Option}
 use Rattle.rh_inproxy.specs.Machine as in_proxy
-use Rattle.rh_inproxy.specs.State.{InProxy}
 use Rattle.rh_inproxy.specs.State as in_state
-use Rattle.rh_outproxy.specs.declared.out_proxy.TheConstants.{ROOMS}
 use Rattle.rh_outproxy.specs.Machine as out_proxy
-use Rattle.rh_outproxy.specs.OutProxy.{OutProxy, new_proxy}
-use Rattle.rh_server.specs.States.{Server}
-use Rattle.law_node_history.specs.Carried.{AreAccepted, ComesUpOnce, LegsComeUpOnce}
-use Rattle.law_node_history.specs.Changes.{Leads}
-use Rattle.law_node_traces.specs.Traced.Cookies.{ByChanges}
-use Rattle.law_node_history.specs.Histories.{IsNew}
+use Rattle.law_moves.proofs.Vocabulary.{Pipe, Leg, Rooms, Rules, Shell, begun, Event}
+use Rattle.law_role_inproxy.proofs.Vocabulary.{InProxy}
+use Rattle.law_role_client.proofs.Vocabulary.{ClientRole}
+use Rattle.law_role_server.proofs.Vocabulary.{Server}
+use Rattle.law_node_history.proofs.Vocabulary.{Makers, World, AreAccepted, ComesUpOnce, LegsComeUpOnce, Leads, IsNew}
+use Rattle.law_node_history.proofs.Lemmas.{cast_kept}
+use Rattle.law_role_outproxy.proofs.Vocabulary.{ROOMS, OutProxy, new_proxy}
 use Rattle.law_node_streams.specs.Streams.{HasPipes, HearsInTurn, StaysUnused}
 use Rattle.law_node_begins.specs.ProxiesBegin.Pipes.{in_pipe, out_pipe}
-use Rattle.law_node_traces.specs.Traced.Ours.{AreOurs, deeds, rules}
-use Rattle.law_node_traces.specs.Traced.Recordings.{IsKnown, history_at}
-use Rattle.law_node_history.proofs.Leading.{cast_kept}
+use Rattle.law_node_traces.proofs.Vocabulary.{ByChanges, AreOurs, deeds, rules, IsKnown, history_at}
 use Rattle.law_world_order.proofs.Flowing.{NodeStreams, ProxyStreaming}
 use Rattle.law_world_honest.proofs.Refusals.Fronts.{Traced}
 

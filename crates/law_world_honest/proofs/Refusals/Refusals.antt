@@ -1,28 +1,14 @@
 -- a proxy that drew what refuses its client refused it, or put a response of success
-use Rattle.std.proofs.Common.{◌≡◌, ℕ, ◌≤◌, ◌⊎◌, inl, inr, List, [], ◌∷◌, ◌++◌, length, true, Some, arith, refl, sym, ap, ◌∙◌, subst}
-use Rattle.std.specs.List.{AllByRecursion}
-use Rattle.std.proofs.lemmas.List.{append-nil, length-append}
-use mathlib.Core.List.{IsPrefix}
-use Rattle.rh_http.specs.declared.refusal.Refusal.{Refusal}
-use Rattle.rh_http.specs.Texts.{refusal_text, response_text, status_of}
-use Rattle.rh_http.proofs.WrittenResponses.{refusal_told, response_told}
-use Rattle.rh_http.specs.Heads.Ends.{is_whole}
-use Rattle.law_order.proofs.Prefixes.{prefix_trans}
-use Rattle.rh_sig.specs.declared.name.Pipe.TheVariants.{CoD}
-use Rattle.rh_line.specs.declared.leg.Leg.{Leg}
-use Rattle.rh_line.specs.declared.leg.LegKind.TheVariants.{ClientOut}
-use Rattle.law_moves.specs.Carrying.{spelled}
-use Rattle.rh_shell.specs.Rules.{Message, Text, Pdu, Packet}
-use Rattle.rh_inproxy.specs.Opening.{echo_packet}
-use Rattle.rh_outproxy.specs.declared.state.OutProxyConfig.{OutProxyConfig}
-use Rattle.law_role_outproxy.specs.Legible.{IsConfig}
-use Rattle.law_moves.specs.ReadBack.Reading.{Begins}
+use Rattle.law_order.proofs.Vocabulary.{◌≡◌, ℕ, ◌≤◌, ◌⊎◌, inl, inr, List, [], ◌∷◌, ◌++◌, length, true, Some, arith, refl, sym, ap, ◌∙◌, subst, AllByRecursion, append-nil, length-append, IsPrefix}
+use Rattle.law_moves.proofs.Vocabulary.{prefix_trans, CoD, refusal_told, response_told, Refusal, refusal_text, response_text, status_of, is_whole, Leg, ClientOut, Message, Text, Pdu, Packet, spelled, Begins}
+use Rattle.law_role_inproxy.proofs.Vocabulary.{echo_packet}
+use Rattle.law_role_outproxy.proofs.Vocabulary.{OutProxyConfig, IsConfig}
 use Rattle.law_node_streams.specs.Streams.{IsDrawn}
-use Rattle.law_world_honest.specs.Refusals.Refused.{BeginsRefused, DrewRefusal}
-use Rattle.law_world_honest.proofs.Refusals.Drawn.{refused_more}
 use Rattle.law_world_order.proofs.FirstTexts.InTexts.{IsEcho, echo_begins}
 use Rattle.law_world_order.proofs.FirstTexts.OutTexts.{IsSuccess, Succeeds, in_range, success_begins}
 use Rattle.law_world_order.proofs.FirstTexts.Told.{front_told, read_whole}
+use Rattle.law_world_honest.proofs.Refusals.Drawn.{refused_more}
+use Rattle.law_world_honest.specs.Refusals.Refused.{BeginsRefused, DrewRefusal}
 
 -- no text is a front of nothing, and is a response
 pub none_refused : (leg : Leg) (status : ℕ) → BeginsRefused [] leg status → ⊥

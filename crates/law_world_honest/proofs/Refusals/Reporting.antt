@@ -1,62 +1,19 @@
 -- a proxy that was told that its leg to the server broke was so by a line that reports it
-use Rattle.std.proofs.Common.{◌≡◌, ◌⊎◌, inl, inr, ℕ, List, [], ◌∷◌, ◌++◌, append_assoc, Bool, ◌||◌, true, false, Some, None, refl, sym, ap, ◌∙◌, subst, ⊎_elim}
-use Rattle.std.specs.declared.option.Option.{Option}
-use Rattle.std.specs.Prelude.{if◌then◌else◌}
-use Rattle.std.proofs.lemmas.Bool.{true≢false}
-use Rattle.std.proofs.lemmas.List.{append-nil}
-use Rattle.rh_text.specs.declared.ends.Dir.{Dir}
-use Rattle.rh_text.specs.declared.ends.Dir.TheVariants.{U, D}
 use Rattle.rh_text.specs.declared.ends.Side.TheVariants as side
-use Rattle.rh_rts.specs.declared.command.Cookie.{Cookie}
-use Rattle.rh_line.specs.declared.cause.Cause.{Cause}
+use Rattle.law_order.proofs.Vocabulary.{◌≡◌, ◌⊎◌, inl, inr, ℕ, List, [], ◌∷◌, ◌++◌, append_assoc, Bool, ◌||◌, true, false, Some, None, refl, sym, ap, ◌∙◌, subst, ⊎_elim, Option, if◌then◌else◌, true≢false, append-nil}
 use Rattle.rh_line.specs.declared.cause.Cause.TheVariants as cause
-use Rattle.rh_line.specs.declared.leg.Leg.{Leg}
-use Rattle.rh_line.specs.declared.leg.LegKind.{LegKind}
-use Rattle.rh_line.specs.declared.leg.LegKind.TheVariants.{ClientIn, ClientOut, InServer, OutServer}
-use Rattle.rh_record.specs.declared.answer.Answer.{Answer}
 use Rattle.rh_record.specs.declared.answer.Answer.TheVariants as answer
-use Rattle.rh_record.specs.declared.answer.Who.{Who}
 use Rattle.rh_record.specs.declared.answer.Who.TheVariants as who
-use Rattle.rh_record.specs.declared.line.Line.{Line}
-use Rattle.rh_record.specs.declared.line.Line.TheVariants.{First, Set}
-use Rattle.rh_nodes.specs.declared.event.Event.{Event}
-use Rattle.rh_nodes.specs.declared.event.Event.TheVariants.{Comes, Ends, Breaks, Passes}
-use Rattle.rh_nodes.specs.declared.place.Place.{Place}
-use Rattle.rh_nodes.specs.declared.place.Place.TheVariants.{Absent, Here, Gone}
-use Rattle.rh_nodes.specs.Closings.{lines as closed_lines}
-use Rattle.rh_nodes.specs.Company as company
-use Rattle.rh_nodes.specs.Halves.{is_same}
-use Rattle.rh_nodes.specs.Opening.{reader_before}
-use Rattle.rh_nodes.specs.Readers.{reader_of}
-use Rattle.rh_nodes.specs.Settling.{leg_at}
-use Rattle.rh_nodes.specs.Steps.{step_line}
-use Rattle.rh_nodes.specs.Legs as legs
-use Rattle.rh_nodes.specs.Wires.{receiver, sender}
-use Rattle.rh_nodes.specs.World.{at, node_by}
-use Rattle.law_moves.specs.Laws.{ClosedWith}
+use Rattle.rh_wires.specs.Legs as legs
+use Rattle.rh_company.specs.Company as company
+use Rattle.law_moves.proofs.Vocabulary.{Dir, U, D, Cookie, Cause, Leg, LegKind, ClientIn, ClientOut, InServer, OutServer, ClosedWith}
 use Rattle.law_moves.specs.Moving as moving
-use Rattle.law_node_history.specs.Carried.{IsTraced, LegsComeUpOnce, came_up, events_of}
-use Rattle.law_node_history.specs.Changes.{Change, IsTold, IsFed, IsDrawn, GoesUp, RaisesAlone, OpensIn, OpensOut, OpensSame, Reports, AreAllowed, ByLines, Leads, all_changed, changed}
-use Rattle.law_node_history.specs.Closes.{ClosesNode, HasClosed, IsOneOf, told_by}
-use Rattle.law_node_history.specs.Histories.{History, all_noted, at_place, heard, in_place, made_by, noted, nothing, out_place, to_node, told_to}
-use Rattle.law_node_history.proofs.Appended.{came_append}
-use Rattle.law_node_history.proofs.Closed.{tell_closes}
-use Rattle.law_node_history.proofs.Leading.{cast_stays, changed_append, leads_more}
-use Rattle.law_node_history.proofs.Lines.{same_who}
-use Rattle.law_node_history.proofs.Recordings.{traced_first}
-use Rattle.law_node_history.proofs.Tracing.{change_is_traced}
-use Rattle.law_node_history.proofs.Wired.{is_up_at}
-use Rattle.law_node_history.proofs.Working.{works_by_lines, works_more, works_none, works_then}
-use Rattle.law_node_history.proofs.Reporting.{one_of_both}
-use Rattle.rh_world.specs.declared.any_world.AnyWorld.{AnyWorld}
-use Rattle.rh_world.specs.declared.any_world.AnyWorld.TheVariants.{Before, Direct, Settings, Roles}
-use Rattle.rh_world.specs.declared.config.WorldConfig.{WorldConfig}
-use Rattle.rh_world.specs.Any.{act, after, prepared, step}
-use Rattle.rh_world.specs.Config.{AreInRange}
+use Rattle.law_node_history.proofs.Vocabulary.{Answer, Who, Line, First, Set, reader_of, receiver, sender, Event, Comes, Ends, Breaks, Passes, Place, Absent, Here, Gone, lines as closed_lines, is_same, reader_before, leg_at, step_line, at, node_by, IsTraced, LegsComeUpOnce, came_up, events_of, Change, IsTold, IsFed, IsDrawn, GoesUp, RaisesAlone, OpensIn, OpensOut, OpensSame, Reports, AreAllowed, ByLines, Leads, all_changed, changed, ClosesNode, HasClosed, IsOneOf, told_by}
+use Rattle.law_node_history.proofs.Vocabulary.{History, all_noted, at_place, heard, in_place, made_by, noted, nothing, out_place, to_node, told_to}
+use Rattle.law_node_history.proofs.Lemmas.{came_append, tell_closes, cast_stays, changed_append, leads_more, same_who, traced_first, change_is_traced, is_up_at, works_by_lines, works_more, works_none, works_then, one_of_both}
 use Rattle.rh_world.specs.Roles as roles
+use Rattle.law_world_reports.proofs.Vocabulary.{AnyWorld, Before, Direct, Settings, Roles, WorldConfig, act, after, prepared, step, AreInRange, IsLicensedAt, IsRefusedIn, AreShown, IsShown, ShownWorks, Shows}
 use Rattle.law_world_reports.proofs.Bounded.Reached.{IsRecorded, behind_lines}
-use Rattle.law_world_reports.specs.Closed.Recordings.{IsLicensedAt, IsRefusedIn}
-use Rattle.law_world_reports.specs.Closed.Shows.{AreShown, IsShown, ShownWorks, Shows}
 use Rattle.law_world_reports.proofs.Closed.Going.{one_before}
 use Rattle.law_world_order.proofs.Recorded.{new}
 use Rattle.law_world_honest.specs.Refusals.Refused.{IsUnreached}

@@ -1,33 +1,15 @@
 -- a proxy that drew the refusal of status 503 was told that its server is lost, if it did not draw
 -- all of that while it went on
-use Rattle.std.proofs.Common.{◌≡◌, ℕ, inl, inr, List, [], ◌∷◌, ◌++◌, Bool, true, false, ◌||◌, Ok, length, drop, get_or, arith, refl, sym, ap, ◌∙◌, subst, ⊎_elim}
-use Rattle.std.specs.Prelude.{◌==◌}
-use Rattle.std.specs.List.{list_any}
-use Rattle.std.proofs.lemmas.List.{append-nil}
-use Rattle.std.proofs.lemmas.List.Folds.{list_any-append}
-use mathlib.Core.List.{IsPrefix}
-use Rattle.rh_http.specs.declared.refusal.Refusal.{Refusal}
-use Rattle.rh_http.specs.declared.refusal.Refusal.TheVariants.{Bad, Missing, Unavailable}
+use Rattle.law_order.proofs.Vocabulary.{◌≡◌, ℕ, inl, inr, List, [], ◌∷◌, ◌++◌, Bool, true, false, ◌||◌, Ok, length, drop, get_or, arith, refl, sym, ap, ◌∙◌, subst, ⊎_elim, ◌==◌, list_any, append-nil, list_any-append, IsPrefix}
 use Rattle.rh_http.specs.declared.got.Got.TheVariants.{Head}
-use Rattle.rh_http.specs.declared.response.Response.{Response}
-use Rattle.rh_http.specs.Reading.{IsAnswer}
-use Rattle.rh_http.specs.Responses.{JudgesResponse}
-use Rattle.rh_http.specs.Texts.{refusal_text, status_of}
-use Rattle.rh_http.proofs.WrittenResponses.{refusal_told}
-use Rattle.rh_http.specs.Heads.Verdicts.{response_verdict}
-use Rattle.rh_http.proofs.Heads.Judged.{response_answered}
-use Rattle.rh_shell.specs.Rules.{Rules}
-use Rattle.rh_line.specs.declared.leg.Leg.{Leg}
-use Rattle.rh_shell.specs.declared.course.Course.TheVariants.{Going, Refusing}
-use Rattle.law_moves.specs.Moving.{Event, after_event, after_events}
-use Rattle.rh_shell.specs.Shells.{Shell}
-use Rattle.law_node_history.specs.Carried.{AreAccepted, ComesUpOnce, drawn_on}
-use Rattle.law_node_history.proofs.Runs.{events_append}
+use Rattle.law_moves.proofs.Vocabulary.{refusal_told, response_answered, Refusal, Bad, Missing, Unavailable, Response, IsAnswer, JudgesResponse, refusal_text, status_of, response_verdict, Leg, Rules, Going, Refusing, Shell, Event, after_event, after_events}
+use Rattle.law_node_history.proofs.Lemmas.{events_append}
+use Rattle.law_node_history.proofs.Vocabulary.{AreAccepted, ComesUpOnce, drawn_on}
 use Rattle.law_node_causes.specs.Refusals.{MayRefuseOn}
-use Rattle.law_node_traces.specs.Traced.Refusals.{DrawsRefusal, DrawsRightly}
-use Rattle.law_world_honest.specs.Refusals.Refused.{BeginsRefused, DrewRefusal, IsUnreached}
+use Rattle.law_node_traces.proofs.Vocabulary.{DrawsRefusal, DrawsRightly}
 use Rattle.law_world_honest.proofs.Refusals.Fronts.{accepted_front}
 use Rattle.law_world_honest.proofs.Refusals.Unreached.{never_up}
+use Rattle.law_world_honest.specs.Refusals.Refused.{BeginsRefused, DrewRefusal, IsUnreached}
 
 unavailable_by : (r : Refusal) → status_of r ≡ 503 → r ≡ Unavailable
 unavailable_by Unavailable e = refl

@@ -1,17 +1,8 @@
 -- a node that a broken leg made refuse wanted that leg, so it had never come up there
-use Rattle.std.proofs.Common.{◌≡◌, ℕ, List, Bool, true, false, Some, None, if◌then◌else◌, refl, sym, ◌∙◌, subst, ⊎_elim}
-use Rattle.std.specs.declared.option.Option.{Option}
-use Rattle.std.proofs.lemmas.Bool.{true≢false, cases_Bool}
-use Rattle.rh_line.specs.declared.cause.Cause.{Cause}
+use Rattle.law_order.proofs.Vocabulary.{◌≡◌, ℕ, List, Bool, true, false, Some, None, if◌then◌else◌, refl, sym, ◌∙◌, subst, ⊎_elim, Option, true≢false, cases_Bool}
 use Rattle.rh_line.specs.declared.cause.Cause.TheVariants as cause
-use Rattle.rh_line.specs.declared.leg.Leg.{Leg}
-use Rattle.rh_shell.specs.declared.course.Course.{Course}
-use Rattle.rh_shell.specs.declared.course.Course.TheVariants.{Going, Closed, Refusing}
-use Rattle.rh_shell.specs.NearEnds.{NearEnd, is_ended, is_finished, marked}
-use Rattle.rh_shell.specs.Rules.{Rules}
-use Rattle.rh_shell.specs.Shells.{Shell, broken_at, broken_by, close, end_at, lose, lost, unreached, wants, with_end}
-use Rattle.law_moves.specs.Moving.{Event, Breaks, after_event, after_events}
-use Rattle.law_node_history.specs.Carried.{AreAccepted, ComesUpOnce, came_up}
+use Rattle.law_moves.proofs.Vocabulary.{Cause, Leg, Course, Going, Closed, Refusing, NearEnd, is_ended, is_finished, marked, Rules, Shell, broken_at, broken_by, close, end_at, lose, lost, unreached, wants, with_end, Event, Breaks, after_event, after_events}
+use Rattle.law_node_history.proofs.Vocabulary.{AreAccepted, ComesUpOnce, came_up}
 
 abbrev Refuses : Course → Type 0
 Refuses Going = ⊥

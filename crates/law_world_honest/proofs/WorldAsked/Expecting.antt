@@ -1,31 +1,16 @@
 -- an out proxy expects what the client put, by the streams of both
-use Rattle.std.proofs.Common.{◌≡◌, ℕ, List, true, is_some, sym, ap, ◌∙◌, subst}
-use Rattle.std.specs.List.{AllByRecursion}
-use Rattle.rh_http.specs.declared.config.ClientConfig.{ClientConfig}
-use Rattle.rh_line.specs.declared.leg.LegKind.TheVariants.{ClientOut}
-use Rattle.rh_shell.specs.Rules.{Message}
-use Rattle.rh_shell.specs.Shells.{begun}
-use Rattle.rh_outproxy.specs.declared.out_proxy.TheConstants.{ROOMS}
-use Rattle.rh_outproxy.specs.declared.state.OutProxyConfig.{OutProxyConfig}
-use Rattle.rh_outproxy.specs.Machine.{rules}
-use Rattle.rh_outproxy.specs.OutProxy.{OutProxy, new_proxy}
-use Rattle.rh_client.specs.declared.state.ClientRole.{ClientRole}
+use Rattle.law_order.proofs.Vocabulary.{◌≡◌, ℕ, List, true, is_some, sym, ap, ◌∙◌, subst, AllByRecursion}
 use Rattle.rh_client.specs.Client as client
 use Rattle.rh_client.specs.State as client_state
-use Rattle.rh_nodes.specs.Settling.{leg_at}
-use Rattle.law_moves.specs.Moves.{EndMove, EndPassage, Move, Passage, all_moved, started}
-use Rattle.law_moves.specs.Moving.{EndEvent, Event, after_events}
-use Rattle.law_moves.specs.Wires.{of_leg}
-use Rattle.law_moves.specs.Passages.Counted.{AreCounted}
-use Rattle.law_moves.specs.Passages.Rising.{HasComeUp}
-use Rattle.law_moves.specs.ReadBack.Reading.{all_read_of}
-use Rattle.law_role_client.specs.Order.{AreAllowedMoves}
-use Rattle.law_role_outproxy.specs.Refusing.{RefusesFor}
+use Rattle.law_moves.proofs.Vocabulary.{ClientConfig, ClientOut, Message, begun, EndMove, EndPassage, Move, Passage, all_moved, started, EndEvent, Event, after_events, of_leg, AreCounted, HasComeUp, all_read_of}
+use Rattle.law_role_client.proofs.Vocabulary.{ClientRole, AreAllowedMoves}
+use Rattle.law_node_history.proofs.Vocabulary.{leg_at}
+use Rattle.law_role_outproxy.proofs.Vocabulary.{ROOMS, OutProxyConfig, rules, OutProxy, new_proxy, RefusesFor}
 use Rattle.law_role_client_rows.specs.Putting.{IsChannel, OpenedBefore, OpensOutChannels, out_way}
 use Rattle.law_node_streams.specs.Streams.{EndStream, Stream}
 use Rattle.law_peers_moments.specs.Expecting.{Expects}
-use Rattle.law_peers_expects.specs.Asked.Requests.{IsRequest}
 use Rattle.law_peers_expects.proofs.Asked.Expecting.{expects}
+use Rattle.law_peers_expects.specs.Asked.Requests.{IsRequest}
 use Rattle.law_peers_routes.specs.Downwards as down
 
 module _ (client_config : ClientConfig) (client_events : List EndEvent)

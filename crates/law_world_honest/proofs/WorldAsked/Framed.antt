@@ -1,27 +1,16 @@
 -- where the node of an out proxy reads frames from its client, its role took a request
-use Rattle.std.proofs.Common.{◌≡◌, List, [], Some, is_some, true, refl, sym, ap, ◌∙◌, subst}
-use Rattle.rh_line.specs.declared.leg.Leg.{Leg}
-use Rattle.rh_line.specs.declared.leg.LegKind.TheVariants.{ClientOut}
-use Rattle.rh_shell.specs.declared.course.Course.TheVariants.{Going}
+use Rattle.law_order.proofs.Vocabulary.{◌≡◌, List, [], Some, is_some, true, refl, sym, ap, ◌∙◌, subst}
 use Rattle.rh_shell.specs.declared.stage.Stage.TheVariants as stage
-use Rattle.rh_shell.specs.NearEnds.{NearEnd}
-use Rattle.rh_shell.specs.Shells.{Shell, begun, end_at}
-use Rattle.rh_outproxy.specs.declared.out_proxy.TheConstants.{ROOMS}
-use Rattle.rh_outproxy.specs.declared.state.OutProxyConfig.{OutProxyConfig}
-use Rattle.rh_outproxy.specs.Machine.{rules}
-use Rattle.rh_outproxy.specs.OutProxy.{OutProxy, new_proxy}
-use Rattle.rh_nodes.specs.Settling.{leg_at}
-use Rattle.law_moves.specs.Moves.{Passage}
-use Rattle.law_moves.specs.Moving.{Event, after_events}
-use Rattle.law_moves.specs.Turns.{Stages, takes_frames}
-use Rattle.law_node_history.specs.Carried.{AreAccepted, ComesUpOnce}
-use Rattle.law_node_streams.specs.Streams.{HasPipes, HearsInTurn, StaysUnused}
+use Rattle.law_moves.proofs.Vocabulary.{Leg, ClientOut, Going, NearEnd, Shell, begun, end_at, Passage, Event, after_events, Stages, takes_frames}
+use Rattle.law_node_history.proofs.Vocabulary.{leg_at, AreAccepted, ComesUpOnce}
+use Rattle.law_role_outproxy.proofs.Vocabulary.{ROOMS, OutProxyConfig, rules, OutProxy, new_proxy}
 use Rattle.law_node_streams.proofs.Streams.Ends.{end_is, end_of}
-use Rattle.law_node_streams.proofs.Streams.Nodes as nodes
 use Rattle.law_node_streams.proofs.Streams.Runs.{ran_none}
 use Rattle.law_node_streams.proofs.Streams.Seats.{seat}
 use Rattle.law_node_streams.proofs.Streams.Staging.{IsNext}
 use Rattle.law_node_streams.proofs.Streams.Turns.{IsOn, Sits, seat_by}
+use Rattle.law_node_streams.proofs.Streams.Nodes as nodes
+use Rattle.law_node_streams.specs.Streams.{HasPipes, HearsInTurn, StaysUnused}
 use Rattle.law_node_begins.specs.ProxiesBegin.Pipes.{out_pipe}
 use Rattle.law_peers_expects.proofs.Asked.Standing.{proxy_stands}
 

@@ -1,43 +1,15 @@
 -- what an out proxy of a world drew to its client reads well there, and each packet has a name
-use Rattle.std.proofs.Common.{◌≡◌, ℕ, List, refl, sym, subst, inl, inr}
-use Rattle.std.specs.Prelude.{Some}
-use Rattle.std.specs.List.{AllByRecursion}
-use Rattle.std.specs.declared.option.Option.{Option}
-use mathlib.Core.List.{IsPrefix}
-use Rattle.rh_http.specs.declared.refusal.Refusal.{Refusal}
-use Rattle.rh_http.specs.Texts.{refusal_text}
-use Rattle.rh_sig.specs.declared.name.Pipe.{Pipe}
-use Rattle.rh_sig.specs.declared.name.Pipe.TheVariants.{CoD}
-use Rattle.rh_line.specs.declared.leg.Leg.{Leg}
-use Rattle.rh_line.specs.declared.leg.LegKind.TheVariants.{ClientOut}
-use Rattle.law_order.proofs.Prefixes.{prefix_trans}
+use Rattle.law_order.proofs.Vocabulary.{◌≡◌, ℕ, List, refl, sym, subst, inl, inr, Some, AllByRecursion, Option, IsPrefix}
 use Rattle.rh_shell.specs.declared.stage.Stage.TheVariants as stage
-use Rattle.law_moves.specs.Carrying.{spelled}
-use Rattle.law_moves.specs.Moves.{Move, Passage, AreAllowed, all_moved, started}
-use Rattle.law_moves.specs.Moving.{Event}
-use Rattle.rh_shell.specs.NearEnds.{first_stage}
-use Rattle.rh_shell.specs.Rules.{Message}
-use Rattle.rh_shell.specs.Shells.{begun}
-use Rattle.law_moves.specs.Wires.{of_leg}
-use Rattle.law_moves.specs.Legible.Legible.{AreLegible, MayGoOn}
-use Rattle.rh_nodes.specs.Settling.{leg_at}
-use Rattle.rh_outproxy.specs.declared.out_proxy.TheConstants.{ROOMS}
-use Rattle.rh_outproxy.specs.declared.state.OutProxyConfig.{OutProxyConfig}
-use Rattle.law_role_outproxy.specs.Legible.{pipe_put}
-use Rattle.rh_outproxy.specs.Machine.{rules}
-use Rattle.rh_outproxy.specs.OutProxy.{OutProxy, new_proxy}
-use Rattle.law_moves.specs.Passages.Counted.{AreCounted}
-use Rattle.law_role_outproxy.specs.Counted.{co_leg}
-use Rattle.law_node_history.specs.Carried.{drawn_on}
-use Rattle.law_moves.specs.ReadBack.Reading.{Begins}
-use Rattle.law_moves.specs.ReadBack.Well.{Answers, AreTaken, IsWellText, ReadsWell, TextIsWell, is_named}
-use Rattle.law_node_streams.specs.Streams.{IsDrawn, Stream}
-use Rattle.law_moves.specs.Turns.{AreInTurn}
+use Rattle.law_moves.proofs.Vocabulary.{prefix_trans, Pipe, CoD, Refusal, refusal_text, Leg, ClientOut, first_stage, Message, begun, spelled, Move, Passage, AreAllowed, all_moved, started, Event, of_leg, AreLegible, MayGoOn, AreCounted, Begins, Answers, AreTaken, IsWellText, ReadsWell, TextIsWell, is_named, AreInTurn}
+use Rattle.law_node_history.proofs.Vocabulary.{leg_at, drawn_on}
+use Rattle.law_role_outproxy.proofs.Vocabulary.{ROOMS, OutProxyConfig, rules, OutProxy, new_proxy, pipe_put, co_leg}
 use Rattle.law_node_streams.proofs.Streams.LegLogs.{on_leg}
-use Rattle.law_peers_routes.specs.Downwards.{proxy_reads}
+use Rattle.law_node_streams.specs.Streams.{IsDrawn, Stream}
+use Rattle.law_peers_expects.proofs.Asked.Requests.{ask_no_echo}
 use Rattle.law_peers_expects.specs.Asked.Asking.{AsksNoEcho}
 use Rattle.law_peers_expects.specs.Asked.Requests.{IsRequest}
-use Rattle.law_peers_expects.proofs.Asked.Requests.{ask_no_echo}
+use Rattle.law_peers_routes.specs.Downwards.{proxy_reads}
 
 pub record Texts : Type 0 where
   pub put : (well : Answers) (pipe : Option Pipe) (put : List Message) (drawn heard : List ℕ)

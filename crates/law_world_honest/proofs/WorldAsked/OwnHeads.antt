@@ -1,36 +1,18 @@
 -- each head that came to an out proxy of a world is the request of its client
-use Rattle.std.proofs.Common.{◌≡◌, inl, inr, ℕ, zero, suc, List, [], ◌∷◌, false, Ok, refl, sym, ap, ◌∙◌, subst}
-use Rattle.std.specs.List.{AllByRecursion}
-use mathlib.Core.List.{IsPrefix}
-use Rattle.rh_rts.specs.declared.command.Cookie.{Cookie}
-use Rattle.rh_http.specs.declared.config.ClientConfig.{ClientConfig}
-use Rattle.rh_http.specs.Texts.{out_request}
-use Rattle.rh_http.specs.Heads.Verdicts.{request_verdict}
-use Rattle.rh_line.specs.declared.leg.Leg.{Leg}
-use Rattle.rh_line.specs.declared.leg.LegKind.TheVariants.{ClientOut}
-use Rattle.law_order.proofs.Prefixes.{prefix_trans}
-use Rattle.law_moves.specs.Carrying.{spelled}
-use Rattle.rh_shell.specs.Intakes.{is_whole_head}
-use Rattle.law_moves.specs.Moves.{EndMove, EndPassage, Move, Up, HeadCame, PduCame, PacketCame, Puts, IsDrawn, Marks, Pings}
-use Rattle.law_moves.specs.Moving.{EndEvent}
-use Rattle.rh_shell.specs.Rules.{Message}
-use Rattle.law_moves.specs.Wires.{of_leg}
-use Rattle.rh_nodes.specs.Settling.{leg_at}
-use Rattle.rh_client.specs.declared.state.ClientRole.{ClientRole}
+use Rattle.law_order.proofs.Vocabulary.{◌≡◌, inl, inr, ℕ, zero, suc, List, [], ◌∷◌, false, Ok, refl, sym, ap, ◌∙◌, subst, AllByRecursion, IsPrefix}
 use Rattle.rh_client.specs.Client as client
-use Rattle.law_role_client.specs.Order.{AreAllowedMoves}
 use Rattle.rh_client.specs.State as client_state
+use Rattle.law_moves.proofs.Vocabulary.{prefix_trans, Cookie, ClientConfig, out_request, request_verdict, Leg, ClientOut, is_whole_head, Message, spelled, EndMove, EndPassage, Move, Up, HeadCame, PduCame, PacketCame, Puts, IsDrawn, Marks, Pings, EndEvent, of_leg, HasComeUp, IsWholeText}
+use Rattle.law_moves.proofs.Lemmas.{each_so}
+use Rattle.law_role_client.proofs.Vocabulary.{ClientRole, AreAllowedMoves}
+use Rattle.law_node_history.proofs.Vocabulary.{leg_at, end_drawn_on}
 use Rattle.law_role_client_rows.specs.Putting.{IsChannel, OpenedBefore, OpensOutChannels, out_length, out_way}
-use Rattle.law_moves.proofs.Passages.Messages.{each_so}
-use Rattle.law_moves.specs.Passages.Rising.{HasComeUp}
-use Rattle.law_node_history.specs.Carried.{end_drawn_on}
-use Rattle.law_moves.specs.ReadBack.Reading.{IsWholeText}
 use Rattle.law_node_streams.specs.Streams.{EndStream, IsFirstHead, IsHeadOf}
+use Rattle.law_peers_expects.specs.Asked.Requests.{AsksFor, IsRequest}
 use Rattle.law_peers_routes.specs.Downwards as down
-use Rattle.law_world_order.specs.FirstTexts.{IsPort}
 use Rattle.law_world_order.proofs.FirstTexts.Requests.{BegunBy, head_holds, request_asks}
 use Rattle.law_world_order.proofs.FirstTexts.Taken.{asked_for}
-use Rattle.law_peers_expects.specs.Asked.Requests.{AsksFor, IsRequest}
+use Rattle.law_world_order.proofs.Vocabulary.{IsPort}
 use Rattle.law_world_honest.specs.WorldAsked.{IsOwn, IsOwnHead}
 
 -- ---- what a client put on the leg of a channel begins with its request

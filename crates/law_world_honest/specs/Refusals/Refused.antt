@@ -5,8 +5,8 @@ use Rattle.rh_http.specs.declared.refusal.Refusal.{Refusal}
 use Rattle.rh_http.specs.Texts.{refusal_text, status_of}
 use Rattle.rh_line.specs.declared.leg.Leg.{Leg}
 use Rattle.law_moves.specs.Moving as moving
-use Rattle.rh_nodes.specs.declared.event.Event.{Event}
-use Rattle.rh_nodes.specs.declared.event.Event.TheVariants.{Comes}
+use Rattle.rh_company.specs.declared.event.Event.{Event}
+use Rattle.rh_company.specs.declared.event.Event.TheVariants.{Comes}
 use Rattle.law_node_history.specs.Carried.{came_up}
 use Rattle.law_node_causes.specs.Refusals.{IsRefusedBy}
 

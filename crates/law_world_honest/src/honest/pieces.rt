@@ -12,7 +12,7 @@ ghost use Rattle.rh_shell.specs.declared.stage.Stage.TheVariants as stage;
 ghost use Rattle.rh_shell.specs.Rules.{Message};
 ghost use Rattle.rh_shell.specs.NearEnds.{NearEnd, is_over};
 ghost use Rattle.rh_shell.specs.Shells.{Shell, end_at};
-ghost use Rattle.rh_nodes.specs.declared.event.Event.TheVariants.{Comes};
+ghost use Rattle.rh_company.specs.declared.event.Event.TheVariants.{Comes};
 ghost use Rattle.law_moves.specs.ReadBack.Reading.{reading};
 ghost use Rattle.law_moves.specs.ReadBack.Well.{Answers, ReadsWell, ReadsWellFrom};
 ghost use Rattle.law_node_causes.specs.Closings.{ClosesWith};

@@ -14,12 +14,7 @@ ghost use Rattle.rh_world.specs.declared.any_world.AnyWorld.TheVariants.{Before}
 ghost use Rattle.rh_world.specs.Any.{after, step};
 
 use crate::honest::worlds::no_change_closes_a_node_for_bad_bytes;
-use law_node_traces::turns_are_changes;
 use law_world_reports::each_close_of_a_recording_shows;
-use rh_client::ClientRole;
-use rh_inproxy::InProxyRole;
-use rh_outproxy::OutProxyRole;
-use rh_server::ServerRole;
 use rh_world::WorldConfig;
 
 /// In no recording does a report tell of a node that closed with `BadFrame`, with `BadPacket` or

@@ -10,7 +10,7 @@ ghost use Rattle.rh_shell.specs.declared.stage.Stage.TheVariants as stage;
 ghost use Rattle.rh_shell.specs.NearEnds.{NearEnd, is_over};
 ghost use Rattle.rh_shell.specs.Shells.{end_at};
 ghost use Rattle.rh_client.specs.Client as client;
-ghost use Rattle.rh_nodes.specs.declared.event.Event as told;
+ghost use Rattle.rh_company.specs.declared.event.Event as told;
 ghost use Rattle.law_moves.specs.Laws.{ClosedWith};
 ghost use Rattle.law_moves.specs.Moving.{EndEvent, after_end_events};
 ghost use Rattle.law_node_history.specs.Carried.{AreAcceptedAtEnd, happened, heard_on};

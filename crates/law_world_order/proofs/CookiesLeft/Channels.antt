@@ -1,29 +1,16 @@
 -- a leg of the client comes up once, and has the number of a channel
-use Rattle.std.proofs.Common.{◌≡◌, ◌≤◌, ℕ, suc, ◌+◌, ◌==◌, ◌&&◌, ◌||◌, nat_lt, Bool, true, false, true≢false, if◌then◌else◌, List, [], ◌∷◌, ◌++◌, inl, inr, arith, refl, sym, ap, ◌∙◌, subst, append_assoc, append-nil}
-use Rattle.std.proofs.lemmas.Bool.Decides.{nat_tests}
-use Rattle.std.specs.List.{AllByRecursion}
-use Rattle.rh_rts.specs.declared.command.Cookie.{Cookie}
-use Rattle.rh_http.specs.declared.config.ClientConfig.{ClientConfig}
-use Rattle.rh_line.specs.declared.leg.Leg.{Leg}
-use Rattle.rh_line.specs.declared.leg.LegKind.{LegKind}
-use Rattle.rh_line.specs.declared.leg.LegKind.TheVariants.{ClientIn, ClientOut, InServer, OutServer}
-use Rattle.rh_shell.specs.Shells.{Shell, may_up, same_leg}
-use Rattle.rh_client.specs.declared.channels.TheConstants.{LAST_NUMBER}
-use Rattle.rh_client.specs.declared.state.ClientRole.{ClientRole}
-use Rattle.rh_client.specs.Channels.{is_up}
+use Rattle.law_order.proofs.Vocabulary.{◌≡◌, ◌≤◌, ℕ, suc, ◌+◌, ◌==◌, ◌&&◌, ◌||◌, nat_lt, Bool, true, false, true≢false, if◌then◌else◌, List, [], ◌∷◌, ◌++◌, inl, inr, arith, refl, sym, ap, ◌∙◌, subst, append_assoc, append-nil, nat_tests, AllByRecursion}
 use Rattle.rh_client.specs.Client as client
-use Rattle.rh_client.specs.Opening.{was_up, was_up_by}
-use Rattle.rh_client.specs.Replacements.{is_in, is_out}
+use Rattle.law_moves.proofs.Vocabulary.{Cookie, ClientConfig, Leg, LegKind, ClientIn, ClientOut, InServer, OutServer, Shell, may_up, same_leg, EndEvent, Happens, IsGiven, IsTaken, IsClosed, IsRecycled, after_event, after_end_event, after_end_events}
+use Rattle.law_moves.proofs.Lemmas.{leg_is}
 use Rattle.law_moves.specs.Moving as moving
-use Rattle.law_moves.specs.Moving.{EndEvent, Happens, IsGiven, IsTaken, IsClosed, IsRecycled, after_event, after_end_event, after_end_events}
-use Rattle.law_node_history.specs.Carried.{AreAcceptedAtEnd, IsAcceptedAtEnd, came_up, happened}
-use Rattle.law_node_history.proofs.Appended.{end_accepted_append, happened_append}
-use Rattle.law_node_history.proofs.Runs.{end_events_append}
+use Rattle.law_role_client.proofs.Vocabulary.{LAST_NUMBER, ClientRole, is_up, was_up, was_up_by, is_in, is_out}
+use Rattle.law_node_history.proofs.Lemmas.{end_accepted_append, happened_append, end_events_append}
+use Rattle.law_node_history.proofs.Vocabulary.{AreAcceptedAtEnd, IsAcceptedAtEnd, came_up, happened}
 use Rattle.law_node_causes.specs.Numbers.{ClientIsNumbered}
 use Rattle.law_node_causes.specs.Once.{WasUp}
-use Rattle.law_node_streams.proofs.Streams.Ends.{leg_is}
-use Rattle.law_world_order.specs.CookiesLeft.{legs_up, times}
 use Rattle.law_world_order.proofs.CookiesLeft.Counting.{IsBelow}
+use Rattle.law_world_order.proofs.Vocabulary.{legs_up, times}
 
 -- ---- how often a leg comes up
 

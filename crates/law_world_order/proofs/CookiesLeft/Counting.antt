@@ -1,14 +1,9 @@
 -- legs that are in a list once at most, and have one of so many numbers, are no more than these
-use Rattle.std.proofs.Common.{◌≡◌, ◌⊎◌, ◌≤◌, ℕ, zero, suc, ◌+◌, ◌==◌, Bool, true, false, if◌then◌else◌, List, [], ◌∷◌, length, inl, inr, arith, refl, sym, subst}
-use Rattle.std.proofs.lemmas.Bool.Decides.{nat_tests}
-use Rattle.std.specs.List.{AllByRecursion}
-use Rattle.rh_line.specs.declared.leg.Leg.{Leg}
-use Rattle.rh_line.specs.declared.leg.LegKind.{LegKind}
-use Rattle.rh_line.specs.declared.leg.LegKind.TheVariants.{ClientIn, ClientOut}
-use Rattle.rh_shell.specs.Shells.{same_leg}
-use Rattle.rh_nodes.specs.Settling.{leg_at}
-use Rattle.law_moves.specs.Chains.Sums.{sum_below}
-use Rattle.law_world_order.specs.CookiesLeft.{times}
+use Rattle.law_order.proofs.Vocabulary.{◌≡◌, ◌⊎◌, ◌≤◌, ℕ, zero, suc, ◌+◌, ◌==◌, Bool, true, false, if◌then◌else◌, List, [], ◌∷◌, length, inl, inr, arith, refl, sym, subst, nat_tests, AllByRecursion}
+use Rattle.law_moves.proofs.Vocabulary.{Leg, LegKind, ClientIn, ClientOut, same_leg, sum_below}
+use Rattle.law_moves.proofs.Lemmas.{sum_rises as rises}
+use Rattle.law_node_history.proofs.Vocabulary.{leg_at}
+use Rattle.law_world_order.proofs.Vocabulary.{times}
 
 -- ---- sums
 
@@ -23,13 +18,6 @@ at_most f most each (suc n) =
 twos : (n : ℕ) → sum_below (λ k. 2) n ≡ n + n
 twos zero = omega arith
 twos (suc n) = let rest = twos n in omega (arith, rest)
-
-rises : (f g : ℕ → ℕ) → ((k : ℕ) → f k ≤ g k) → (n : ℕ) → sum_below f n ≤ sum_below g n
-rises f g each zero = omega arith
-rises f g each (suc n) =
-    let rest = rises f g each n in
-    let one = each n in
-    omega (arith, rest, one)
 
 -- one more at a number below
 one_more : (f g : ℕ → ℕ) (j : ℕ) → ((k : ℕ) → f k ≤ g k) → suc (f j) ≤ g j → (n : ℕ)

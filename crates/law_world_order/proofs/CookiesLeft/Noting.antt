@@ -1,24 +1,13 @@
 -- each leg of the client that comes up by a change comes up by an event of the client
-use Rattle.std.proofs.Common.{◌≡◌, ℕ, ◌+◌, List, [], ◌∷◌, ◌++◌, length, length-append, map, arith, refl, ap, ◌∙◌}
+use Rattle.std.proofs.Common.{length-append}
 use Rattle.rh_text.specs.declared.ends.Side.TheVariants as side
-use Rattle.rh_line.specs.declared.leg.Leg.{Leg}
-use Rattle.rh_record.specs.declared.answer.Who.{Who}
+use Rattle.law_order.proofs.Vocabulary.{◌≡◌, ℕ, ◌+◌, List, [], ◌∷◌, ◌++◌, length, map, arith, refl, ap, ◌∙◌}
 use Rattle.rh_record.specs.declared.answer.Who.TheVariants as who
-use Rattle.rh_nodes.specs.declared.event.Event.{Event}
-use Rattle.rh_nodes.specs.declared.event.Event.TheVariants.{Comes, Ends, Breaks, Passes}
-use Rattle.rh_nodes.specs.Company.{Rulebook}
-use Rattle.rh_nodes.specs.Giving.{Deeds}
-use Rattle.rh_nodes.specs.Opening.{Makers}
-use Rattle.rh_nodes.specs.Wires.{receiver, sender}
-use Rattle.rh_nodes.specs.World.{World, at}
+use Rattle.law_moves.proofs.Vocabulary.{Leg, EndEvent, Happens}
 use Rattle.law_moves.specs.Moving as moving
-use Rattle.law_moves.specs.Moving.{EndEvent, Happens}
-use Rattle.law_node_history.specs.Carried.{happened}
-use Rattle.law_node_history.specs.Changes.{Change, IsTold, IsFed, IsDrawn, GoesUp, RaisesAlone, GoesDown, OpensIn, OpensOut, OpensSame, Gives, Takes, Closes, RecyclesIn, RecyclesOut, MovesTo, Draws, Reports, changed}
-use Rattle.law_node_history.specs.Drawn.{all_risen, risen}
-use Rattle.law_node_history.specs.Histories.{History, acts_by, all_noted, heard, noted, to_node, told_to}
-use Rattle.law_node_history.proofs.Appended.{happened_append}
-use Rattle.law_world_order.specs.CookiesLeft.{legs_up}
+use Rattle.law_node_history.proofs.Vocabulary.{Who, receiver, sender, Event, Comes, Ends, Breaks, Passes, Rulebook, Deeds, Makers, World, at, happened, Change, IsTold, IsFed, IsDrawn, GoesUp, RaisesAlone, GoesDown, OpensIn, OpensOut, OpensSame, Gives, Takes, Closes, RecyclesIn, RecyclesOut, MovesTo, Draws, Reports, changed, all_risen, risen, History, acts_by, all_noted, heard, noted, to_node, told_to}
+use Rattle.law_node_history.proofs.Lemmas.{happened_append}
+use Rattle.law_world_order.proofs.Vocabulary.{legs_up}
 
 abbrev ups : List moving.Event → ℕ
 ups events = length (legs_up events)

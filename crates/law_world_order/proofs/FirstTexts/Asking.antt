@@ -1,31 +1,11 @@
 -- what a client drew on a leg begins with its request
-use Rattle.std.proofs.Common.{◌≡◌, inl, inr, ℕ, List, sym, subst}
-use Rattle.std.specs.List.{AllByRecursion}
-use Rattle.std.specs.declared.option.Option.{Option}
-use mathlib.Core.List.{IsPrefix}
-use Rattle.rh_http.specs.declared.config.ClientConfig.{ClientConfig}
-use Rattle.rh_http.specs.Texts.{in_request, out_request}
-use Rattle.law_order.proofs.Prefixes.{prefix_trans}
-use Rattle.rh_sig.specs.declared.name.Pipe.{Pipe}
-use Rattle.rh_line.specs.declared.leg.Leg.{Leg}
-use Rattle.rh_line.specs.declared.leg.LegKind.{LegKind}
-use Rattle.rh_line.specs.declared.leg.LegKind.TheVariants.{ClientIn, ClientOut, InServer, OutServer}
-use Rattle.rh_shell.specs.declared.stage.Stage.{Stage}
+use Rattle.law_order.proofs.Vocabulary.{◌≡◌, inl, inr, ℕ, List, sym, subst, AllByRecursion, Option, IsPrefix}
 use Rattle.rh_shell.specs.declared.stage.Stage.TheVariants as stage
-use Rattle.law_moves.specs.Carrying.{spelled}
-use Rattle.rh_shell.specs.Intakes.{is_whole_head}
-use Rattle.law_moves.specs.Moves.{EndMove, EndPassage}
-use Rattle.law_moves.specs.Moving.{EndEvent}
-use Rattle.rh_shell.specs.NearEnds.{first_stage}
-use Rattle.rh_shell.specs.Rules.{Message}
-use Rattle.law_moves.specs.Wires.{of_leg}
-use Rattle.rh_client.specs.declared.state.ClientRole.{ClientRole}
 use Rattle.rh_client.specs.Client as client
-use Rattle.law_role_client.specs.Legible.{pipe_put}
-use Rattle.law_role_client.specs.Order.{AreAllowedMoves, client_moved}
 use Rattle.rh_client.specs.State as client_state
-use Rattle.law_node_history.specs.Carried.{end_drawn_on}
-use Rattle.law_moves.specs.ReadBack.Reading.{BeginsBy, BeginsWith, IsWholeText}
+use Rattle.law_moves.proofs.Vocabulary.{prefix_trans, Pipe, ClientConfig, in_request, out_request, Leg, LegKind, ClientIn, ClientOut, InServer, OutServer, Stage, is_whole_head, first_stage, Message, spelled, EndMove, EndPassage, EndEvent, of_leg, BeginsBy, BeginsWith, IsWholeText}
+use Rattle.law_role_client.proofs.Vocabulary.{ClientRole, pipe_put, AreAllowedMoves, client_moved}
+use Rattle.law_node_history.proofs.Vocabulary.{end_drawn_on}
 use Rattle.law_node_streams.specs.Streams.{EndStream, IsFirstHead}
 use Rattle.law_node_begins.specs.EndsBegin.{Asks, BeginsLegs, IsRequestOf}
 use Rattle.law_world_order.proofs.FirstTexts.Requests.{begun_by, head_asked}

@@ -1,31 +1,11 @@
 -- what an in proxy puts on the legs of its clients is the answer to an echo request, a response of
 -- success
-use Rattle.std.proofs.Common.{◌≡◌, ℕ, ◌==◌, List, ◌∷◌, ◌++◌, append_assoc, true, false, Some, None, refl, sym, ap, ◌∙◌}
-use Rattle.std.specs.Prelude.{if◌then◌else◌}
-use Rattle.std.specs.List.{AllByRecursion}
-use Rattle.std.specs.Fmt.{digits}
-use Rattle.law_order.proofs.ByNumber.{by_test}
-use Rattle.rh_http.specs.Texts.{response_text}
-use Rattle.rh_line.specs.declared.leg.Leg.{Leg}
-use Rattle.rh_shell.specs.Rules.{Message, Text, spell}
-use Rattle.rh_inproxy.specs.declared.state.InProxyConfig.{InProxyConfig}
-use Rattle.rh_inproxy.specs.declared.state.Work.{Work}
+use Rattle.law_order.proofs.Vocabulary.{◌≡◌, ℕ, ◌==◌, List, ◌∷◌, ◌++◌, append_assoc, true, false, Some, None, refl, sym, ap, ◌∙◌, if◌then◌else◌, AllByRecursion}
 use Rattle.rh_inproxy.specs.declared.state.Work.TheVariants as works
-use Rattle.rh_inproxy.specs.Answers.{Pick}
-use Rattle.rh_inproxy.specs.Ending.{settled_pick}
-use Rattle.rh_inproxy.specs.Machine.{rules as proxy_rules}
-use Rattle.rh_inproxy.specs.Opening.{echo_answer, echo_by, echo_packet, put_echo}
-use Rattle.rh_inproxy.specs.Putting.{next, put}
-use Rattle.rh_inproxy.specs.State.{InProxy, first, is_client_leg, is_server_leg}
-use Rattle.law_moves.specs.Carrying.{spelled}
-use Rattle.law_moves.specs.Moves.{Passage, started}
-use Rattle.law_moves.specs.Moving.{Leads}
-use Rattle.law_moves.specs.Wires.{of_leg}
+use Rattle.law_moves.proofs.Vocabulary.{by_test, response_text, Leg, Message, Text, spell, spelled, Passage, started, Leads, of_leg}
+use Rattle.law_role_inproxy.proofs.Vocabulary.{InProxyConfig, Work, Pick, settled_pick, rules as proxy_rules, echo_answer, echo_by, echo_packet, put_echo, next, put, InProxy, first, is_client_leg, is_server_leg}
+use Rattle.law_node_begins.proofs.ProxiesBegin.Echoes.{in_text as echo_is}
 use Rattle.law_world_order.proofs.FirstTexts.PutAll.{Picked, all_put}
-
-echo_is : response_text 20 ++ echo_packet ≡ echo_answer
-unfolding response_text echo_answer digits
-echo_is = refl
 
 abbrev pub IsEcho : Message → Type 0
 IsEcho message = message ≡ Text echo_answer

@@ -1,38 +1,10 @@
 -- the texts that an out proxy puts are responses of success
-use Rattle.std.proofs.Common.{◌≡◌, ℕ, ◌+◌, ◌≤◌, ◌&&◌, ◌⊎◌, inl, inr, List, [], ◌∷◌, ◌++◌, append_assoc, length, Some, None, arith, refl, sym, ap, ◌∙◌, subst}
-use Rattle.std.specs.Prelude.{nat_le, if◌then◌else◌}
-use Rattle.std.specs.List.{AllByRecursion}
-use Rattle.std.specs.declared.option.Option.{Option}
-use Rattle.std.proofs.lemmas.List.{append-nil}
-use Rattle.rh_window.specs.Sending.{may_send, after_sent}
-use Rattle.rh_window.specs.declared.recv_window.Ack.{Ack}
-use Rattle.law_order.proofs.ByNumber.{by_test}
-use Rattle.rh_rts.specs.declared.command.Cookie.{Cookie}
-use Rattle.rh_sig.specs.declared.named.Named.{Named}
-use Rattle.rh_sig.specs.declared.named.Named.TheVariants.{OutR1A10, EndB2, Ping}
-use Rattle.rh_http.specs.Lengths.{greatest_response}
-use Rattle.rh_http.specs.Texts.{response_text}
-use Rattle.rh_line.specs.declared.leg.Leg.{Leg}
-use Rattle.rh_line.specs.Lines.{after_take, is_empty}
-use Rattle.rh_shell.specs.declared.due.Due.{Due}
-use Rattle.rh_shell.specs.Rules.{Message, Text, Pdu, Packet}
-use Rattle.rh_outproxy.specs.declared.state.OutProxyConfig.{OutProxyConfig}
-use Rattle.rh_outproxy.specs.declared.state.Answer.{Answer}
+use Rattle.law_order.proofs.Vocabulary.{◌≡◌, ℕ, ◌+◌, ◌≤◌, ◌&&◌, ◌⊎◌, inl, inr, List, [], ◌∷◌, ◌++◌, append_assoc, length, Some, None, arith, refl, sym, ap, ◌∙◌, subst, nat_le, if◌then◌else◌, AllByRecursion, Option, append-nil}
 use Rattle.rh_outproxy.specs.declared.state.Answer.TheVariants as answers
 use Rattle.rh_outproxy.specs.declared.state.Mark.TheVariants as marks
-use Rattle.rh_outproxy.specs.declared.state.Ping.TheVariants.{NotDue}
-use Rattle.rh_outproxy.specs.OutProxy.{OutProxy, new_proxy, is_due, is_ping_due, is_server_first, joined}
-use Rattle.rh_outproxy.specs.Rows.{is_co, is_os}
-use Rattle.rh_outproxy.specs.Opening.{first_packet}
-use Rattle.rh_outproxy.specs.Acknowledging.{ack_due}
-use Rattle.rh_outproxy.specs.Putting.{Pick, echo_packet, ping_room, or_else, answer_by, put_answer, put_waiting, waiting_by, pdu_by, put_pdu, put_end, put_handover, put_ping, put_mark, next_co, first_by, put_first, ack_by, put_ack, next_os, put}
-use Rattle.rh_outproxy.specs.Machine.{rules as proxy_rules}
-use Rattle.law_moves.specs.Carrying.{spelled}
-use Rattle.law_moves.specs.Moves.{Passage, started}
-use Rattle.law_moves.specs.Moving.{Leads}
-use Rattle.law_moves.specs.Wires.{of_leg}
+use Rattle.law_moves.proofs.Vocabulary.{may_send, after_sent, Ack, by_test, Cookie, Named, OutR1A10, EndB2, Ping, greatest_response, response_text, Leg, after_take, is_empty, Due, Message, Text, Pdu, Packet, spelled, Passage, started, Leads, of_leg}
 use Rattle.law_node_causes.proofs.OutProxyLegs.{later_move}
-use Rattle.law_role_outproxy.specs.Legible.{IsConfig}
+use Rattle.law_role_outproxy.proofs.Vocabulary.{OutProxyConfig, Answer, NotDue, OutProxy, new_proxy, is_due, is_ping_due, is_server_first, joined, is_co, is_os, first_packet, ack_due, Pick, echo_packet, ping_room, or_else, answer_by, put_answer, put_waiting, waiting_by, pdu_by, put_pdu, put_end, put_handover, put_ping, put_mark, next_co, first_by, put_first, ack_by, put_ack, next_os, put, rules as proxy_rules, IsConfig}
 use Rattle.law_world_order.proofs.FirstTexts.PutAll.{Picked, all_put}
 
 -- ---- what an out proxy puts

@@ -1,17 +1,7 @@
 -- what holds of each message that a node picks for a leg holds of all that it puts there
-use Rattle.std.proofs.Common.{◌≡◌, List, [], ◌∷◌, ◌++◌, Bool, true, false, Some, None, Ok, Err, sym, subst}
-use Rattle.std.specs.Prelude.{if◌then◌else◌}
-use Rattle.std.specs.List.{AllByRecursion}
-use Rattle.std.specs.declared.option.Option.{Option}
-use Rattle.law_order.proofs.ByNumber.{by_test}
-use Rattle.rh_line.specs.declared.leg.Leg.{Leg}
-use Rattle.rh_shell.specs.Rules.{Message, Row, Rules, Pdu, Packet}
-use Rattle.rh_shell.specs.Shells.{same_leg}
-use Rattle.law_moves.specs.Moves.{Move, Up, HeadCame, PduCame, PacketCame, Puts, IsDrawn, Marks, Pings, OnLeg, Passage, started, moved, put_by, taken_by}
-use Rattle.law_moves.specs.Moving.{Leads}
-use Rattle.law_moves.specs.Wires.{of_leg}
-use Rattle.law_moves.proofs.Leading.{leads_keep}
-use Rattle.law_node_streams.proofs.Streams.Ends.{leg_is}
+use Rattle.law_order.proofs.Vocabulary.{◌≡◌, List, [], ◌∷◌, ◌++◌, Bool, true, false, Some, None, Ok, Err, sym, subst, if◌then◌else◌, AllByRecursion, Option}
+use Rattle.law_moves.proofs.Vocabulary.{by_test, Leg, Message, Row, Rules, Pdu, Packet, same_leg, Move, Up, HeadCame, PduCame, PacketCame, Puts, IsDrawn, Marks, Pings, OnLeg, Passage, started, moved, put_by, taken_by, Leads, of_leg}
+use Rattle.law_moves.proofs.Lemmas.{leads_keep, leg_is}
 
 -- a message that is picked has this
 abbrev pub Picked : {S : Type 0} → (Message → Type 0) → Option (S × Message) → Type 0

@@ -1,42 +1,17 @@
 -- the head with which bytes that a client drew begin is its request, which a proxy reads
-use Rattle.std.proofs.Common.{◌≡◌, ◌⊎◌, inl, inr, ℕ, ◌-◌, ◌≤◌, ◌<◌, List, [], ◌∷◌, ◌++◌, length, take, cond, Bool, true, false, Ok, Err, arith, refl, sym, ap, ◌∙◌, subst, ⊎_elim}
-use Rattle.std.specs.List.{AllByRecursion}
-use Rattle.std.specs.Prelude.{IsTrue}
-use Rattle.std.specs.declared.option.Option.{Option}
-use Rattle.std.specs.declared.result.Result.{Result}
-use Rattle.std.proofs.lemmas.Bool.{cases_lt, eq-eqb}
-use Rattle.std.proofs.lemmas.List.{append-nil, length-take, take-append-le}
-use Rattle.std.proofs.Math.Seq.{take-append_seam}
-use mathlib.Core.List.{IsPrefix}
-use Rattle.law_order.proofs.Prefixes.{prefix_trans}
-use Rattle.rh_http.specs.declared.config.ClientConfig.{ClientConfig}
-use Rattle.rh_http.specs.declared.fault.HttpFault.{HttpFault}
-use Rattle.rh_http.specs.declared.fault.HttpFault.TheVariants.{TooLong}
+use Rattle.law_order.proofs.Vocabulary.{◌≡◌, ◌⊎◌, inl, inr, ℕ, ◌-◌, ◌≤◌, ◌<◌, List, [], ◌∷◌, ◌++◌, length, take, cond, Bool, true, false, Ok, Err, arith, refl, sym, ap, ◌∙◌, subst, ⊎_elim, AllByRecursion, IsTrue, Option, Result, cases_lt, eq-eqb, append-nil, length-take, take-append-le, take-append_seam, IsPrefix}
+use Rattle.rh_http.proofs.EndLemmas.{fits}
 use Rattle.rh_http.specs.declared.got.Got.TheVariants.{Head}
 use Rattle.rh_http.specs.declared.request.Request.{Request}
-use Rattle.rh_http.specs.Ends.{FirstEnd}
-use Rattle.rh_http.specs.Lengths.{may_ask}
-use Rattle.rh_http.specs.Reading.{IsAnswer}
-use Rattle.rh_http.specs.Requests.{JudgesRequest, method_of}
-use Rattle.rh_http.specs.Texts.{request_text}
-use Rattle.rh_http.proofs.EndLemmas.{fits}
-use Rattle.rh_http.proofs.Written.{request_read}
 use Rattle.rh_http.specs.Heads.Answers.{verdict_of}
-use Rattle.rh_http.specs.Heads.Verdicts.{asked, asked_of, request_verdict}
-use Rattle.rh_http.proofs.Heads.Judged.{request_answered}
-use Rattle.rh_sig.specs.declared.name.Pipe.{Pipe}
-use Rattle.rh_line.specs.declared.leg.LegKind.{LegKind}
-use Rattle.law_moves.specs.Carrying.{spelled}
-use Rattle.rh_shell.specs.Intakes.{ends_head, is_whole_head}
-use Rattle.rh_shell.specs.Rules.{Message, Text, Pdu, Packet}
-use Rattle.law_moves.specs.ReadBack.Reading.{BeginsWith, IsWholeText}
+use Rattle.law_moves.proofs.Vocabulary.{prefix_trans, Pipe, request_read, request_answered, ClientConfig, HttpFault, TooLong, FirstEnd, may_ask, IsAnswer, JudgesRequest, method_of, request_text, asked, asked_of, request_verdict, LegKind, ends_head, is_whole_head, Message, Text, Pdu, Packet, spelled, BeginsWith, IsWholeText}
 use Rattle.law_node_streams.specs.Streams.{IsFirstHead}
 use Rattle.law_node_begins.specs.EndsBegin.{Asks, IsRequestOf}
-use Rattle.law_world_order.specs.FirstTexts.{IsPort}
+use Rattle.law_world_order.proofs.Vocabulary.{IsPort}
 
 -- ---- two heads with which the same bytes begin
 
-none_whole : is_whole_head [] ≡ true → ⊥
+pub none_whole : is_whole_head [] ≡ true → ⊥
 unfolding ends_head
 none_whole e = absurd cc
 

@@ -1,38 +1,23 @@
 -- proxies take the requests of a client whose numbers are in their ranges, and no such request is
 -- one for an echo
-use Rattle.std.proofs.Common.{◌≡◌, inl, inr, ℕ, ◌≤◌, List, [], ◌∷◌, true, false, nat_le, Ok, Err, arith, refl, sym, ap, ◌∙◌}
-use Rattle.std.specs.Prelude.{IsTrue}
-use Rattle.std.specs.List.{AllByRecursion}
-use Rattle.std.specs.declared.result.Result.{Result}
-use Rattle.std.proofs.lemmas.Bool.Decides.{nat_tests}
-use Rattle.law_order.proofs.ByNumber.{by_test}
-use Rattle.rh_http.specs.declared.config.ClientConfig.{ClientConfig}
-use Rattle.rh_http.specs.declared.fault.HttpFault.{HttpFault}
-use Rattle.rh_http.specs.Lengths.{greatest_echo, may_ask}
-use Rattle.rh_http.specs.Heads.Verdicts.{Asked, request_verdict}
-use Rattle.rh_http.specs.Requests.{host_text}
-use Rattle.rh_line.specs.declared.leg.Leg.{Leg}
-use Rattle.rh_line.specs.declared.leg.LegKind.TheVariants.{ClientIn, ClientOut}
-use Rattle.rh_shell.specs.declared.answers.HeadRefused.{HeadRefused}
+use Rattle.law_order.proofs.Vocabulary.{◌≡◌, inl, inr, ℕ, ◌≤◌, List, [], ◌∷◌, true, false, nat_le, Ok, Err, arith, refl, sym, ap, ◌∙◌, IsTrue, AllByRecursion, Result, nat_tests}
 use Rattle.rh_shell.specs.declared.answers.HeadRefused.TheVariants as head
-use Rattle.rh_shell.specs.declared.answers.HeadTaken.{HeadTaken}
-use Rattle.rh_inproxy.specs.declared.opening.TheConstants.{ECHO_LENGTH}
 use Rattle.rh_inproxy.specs.Machine as in_proxy
 use Rattle.rh_inproxy.specs.Opening as in_opening
-use Rattle.rh_inproxy.specs.State.{InProxy}
 use Rattle.rh_outproxy.specs.Machine as out_proxy
 use Rattle.rh_outproxy.specs.Opening as out_opening
-use Rattle.rh_outproxy.specs.OutProxy.{OutProxy}
-use Rattle.rh_nodes.specs.Cookies.{cookie_of}
-use Rattle.law_moves.specs.Moves.{Move, Up, HeadCame, PduCame, PacketCame, Puts, IsDrawn, Marks, Pings}
-use Rattle.law_role_client.specs.Legible.{IsConfig}
-use Rattle.rh_world.specs.declared.config.WorldConfig.{WorldConfig}
+use Rattle.law_moves.proofs.Vocabulary.{by_test, ClientConfig, HttpFault, greatest_echo, may_ask, Asked, request_verdict, host_text, Leg, ClientIn, ClientOut, HeadRefused, HeadTaken, Move, Up, HeadCame, PduCame, PacketCame, Puts, IsDrawn, Marks, Pings}
+use Rattle.law_role_inproxy.proofs.Vocabulary.{ECHO_LENGTH, InProxy}
+use Rattle.law_role_client.proofs.Vocabulary.{IsConfig}
+use Rattle.law_node_history.proofs.Vocabulary.{cookie_of}
+use Rattle.law_role_outproxy.proofs.Vocabulary.{OutProxy}
 use Rattle.rh_world.specs.Roles as roles
 use Rattle.law_node_streams.specs.Streams.{IsFirstHead, IsHeadOf}
 use Rattle.law_node_begins.specs.EndsBegin.{IsRequestOf}
 use Rattle.law_node_begins.specs.ProxiesBegin.Echoes.{AsksNoEcho}
-use Rattle.law_world_order.specs.FirstTexts.{IsPort}
+use Rattle.law_world_reports.proofs.Vocabulary.{WorldConfig}
 use Rattle.law_world_order.proofs.FirstTexts.Requests.{request_asks}
+use Rattle.law_world_order.proofs.Vocabulary.{IsPort}
 
 -- the server of a recording has a port
 pub recorded_port : (config : WorldConfig)

@@ -1,23 +1,10 @@
 -- a front of a text that is told as a response is one only where it is all of that text
-use Rattle.std.proofs.Common.{◌≡◌, ℕ, ◌-◌, ◌≤◌, ◌<◌, List, ◌++◌, length, take, Bool, true, false, cond, Ok, Err, refl, sym, ap, ◌∙◌, subst, arith, ⊎_elim}
-use Rattle.std.specs.declared.result.Result.{Result}
-use Rattle.std.proofs.lemmas.Bool.{cases_lt}
-use Rattle.std.proofs.Math.Seq.{take-append_seam}
-use Rattle.std.proofs.lemmas.List.{length-take}
-use mathlib.Core.List.{IsPrefix}
-use Rattle.rh_http.specs.declared.fault.HttpFault.{HttpFault}
-use Rattle.rh_http.specs.declared.fault.HttpFault.TheVariants.{TooLong}
-use Rattle.rh_http.specs.declared.response.Response.{Response}
-use Rattle.rh_http.specs.Ends.{EndsAt, FirstEnd}
-use Rattle.rh_http.specs.Responses.{JudgesResponse}
-use Rattle.rh_http.specs.Texts.{IsToldAs}
-use Rattle.rh_http.proofs.EndLemmas.{fits, in_all, in_front}
-use Rattle.rh_http.specs.Heads.Ends.{is_whole}
+use Rattle.law_order.proofs.Vocabulary.{◌≡◌, ℕ, ◌-◌, ◌≤◌, ◌<◌, List, ◌++◌, length, take, Bool, true, false, cond, Ok, Err, refl, sym, ap, ◌∙◌, subst, arith, ⊎_elim, Result, cases_lt, take-append_seam, length-take, IsPrefix}
+use Rattle.rh_http.proofs.EndLemmas.{fits}
+use Rattle.rh_http.proofs.Heads.EndLemmas.{whole_to}
 use Rattle.rh_http.specs.Heads.Heads.{response_head}
 use Rattle.rh_http.specs.Heads.Readers.{all_of}
-use Rattle.rh_http.specs.Heads.Verdicts.{response_judged, response_verdict}
-use Rattle.rh_http.proofs.Heads.EndLemmas.{whole_to}
-use Rattle.rh_http.proofs.Heads.Judged.{whole_response}
+use Rattle.law_moves.proofs.Vocabulary.{in_all, in_front, whole_response, HttpFault, TooLong, Response, EndsAt, FirstEnd, JudgesResponse, IsToldAs, is_whole, response_judged, response_verdict}
 
 -- a text that is a response ends with its first blank line
 pub read_whole : (text : List ℕ) (response : Response) → response_verdict text ≡ Ok response

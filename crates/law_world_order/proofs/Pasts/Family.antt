@@ -1,45 +1,27 @@
 -- the streams of all nodes along changes, each behind the one before
-use Rattle.std.proofs.Common.{◌≡◌, ℕ, List, [], ◌∷◌, ◌++◌, append_assoc, refl, sym, ◌∙◌, ap, subst}
-use Rattle.std.specs.Prelude.{map}
-use Rattle.std.specs.declared.option.Option.{Option}
-use Rattle.std.proofs.lemmas.List.{append-nil}
-use mathlib.Core.List.{IsPrefix}
-use Rattle.law_order.proofs.Prefixes.{prefix_self, prefix_trans}
-use Rattle.rh_text.specs.declared.ends.Side.{Side}
 use Rattle.rh_text.specs.declared.ends.Side.TheVariants as side
-use Rattle.rh_sig.specs.declared.name.Pipe.{Pipe}
-use Rattle.rh_line.specs.declared.leg.Leg.{Leg}
-use Rattle.rh_record.specs.declared.answer.Who.{Who}
+use Rattle.law_order.proofs.Vocabulary.{◌≡◌, ℕ, List, [], ◌∷◌, ◌++◌, append_assoc, refl, sym, ◌∙◌, ap, subst, map, Option, append-nil, IsPrefix}
 use Rattle.rh_record.specs.declared.answer.Who.TheVariants as who
-use Rattle.rh_shell.specs.declared.rooms.Rooms.{Rooms}
-use Rattle.law_moves.specs.Moving.{EndEvent, Event, Happens}
-use Rattle.rh_shell.specs.Rules.{Acts, Rules}
-use Rattle.rh_shell.specs.Shells.{Shell, begun}
-use Rattle.rh_nodes.specs.Opening.{Makers}
-use Rattle.rh_nodes.specs.World.{World}
-use Rattle.rh_client.specs.declared.state.ClientRole.{ClientRole}
+use Rattle.rh_inproxy.specs.Machine as in_proxy
+use Rattle.rh_inproxy.specs.State as in_state
+use Rattle.rh_outproxy.specs.Machine as out_proxy
 use Rattle.rh_client.specs.Client as client
 use Rattle.rh_client.specs.State as client_state
-use Rattle.rh_inproxy.specs.Machine as in_proxy
-use Rattle.rh_inproxy.specs.State.{InProxy}
-use Rattle.rh_inproxy.specs.State as in_state
-use Rattle.rh_outproxy.specs.declared.out_proxy.TheConstants.{ROOMS}
-use Rattle.rh_outproxy.specs.Machine as out_proxy
-use Rattle.rh_outproxy.specs.OutProxy.{OutProxy, new_proxy}
 use Rattle.rh_server.specs.Servers as server
-use Rattle.rh_server.specs.States.{Server}
-use Rattle.law_node_history.specs.Carried.{AllAccepted, AreAccepted, AreAcceptedAtEnd, ComesUpOnce, ComesUpOnceAtEnd, LegsComeUpOnce, happened}
-use Rattle.law_node_history.specs.Changes.{Change, changed}
-use Rattle.law_node_history.specs.Histories.{History, acts_by, all_noted, at_place, in_place, made_by, noted, nothing, out_place, told_to}
-use Rattle.law_node_streams.specs.Streams.{HasPipes, HearsInTurn, NeverRefuses, StaysUnused, StaysUnusedAtEnd}
-use Rattle.law_node_traces.specs.Traced.Ours.{AreOurs, deeds, rules}
-use Rattle.law_node_traces.specs.Traced.Turns.{HearInTurn}
-use Rattle.law_node_begins.specs.ProxiesBegin.Pipes.{in_pipe}
-use Rattle.law_peers_routes.specs.Downwards as down
-use Rattle.law_world_order.specs.Flows.{Flows, Numbers, numbers_of}
-use Rattle.law_world_order.proofs.Flowing.{Streaming, out_reads}
-use Rattle.law_node_streams.specs.Grown.{EndGrowing, EndGrows, Growing, Grows}
+use Rattle.law_moves.proofs.Vocabulary.{Side, prefix_self, prefix_trans, Pipe, Leg, Rooms, Acts, Rules, Shell, begun, EndEvent, Event, Happens}
+use Rattle.law_role_inproxy.proofs.Vocabulary.{InProxy}
+use Rattle.law_role_client.proofs.Vocabulary.{ClientRole}
+use Rattle.law_role_server.proofs.Vocabulary.{Server}
+use Rattle.law_node_history.proofs.Vocabulary.{Who, Makers, World, AllAccepted, AreAccepted, AreAcceptedAtEnd, ComesUpOnce, ComesUpOnceAtEnd, LegsComeUpOnce, happened, Change, changed, History, acts_by, all_noted, at_place, in_place, made_by, noted, nothing, out_place, told_to}
+use Rattle.law_role_outproxy.proofs.Vocabulary.{ROOMS, OutProxy, new_proxy}
 use Rattle.law_node_streams.proofs.Grown.Walks.{EndGoes, Goes, end_walk, walk}
+use Rattle.law_node_streams.specs.Streams.{HasPipes, HearsInTurn, NeverRefuses, StaysUnused, StaysUnusedAtEnd}
+use Rattle.law_node_streams.specs.Grown.{EndGrowing, EndGrows, Growing, Grows}
+use Rattle.law_node_begins.specs.ProxiesBegin.Pipes.{in_pipe}
+use Rattle.law_node_traces.proofs.Vocabulary.{AreOurs, deeds, rules, HearInTurn}
+use Rattle.law_peers_routes.specs.Downwards as down
+use Rattle.law_world_order.proofs.Flowing.{Streaming, out_reads}
+use Rattle.law_world_order.proofs.Vocabulary.{Flows, Numbers, numbers_of}
 
 -- ---- the laws that this stands on
 

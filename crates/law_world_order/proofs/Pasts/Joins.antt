@@ -1,49 +1,27 @@
 -- what came at each node is of what was put at the other end of its leg, also where one end heard
 -- what comes by the next change: that was drawn before
-use Rattle.std.proofs.Common.{◌≡◌, ℕ, List, [], sym, ap, ◌∙◌, subst}
-use Rattle.std.specs.declared.option.Option.{Option}
-use mathlib.Core.List.{IsPrefix}
-use Rattle.law_order.proofs.ItemLists.{nil_front}
-use Rattle.law_order.proofs.Prefixes.{prefix_self, prefix_trans}
-use Rattle.rh_text.specs.declared.ends.Dir.{Dir}
-use Rattle.rh_text.specs.declared.ends.Dir.TheVariants.{U, D}
-use Rattle.rh_text.specs.declared.ends.Side.{Side}
 use Rattle.rh_text.specs.declared.ends.Side.TheVariants as side
-use Rattle.rh_sig.specs.declared.name.Pipe.{Pipe}
-use Rattle.rh_line.specs.declared.leg.Leg.{Leg}
-use Rattle.rh_line.specs.declared.leg.LegKind.{LegKind}
-use Rattle.rh_line.specs.declared.leg.LegKind.TheVariants.{ClientOut, OutServer, ClientIn, InServer}
-use Rattle.rh_record.specs.declared.answer.Who.{Who}
+use Rattle.law_order.proofs.Vocabulary.{◌≡◌, ℕ, List, [], sym, ap, ◌∙◌, subst, Option, IsPrefix}
 use Rattle.rh_record.specs.declared.answer.Who.TheVariants as who
-use Rattle.law_moves.specs.Moves.{EndMove, EndPassage, Passage, end_started}
-use Rattle.law_moves.specs.Moving.{Event}
-use Rattle.law_moves.specs.Wires.{of_leg}
-use Rattle.rh_nodes.specs.Opening.{Makers}
-use Rattle.rh_nodes.specs.Readers.{reader_of}
-use Rattle.rh_nodes.specs.Settling.{leg_at}
-use Rattle.rh_nodes.specs.Wires.{receiver, sender}
-use Rattle.rh_nodes.specs.World.{World}
-use Rattle.rh_client.specs.declared.state.ClientRole.{ClientRole}
 use Rattle.rh_client.specs.Client as client
 use Rattle.rh_client.specs.State as client_state
-use Rattle.rh_inproxy.specs.State.{InProxy}
-use Rattle.rh_outproxy.specs.OutProxy.{OutProxy}
 use Rattle.rh_server.specs.Servers as server
-use Rattle.rh_server.specs.States.{Server}
-use Rattle.law_node_history.specs.Carried.{drawn_by, end_node, events_of, happened, heard_on}
-use Rattle.law_node_history.specs.Histories.{History}
-use Rattle.law_moves.specs.ReadBack.Reading.{all_read_of, messages_read}
-use Rattle.law_node_traces.specs.Traced.Ours.{AreOurs, deeds, rules}
+use Rattle.law_moves.proofs.Vocabulary.{Dir, U, D, Side, nil_front, prefix_self, prefix_trans, Pipe, Leg, LegKind, ClientOut, OutServer, ClientIn, InServer, EndMove, EndPassage, Passage, end_started, Event, of_leg, all_read_of, messages_read}
+use Rattle.law_role_inproxy.proofs.Vocabulary.{InProxy}
+use Rattle.law_role_client.proofs.Vocabulary.{ClientRole}
+use Rattle.law_role_server.proofs.Vocabulary.{Server}
+use Rattle.law_node_history.proofs.Vocabulary.{Who, reader_of, receiver, sender, Makers, leg_at, World, drawn_by, end_node, events_of, happened, heard_on, History}
+use Rattle.law_role_outproxy.proofs.Vocabulary.{OutProxy}
+use Rattle.law_peers_moments.specs.Moments.{AreJoined}
+use Rattle.law_peers_moments.specs.Moments as moments
+use Rattle.law_node_traces.proofs.Vocabulary.{AreOurs, deeds, rules}
 use Rattle.law_peers_routes.specs.Downwards as down
-use Rattle.law_world_order.specs.Flows.{Flows, IsFlowing, numbers_of, read_on}
 use Rattle.law_world_order.proofs.Heard.{node_reads, reads_on}
 use Rattle.law_world_order.proofs.Legs.{Reads}
 use Rattle.law_world_order.proofs.Joined.{all, reads_put}
-use Rattle.law_peers_moments.specs.Moments as moments
-use Rattle.law_peers_moments.specs.Moments.{AreJoined}
-use Rattle.law_world_order.specs.Pasts.{numbers}
 use Rattle.law_world_order.proofs.Pasts.Lists.{leg_front, logs_front, read_front}
 use Rattle.law_world_order.proofs.Pasts.Made.{moves_with}
+use Rattle.law_world_order.proofs.Vocabulary.{Flows, IsFlowing, numbers_of, read_on, numbers}
 
 -- an end stands at the same legs, whoever reads
 same_end : (readers others : List ℕ) (node : Who) → ((k : ℕ) → who.In k ≡ node → ⊥)

@@ -1,48 +1,20 @@
 -- what the nodes put may go on its pipe, as long as what came to them is fine
-use Rattle.std.proofs.Common.{◌≡◌, ℕ, zero, suc, List, [], ◌∷◌, if◌then◌else◌, refl, sym, ap, subst}
-use Rattle.std.specs.List.{AllByRecursion}
-use Rattle.rh_window.specs.Sides.{IsWindow}
-use Rattle.rh_http.specs.declared.config.ClientConfig.{ClientConfig}
-use Rattle.rh_line.specs.declared.leg.Leg.{Leg}
-use Rattle.rh_inproxy.specs.declared.state.InProxyConfig.{InProxyConfig}
-use Rattle.rh_inproxy.specs.Machine as in_proxy
-use Rattle.rh_inproxy.specs.State.{InProxy}
-use Rattle.rh_inproxy.specs.State as in_state
-use Rattle.rh_outproxy.specs.declared.state.OutProxyConfig.{OutProxyConfig}
-use Rattle.rh_outproxy.specs.Machine as out_proxy
-use Rattle.rh_outproxy.specs.OutProxy.{OutProxy, new_proxy}
-use Rattle.rh_client.specs.declared.state.ClientRole.{ClientRole}
+use Rattle.law_order.proofs.Vocabulary.{◌≡◌, ℕ, zero, suc, List, [], ◌∷◌, if◌then◌else◌, refl, sym, ap, subst, AllByRecursion}
 use Rattle.rh_server.specs.Servers as server
-use Rattle.rh_server.specs.States.{Server}
-use Rattle.law_moves.specs.Moves.{EndMove, EndPassage, Move, Moves, Up, HeadCame, PduCame, PacketCame, Puts, IsDrawn, Marks, Pings, Gives, Takes, Closes, Recycles, OnLeg, Passage, all_end_moved, all_moved, end_started, started}
-use Rattle.law_moves.specs.Wires.{of_leg}
-use Rattle.law_moves.specs.Legible.Legible.{AreLegible, IsLegible}
+use Rattle.law_moves.proofs.Vocabulary.{Leg, EndMove, EndPassage, Moves, Up, HeadCame, PduCame, PacketCame, Puts, IsDrawn, Marks, Pings, Gives, Takes, Closes, Recycles, OnLeg, Passage, of_leg, AreLegible, IsLegible}
+use Rattle.law_role_inproxy.proofs.Vocabulary.{InProxy}
 use Rattle.law_role_inproxy.specs.Legible as in_legible
+use Rattle.law_role_client.proofs.Vocabulary.{ClientRole, HasCookieAtEnd, HaveCookies}
 use Rattle.law_role_client.specs.Legible as client_legible
-use Rattle.law_role_client.specs.Legible.{HasCookieAtEnd, HasCookies, HaveCookies}
-use Rattle.law_role_client.specs.Order.{client_moved}
+use Rattle.law_role_server.proofs.Vocabulary.{Server}
 use Rattle.law_role_server.specs.Legible as server_legible
-use Rattle.law_node_history.specs.Carried.{came_up}
-use Rattle.law_node_history.specs.Histories.{History}
-use Rattle.law_node_history.proofs.Wired.{same_itself}
+use Rattle.law_node_history.proofs.Lemmas.{same_itself}
+use Rattle.law_node_history.proofs.Vocabulary.{came_up, History}
+use Rattle.law_role_outproxy.proofs.Vocabulary.{OutProxy}
 use Rattle.law_role_outproxy.specs.Legible as out_legible
 use Rattle.law_node_streams.specs.Streams.{IsCookie, RisesWith}
-use Rattle.law_world_order.specs.Flows.{AllFine, AllLegible, Flows, Numbers}
-use Rattle.law_world_order.specs.Premises.{AreInRange}
-
-pub record Legalities : Type 0 where
-  pub client : (config : ClientConfig) (moves : List EndMove) → client_legible.IsConfig config
-      → HasCookies config → HaveCookies moves
-      → AreLegible client_legible.pipe_put (client_moved config moves).passage.put
-  pub server : (window : ℕ) (moves : List EndMove) → IsWindow window
-      → IsLegible server_legible.pipe_put
-      (all_end_moved server.rules server.acts (end_started (server.first window)) moves).passage
-  pub ins : (config : InProxyConfig) (moves : List Move) → in_state.IsConfig config
-      → in_legible.HasSizes config → IsLegible in_legible.pipe_put
-      (all_moved in_proxy.rules (started (in_state.first config)) moves)
-  pub outs : (config : OutProxyConfig) (moves : List Move) → out_legible.IsConfig config
-      → IsLegible out_legible.pipe_put
-      (all_moved out_proxy.rules (started (new_proxy config)) moves)
+use Rattle.law_world_order.proofs.Legal.{Legalities}
+use Rattle.law_world_order.proofs.Vocabulary.{AllFine, AllLegible, Flows, Numbers, AreInRange}
 
 -- cookies of 16 bytes
 has_cookie : (move : EndMove) → RisesWith IsCookie move → HasCookieAtEnd move

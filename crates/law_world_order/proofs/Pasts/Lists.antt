@@ -1,20 +1,9 @@
 -- what holds of the moves of an end holds of each front of them, and the logs of a front are fronts
-use Rattle.std.proofs.Common.{◌≡◌, ◌⊎◌, inl, inr, List, [], ◌∷◌, ◌++◌, Bool, true, false, if◌then◌else◌, Some, None, Ok, Err, refl, sym, ap, ◌∙◌, subst}
-use Rattle.std.specs.declared.option.Option.{Option}
-use Rattle.std.proofs.lemmas.List.Concat.{flat_map-append}
-use mathlib.Core.List.{IsPrefix}
-use Rattle.law_order.proofs.Prefixes.{prefix_more, prefix_self, prefix_trans}
-use Rattle.rh_rts.specs.declared.command.Cookie.{Cookie}
-use Rattle.rh_line.specs.declared.leg.Leg.{Leg}
-use Rattle.law_moves.specs.Moves.{AreAllowedAtEnd, EndMove, EndPassage, OnLeg, all_end_moved, end_moved}
-use Rattle.rh_shell.specs.Rules.{Acts, Message, Row, Rules}
-use Rattle.rh_shell.specs.Shells.{same_leg}
-use Rattle.law_moves.specs.Wires.{of_leg}
-use Rattle.law_moves.specs.Passages.Counted.{AreCountedAtEnd}
-use Rattle.law_moves.specs.Passages.Rising.{AreUpFirst, HasComeUp}
-use Rattle.law_moves.proofs.Passages.Logs.{ActsKeep, Fact, PutKeeps, RowKeeps, StepsKeep, end_moves_keep}
-use Rattle.law_moves.specs.ReadBack.Reading.{all_read_of, read_of}
+use Rattle.law_order.proofs.Vocabulary.{◌≡◌, ◌⊎◌, inl, inr, List, [], ◌∷◌, ◌++◌, Some, None, Ok, Err, refl, sym, ap, ◌∙◌, subst, Option, flat_map-append, IsPrefix}
+use Rattle.law_moves.proofs.Vocabulary.{prefix_more, prefix_self, prefix_trans, Cookie, Leg, Acts, Message, Row, Rules, AreAllowedAtEnd, EndMove, EndPassage, OnLeg, all_end_moved, end_moved, of_leg, AreCountedAtEnd, AreUpFirst, HasComeUp, all_read_of, read_of}
+use Rattle.law_moves.proofs.Lemmas.{ActsKeep, Fact, PutKeeps, RowKeeps, StepsKeep, end_moves_keep, of_append as leg_append}
 use Rattle.law_node_streams.proofs.Streams.EndMoves.{all_end_moved_append}
+use Rattle.law_node_streams.proofs.Streams.Rising.{come_up_more as rose_more}
 use Rattle.law_peers_moments.specs.Moments.{HaveCookies}
 
 -- ---- fronts
@@ -35,17 +24,6 @@ one_front {X} (x ∷ a) (y ∷ b) (z ∷ all) p q =
     by : IsPrefix a b ⊎ IsPrefix b a → IsPrefix (x ∷ a) (y ∷ b) ⊎ IsPrefix (y ∷ b) (x ∷ a)
     by (inl r) = inl (r.0, let e = r.1 in let s = same in cc)
     by (inr r) = inr (r.0, let e = r.1 in let s = same in cc)
-
-leg_append : (leg : Leg) (log more : List OnLeg)
-    → of_leg leg (log ++ more) ≡ of_leg leg log ++ of_leg leg more
-leg_append leg [] more = refl
-leg_append leg (one ∷ log) more = by (leg_append leg log more) (same_leg one.0 leg)
-  where
-    by : of_leg leg (log ++ more) ≡ of_leg leg log ++ of_leg leg more → (b : Bool)
-        → (if b then one.1 ∷ of_leg leg (log ++ more) else of_leg leg (log ++ more))
-        ≡ (if b then one.1 ∷ of_leg leg log else of_leg leg log) ++ of_leg leg more
-    by rest true = ap (λ x. one.1 ∷ x) rest
-    by rest false = rest
 
 pub leg_front : (leg : Leg) (front all : List OnLeg) → IsPrefix front all
     → IsPrefix (of_leg leg front) (of_leg leg all)
@@ -155,13 +133,6 @@ pub up_front : (front all : List EndMove) → IsPrefix front all → AreUpFirst 
 up_front front all is up = up_first [] front is.0 (subst (AreUpFirst []) (sym is.1) up)
 
 -- ---- legs that came up
-
-rose_more : (front later : List EndMove) (leg : Leg) (cookie : Cookie)
-    → HasComeUp front leg cookie → HasComeUp (front ++ later) leg cookie
-rose_more [] later leg cookie rose = absurd rose
-rose_more (move ∷ front) later leg cookie (inl is) = inl is
-rose_more (move ∷ front) later leg cookie (inr rest) =
-    inr (rose_more front later leg cookie rest)
 
 pub rose_front : (front all : List EndMove) → IsPrefix front all → (leg : Leg) (cookie : Cookie)
     → HasComeUp front leg cookie → HasComeUp all leg cookie

@@ -1,25 +1,18 @@
 -- the moves that a stream leads by, and each front of those of an end, are made as they may be
-use Rattle.std.proofs.Common.{List, []}
-use mathlib.Core.List.{IsPrefix}
-use Rattle.law_moves.specs.Moves.{AreAllowedAtEnd, EndMove, end_started}
-use Rattle.rh_shell.specs.Rules.{Acts, Rules}
-use Rattle.rh_nodes.specs.Company.{Company}
-use Rattle.rh_nodes.specs.Opening.{Makers}
-use Rattle.rh_client.specs.declared.state.ClientRole.{ClientRole}
+use Rattle.law_order.proofs.Vocabulary.{List, [], IsPrefix}
 use Rattle.rh_client.specs.Client as client
 use Rattle.rh_client.specs.State as client_state
-use Rattle.rh_inproxy.specs.State.{InProxy}
-use Rattle.rh_outproxy.specs.OutProxy.{OutProxy}
 use Rattle.rh_server.specs.Servers as server
-use Rattle.rh_server.specs.States.{Server}
-use Rattle.law_moves.specs.Passages.Counted.{AreCountedAtEnd}
-use Rattle.law_moves.specs.Passages.Rising.{AreUpFirst}
-use Rattle.law_node_history.specs.Histories.{History}
-use Rattle.law_node_traces.specs.Traced.Ours.{AreOurs}
-use Rattle.law_world_order.specs.Flows.{Flows, numbers_of}
+use Rattle.law_moves.proofs.Vocabulary.{Acts, Rules, AreAllowedAtEnd, EndMove, end_started, AreCountedAtEnd, AreUpFirst}
+use Rattle.law_role_inproxy.proofs.Vocabulary.{InProxy}
+use Rattle.law_role_client.proofs.Vocabulary.{ClientRole}
+use Rattle.law_role_server.proofs.Vocabulary.{Server}
+use Rattle.law_node_history.proofs.Vocabulary.{Company, Makers, History}
+use Rattle.law_role_outproxy.proofs.Vocabulary.{OutProxy}
 use Rattle.law_peers_moments.specs.Moments.{AreMade, Moves}
-use Rattle.law_world_order.specs.Pasts.{numbers}
+use Rattle.law_node_traces.proofs.Vocabulary.{AreOurs}
 use Rattle.law_world_order.proofs.Pasts.Lists.{allowed_front, counted_front, up_front}
+use Rattle.law_world_order.proofs.Vocabulary.{Flows, numbers_of, numbers}
 
 -- the moves of an end
 record IsMade {S : Type 0} (rules : Rules S) (acts : Acts S) (first : S) (moves : List EndMove)

@@ -1,35 +1,22 @@
 -- behind all changes a world of roles is at a moment
-use Rattle.std.proofs.Common.{◌≡◌, List, [], ◌∷◌, refl, sym, subst}
-use Rattle.std.specs.List.{AllByRecursion}
-use mathlib.Core.List.{IsPrefix}
-use Rattle.law_order.proofs.Prefixes.{prefix_self}
 use Rattle.rh_text.specs.declared.ends.Side.TheVariants as side
-use Rattle.law_moves.specs.Moves.{EndMove}
-use Rattle.law_moves.specs.Moving.{ComesUp, Event, Hears, Ends, Breaks, Draws, Ticks}
-use Rattle.rh_nodes.specs.Opening.{Makers}
-use Rattle.rh_nodes.specs.Readers.{reader_of}
-use Rattle.rh_inproxy.specs.State.{InProxy}
-use Rattle.rh_outproxy.specs.OutProxy.{OutProxy}
-use Rattle.law_node_history.specs.Carried.{AllAccepted, LegsComeUpOnce, happened}
-use Rattle.law_node_history.specs.Changes.{all_changed}
-use Rattle.law_node_history.specs.Histories.{History, IsNew, all_noted, nothing}
-use Rattle.law_node_history.proofs.Leading.{cast_kept}
-use Rattle.law_node_history.proofs.Recordings.{traced_first}
+use Rattle.law_order.proofs.Vocabulary.{◌≡◌, List, [], ◌∷◌, refl, sym, subst, AllByRecursion, IsPrefix}
+use Rattle.law_moves.proofs.Vocabulary.{prefix_self, EndMove, ComesUp, Event, Hears, Ends, Breaks, Draws, Ticks}
+use Rattle.law_role_inproxy.proofs.Vocabulary.{InProxy}
+use Rattle.law_node_history.proofs.Vocabulary.{reader_of, Makers, AllAccepted, LegsComeUpOnce, happened, all_changed, History, IsNew, all_noted, nothing}
+use Rattle.law_node_history.proofs.Lemmas.{cast_kept, traced_first}
+use Rattle.law_role_outproxy.proofs.Vocabulary.{OutProxy}
 use Rattle.law_node_streams.specs.Streams.{ComesUpWith, IsCookie}
-use Rattle.law_node_traces.specs.Traced.Cookies.{ByChanges}
-use Rattle.law_node_traces.specs.Traced.Numbers.{ComeUpInOrder, HasWholeCookie, HaveWholeCookies, is_made, AreRead}
-use Rattle.law_node_traces.specs.Traced.Ours.{AreOurs, deeds, rules}
-use Rattle.law_node_traces.specs.Traced.Recordings.{IsKnown}
-use Rattle.law_world_order.specs.Flows.{Flows, IsFlowing, numbers_of}
-use Rattle.law_world_order.specs.Premises.{AreDistinct}
 use Rattle.law_peers_moments.specs.Moments.{AreJoined, HaveCookies, IsMoment, passages}
-use Rattle.law_world_order.specs.Pasts.{HasMoment, moves_of, numbers}
+use Rattle.law_node_traces.proofs.Vocabulary.{ByChanges, ComeUpInOrder, HasWholeCookie, HaveWholeCookies, is_made, AreRead, AreOurs, deeds, rules, IsKnown}
 use Rattle.law_world_order.proofs.Pasts.Family.{Family, family, grown_last, last}
 use Rattle.law_world_order.proofs.Pasts.Joins.{HeardOf}
 use Rattle.law_world_order.proofs.Pasts.Legal.{have_cookies}
 use Rattle.law_world_order.proofs.Pasts.Made.{made}
 use Rattle.law_world_order.proofs.Pasts.Once.{comes_up_under_one}
-use Rattle.law_world_order.proofs.Pasts.Pasts.{AreSized, Here, Laws, OurWorld, Whole, first_is, flowing_at, heard_now, joined_then, last_is, legs_then, pasts}
+use Rattle.law_world_order.proofs.Pasts.Pasts.{AreSized, Here, Laws, Whole, first_is, flowing_at, heard_now, joined_then, last_is, legs_then, pasts}
+use Rattle.law_world_order.proofs.Moments.{OurWorld}
+use Rattle.law_world_order.proofs.Vocabulary.{Flows, IsFlowing, numbers_of, AreDistinct, HasMoment, moves_of, numbers}
 
 whole_cookie : (event : Event) → HasWholeCookie event → ComesUpWith IsCookie event
 whole_cookie (ComesUp leg cookie) is = is

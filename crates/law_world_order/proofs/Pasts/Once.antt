@@ -1,19 +1,9 @@
 -- a leg comes up once at an end, under one cookie (MS-RPCH 2.2.3.1)
-use Rattle.std.proofs.Common.{◌≡◌, ◌⊎◌, inl, inr, List, [], ◌∷◌, ◌++◌, Bool, true, false, ◌||◌, refl, sym, ap, ◌∙◌, subst}
-use Rattle.rh_rts.specs.declared.command.Cookie.{Cookie}
-use Rattle.rh_line.specs.declared.leg.Leg.{Leg}
-use Rattle.rh_shell.specs.Rules.{Acts, Rules}
-use Rattle.rh_shell.specs.Shells.{Shell, may_up}
-use Rattle.law_moves.specs.Moving.{ComesUp, EndEvent, Happens, IsClosed, IsGiven, IsRecycled, IsTaken, after_end_events}
-use Rattle.law_moves.specs.Passages.Rising.{CameUpWith}
-use Rattle.law_node_history.specs.Carried.{AreAcceptedAtEnd, ComesUpOnceAtEnd, IsAcceptedAtEnd, came_up, happened}
-use Rattle.law_node_history.proofs.Appended.{came_append, end_accepted_append, happened_append}
-use Rattle.law_node_history.proofs.Runs.{end_events_append}
-use Rattle.law_node_history.proofs.Wired.{same_itself}
-
-or_true : (b : Bool) → (b || true) ≡ true
-or_true true = refl
-or_true false = refl
+use Rattle.law_order.proofs.Vocabulary.{◌≡◌, ◌⊎◌, inl, inr, List, [], ◌∷◌, ◌++◌, Bool, true, false, ◌||◌, sym, ap, ◌∙◌, subst}
+use Rattle.law_moves.proofs.Vocabulary.{Cookie, Leg, Acts, Rules, Shell, may_up, ComesUp, EndEvent, Happens, IsClosed, IsGiven, IsRecycled, IsTaken, after_end_events, CameUpWith}
+use Rattle.law_node_history.proofs.Lemmas.{came_append, end_accepted_append, happened_append, end_events_append, same_itself}
+use Rattle.law_node_history.proofs.Vocabulary.{AreAcceptedAtEnd, ComesUpOnceAtEnd, IsAcceptedAtEnd, came_up, happened}
+use Rattle.law_node_causes.proofs.Sorts.{or_true}
 
 -- by this event, or by one behind it
 by_one : (event : EndEvent) (later : List EndEvent) (leg : Leg) (cookie : Cookie)

@@ -1,56 +1,38 @@
 -- along changes each front of the moves of an end was all of them at a moment before
-use Rattle.std.proofs.Common.{◌≡◌, ◌≢◌, ◌⊎◌, inl, inr, ℕ, suc, ◌-◌, List, [], ◌∷◌, Bool, true, arith, refl, sym, ap, ◌∙◌, subst}
-use Rattle.std.specs.declared.option.Option.{Option}
-use Rattle.std.proofs.lemmas.Bool.{cases_eq}
-use mathlib.Core.List.{IsPrefix}
-use Rattle.law_order.proofs.Prefixes.{prefix_self}
-use Rattle.rh_text.specs.declared.ends.Dir.{Dir}
-use Rattle.rh_text.specs.declared.ends.Side.{Side}
 use Rattle.rh_text.specs.declared.ends.Side.TheVariants as side
-use Rattle.rh_sig.specs.declared.name.Pipe.{Pipe}
-use Rattle.rh_line.specs.declared.leg.Leg.{Leg}
-use Rattle.law_moves.specs.Moves.{EndMove, EndPassage, OnLeg, Passage, all_end_moved, all_moved, end_started, started}
-use Rattle.law_moves.specs.Legible.Legible.{AreLegible}
-use Rattle.rh_nodes.specs.declared.place.Place.{Place}
-use Rattle.rh_nodes.specs.Opening.{Makers}
-use Rattle.rh_nodes.specs.Readers.{reader_of}
-use Rattle.rh_nodes.specs.Wires.{receiver, sender}
-use Rattle.rh_nodes.specs.World.{World}
-use Rattle.rh_client.specs.declared.state.ClientRole.{ClientRole}
-use Rattle.rh_client.specs.Client as client
-use Rattle.law_role_client.specs.Legible as client_legible
-use Rattle.rh_client.specs.State as client_state
-use Rattle.law_role_inproxy.specs.Legible as in_legible
+use Rattle.law_order.proofs.Vocabulary.{◌≡◌, ◌≢◌, ◌⊎◌, inl, inr, ℕ, suc, ◌-◌, List, [], ◌∷◌, Bool, true, arith, refl, sym, ap, ◌∙◌, subst, Option, cases_eq, IsPrefix}
 use Rattle.rh_inproxy.specs.Machine as in_proxy
-use Rattle.rh_inproxy.specs.State.{InProxy}
 use Rattle.rh_inproxy.specs.State as in_state
-use Rattle.law_role_outproxy.specs.Legible as out_legible
 use Rattle.rh_outproxy.specs.Machine as out_proxy
-use Rattle.rh_outproxy.specs.OutProxy.{OutProxy, new_proxy}
-use Rattle.law_role_server.specs.Legible as server_legible
+use Rattle.rh_client.specs.Client as client
+use Rattle.rh_client.specs.State as client_state
 use Rattle.rh_server.specs.Servers as server
-use Rattle.rh_server.specs.States.{Server}
-use Rattle.law_node_history.specs.Carried.{IsTraced, LegsComeUpOnce, drawn_by, end_node, events_of, heard_on}
-use Rattle.law_node_history.specs.Changes.{AreAllowed, Change, MayChange, all_changed, changed}
-use Rattle.law_node_history.specs.Histories.{History, IsRun, all_noted, noted, nothing}
-use Rattle.law_node_history.proofs.Leading.{cast_stays}
-use Rattle.law_node_history.proofs.Tracing.{change_is_traced}
+use Rattle.law_moves.proofs.Vocabulary.{Dir, Side, prefix_self, Pipe, Leg, EndMove, EndPassage, OnLeg, Passage, all_end_moved, all_moved, end_started, started, AreLegible}
+use Rattle.law_role_inproxy.proofs.Vocabulary.{InProxy}
+use Rattle.law_role_inproxy.specs.Legible as in_legible
+use Rattle.law_role_client.proofs.Vocabulary.{ClientRole}
+use Rattle.law_role_client.specs.Legible as client_legible
+use Rattle.law_role_server.proofs.Vocabulary.{Server}
+use Rattle.law_role_server.specs.Legible as server_legible
+use Rattle.law_node_history.proofs.Vocabulary.{reader_of, receiver, sender, Place, Makers, World, IsTraced, LegsComeUpOnce, drawn_by, end_node, events_of, heard_on, AreAllowed, Change, MayChange, all_changed, changed, History, IsRun, all_noted, noted, nothing}
+use Rattle.law_node_history.proofs.Lemmas.{cast_stays, change_is_traced}
+use Rattle.law_role_outproxy.proofs.Vocabulary.{OutProxy, new_proxy}
+use Rattle.law_role_outproxy.specs.Legible as out_legible
 use Rattle.law_node_streams.proofs.Streams.Ways.{each_of}
-use Rattle.law_node_traces.specs.Traced.Numbers.{AreRead, is_made}
-use Rattle.law_node_traces.specs.Traced.Ours.{AreOurs, deeds, rules}
-use Rattle.law_world_order.specs.Flows.{AllLegible, Flows, IsFlowing, numbers_of}
-use Rattle.law_world_order.specs.Premises.{AreInRange}
+use Rattle.law_peers_moments.specs.Moments.{AreJoined, HaveCookies, IsJoined, IsPast, Moves, ReadInTurn, passages}
+use Rattle.law_node_traces.proofs.Vocabulary.{AreRead, is_made, AreOurs, deeds, rules}
 use Rattle.law_world_order.proofs.Heard.{heard_fine}
 use Rattle.law_world_order.proofs.Starting.{Beginning, starts}
 use Rattle.law_world_order.proofs.Legs.{Reads}
 use Rattle.law_world_order.proofs.Joined.{AreAlone}
-use Rattle.law_peers_moments.specs.Moments.{AreJoined, HaveCookies, IsJoined, IsPast, Moves, ReadInTurn, passages}
-use Rattle.law_world_order.specs.Pasts.{numbers}
 use Rattle.law_world_order.proofs.Pasts.Family.{AllGrow, AllRise, Grown, grown_last, last}
 use Rattle.law_world_order.proofs.Pasts.Joins.{HeardOf, are_joined}
-use Rattle.law_world_order.proofs.Pasts.Legal.{Legalities, all_legible}
+use Rattle.law_world_order.proofs.Pasts.Legal.{all_legible}
 use Rattle.law_world_order.proofs.Pasts.Lists.{cookies_front, one_front}
 use Rattle.law_world_order.proofs.Pasts.Made.{made, moves_with}
+use Rattle.law_world_order.proofs.Moments.{OurWorld}
+use Rattle.law_world_order.proofs.Legal.{Legalities}
+use Rattle.law_world_order.proofs.Vocabulary.{AllLegible, Flows, IsFlowing, numbers_of, AreInRange, numbers}
 
 -- ---- the readers of IN channels
 
@@ -85,9 +67,6 @@ nothing_legible pipe log none =
     subst (AreLegible pipe) (sym none) (record { may_go = tt; read_back = tt })
 
 -- ---- the laws that this stands on
-
-abbrev pub OurWorld : Type 0 → Type 0
-OurWorld K = World K ClientRole Server InProxy OutProxy
 
 module _ {K : Type 0} (m : Makers K InProxy OutProxy) (w : OurWorld K)
     (ours : AreOurs m w.company w.cast) where

@@ -1,10 +1,8 @@
 -- settings keep the numbers of a world in their ranges
-use Rattle.std.proofs.Common.{◌≡◌, ℕ, Bool, true, false, IsTrue, if◌then◌else◌, refl, rules}
-use Rattle.rh_record.specs.declared.line.Key.{Key}
+use Rattle.law_order.proofs.Vocabulary.{◌≡◌, ℕ, Bool, true, false, IsTrue, if◌then◌else◌, refl, rules}
 use Rattle.rh_record.specs.declared.line.Key.TheVariants.{Cwin, Iwin, Owin, Swin, Ilife, Olife, Itime, Otime, Keep, Same}
-use Rattle.rh_record.specs.Words.{takes}
-use Rattle.rh_world.specs.declared.config.WorldConfig.{WorldConfig}
-use Rattle.rh_world.specs.Config.{AreInRange, roles_config, setting, with_number}
+use Rattle.law_node_history.proofs.Vocabulary.{Key, takes}
+use Rattle.law_world_reports.proofs.Vocabulary.{WorldConfig, AreInRange, roles_config, setting, with_number}
 
 pub first_in_range : AreInRange roles_config
 first_in_range = record {

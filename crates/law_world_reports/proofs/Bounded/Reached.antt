@@ -1,18 +1,10 @@
 -- changes that lines make lead to each world of roles that a recording comes to, from one that
 -- begins with numbers in their ranges; the cookies of the client's legs are drawn for them
-use Rattle.std.proofs.Common.{List, [], ◌∷◌, true, false}
-use Rattle.rh_record.specs.declared.line.Line.{Line}
-use Rattle.rh_record.specs.declared.line.Line.TheVariants.{First, Set, Give, Take, Close, Send, Move, OpenLeg, OpenSame, BreakLeg, EndLeg, Tick, RecycleIn, RecycleOut, Settle}
-use Rattle.law_node_history.specs.Changes.{ByLines}
-use Rattle.law_node_history.specs.Drawn.{AreDrawnFor, DrawnByLines, all_risen}
-use Rattle.law_node_history.proofs.Drawing.{draws_none, draws_then}
-use Rattle.law_node_history.proofs.Lines.{step_draws}
-use Rattle.rh_world.specs.declared.any_world.AnyWorld.{AnyWorld}
-use Rattle.rh_world.specs.declared.any_world.AnyWorld.TheVariants.{Before, Direct, Settings, Roles}
-use Rattle.rh_world.specs.declared.config.WorldConfig.{WorldConfig}
-use Rattle.rh_world.specs.Any.{act, after, prepared, step}
-use Rattle.rh_world.specs.Config.{AreInRange}
+use Rattle.law_order.proofs.Vocabulary.{List, [], ◌∷◌, true, false}
+use Rattle.law_node_history.proofs.Vocabulary.{Line, First, Set, Give, Take, Close, Send, Move, OpenLeg, OpenSame, BreakLeg, EndLeg, Tick, RecycleIn, RecycleOut, Settle, ByLines, AreDrawnFor, DrawnByLines, all_risen}
+use Rattle.law_node_history.proofs.Lemmas.{draws_none, draws_then, step_draws}
 use Rattle.rh_world.specs.Roles as roles
+use Rattle.law_world_reports.proofs.Vocabulary.{AnyWorld, Before, Direct, Settings, Roles, WorldConfig, act, after, prepared, step, AreInRange}
 use Rattle.law_world_reports.proofs.Bounded.Numbers.{first_in_range, number_in_range}
 
 pub record IsReached (world : roles.World) : Type 0 where

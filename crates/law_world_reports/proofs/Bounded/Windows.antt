@@ -1,43 +1,23 @@
 -- each node of a world of roles holds at most its window, whatever happened there
-use Rattle.std.proofs.Common.{◌≡◌, ℕ, List, refl, sym, subst}
-use Rattle.rh_text.specs.declared.ends.Side.TheVariants.{Server}
-use Rattle.rh_window.specs.Sides.{IsWindow}
-use Rattle.rh_http.specs.declared.config.ClientConfig.{ClientConfig}
+use Rattle.law_order.proofs.Vocabulary.{◌≡◌, ℕ, List, refl, sym, subst}
 use Rattle.rh_line.specs.Lines as lines
-use Rattle.rh_record.specs.declared.line.Line.{Line}
-use Rattle.rh_shell.specs.Rules.{Rules}
-use Rattle.rh_shell.specs.Shells.{Shell, begun}
-use Rattle.rh_inproxy.specs.declared.state.InProxyConfig.{InProxyConfig}
 use Rattle.rh_inproxy.specs.Machine as in_proxies
-use Rattle.rh_inproxy.specs.State.{InProxy}
-use Rattle.rh_outproxy.specs.declared.out_proxy.TheConstants.{ROOMS}
-use Rattle.rh_outproxy.specs.declared.state.OutProxyConfig.{OutProxyConfig}
 use Rattle.rh_outproxy.specs.Machine as out_proxies
-use Rattle.rh_outproxy.specs.OutProxy.{OutProxy, new_proxy}
-use Rattle.rh_client.specs.declared.state.ClientRole.{ClientRole}
 use Rattle.rh_client.specs.Client as clients
 use Rattle.rh_server.specs.Servers as servers
 use Rattle.rh_server.specs.States as states
-use Rattle.rh_nodes.specs.declared.place.Place.{Place}
-use Rattle.rh_nodes.specs.declared.place.Place.TheVariants.{Absent, Here, Gone}
-use Rattle.rh_nodes.specs.Cookies.{cookie_of}
+use Rattle.law_moves.proofs.Vocabulary.{Server, IsWindow, ClientConfig, Rules, Shell, begun, EndEvent, after_events, after_end_events}
 use Rattle.law_moves.specs.Moving as moving
-use Rattle.law_moves.specs.Moving.{EndEvent, after_events, after_end_events}
-use Rattle.law_node_history.specs.Changes.{Leads, Turn, after_turns}
-use Rattle.law_node_history.specs.Histories.{History, AreRuns, IsRun, all_noted, nothing, in_place, out_place}
-use Rattle.law_node_history.proofs.Leading.{cast_kept}
-use Rattle.law_node_history.proofs.Halves.{leads_turns}
-use Rattle.law_node_history.proofs.Noting.{begins, changes_are_noted}
-use Rattle.rh_world.specs.declared.any_world.AnyWorld.{AnyWorld}
-use Rattle.rh_world.specs.declared.any_world.AnyWorld.TheVariants.{Before, Direct, Settings, Roles}
-use Rattle.rh_world.specs.declared.config.WorldConfig.{WorldConfig}
-use Rattle.rh_world.specs.Config.{AreInRange}
+use Rattle.law_role_inproxy.proofs.Vocabulary.{InProxyConfig, InProxy}
+use Rattle.law_role_client.proofs.Vocabulary.{ClientRole}
+use Rattle.law_node_history.proofs.Vocabulary.{Line, Place, Absent, Here, Gone, cookie_of, Leads, Turn, after_turns, History, AreRuns, IsRun, all_noted, nothing, in_place, out_place}
+use Rattle.law_node_history.proofs.Lemmas.{cast_kept, leads_turns, begins, changes_are_noted}
+use Rattle.law_role_outproxy.proofs.Vocabulary.{ROOMS, OutProxyConfig, OutProxy, new_proxy}
 use Rattle.rh_world.specs.Roles as roles
-use Rattle.rh_world.proofs.Ranges.{in_window}
-use Rattle.rh_world.specs.Any.{after}
 use Rattle.law_role_windows.specs.Held.{Holds}
-use Rattle.law_world_reports.specs.Bounded.{HoldsHere, HoldWindows, WindowsHold}
+use Rattle.law_world_reports.proofs.Vocabulary.{in_window, AnyWorld, Before, Direct, Settings, Roles, WorldConfig, AreInRange, after}
 use Rattle.law_world_reports.proofs.Bounded.Reached.{IsRecorded, behind_lines}
+use Rattle.law_world_reports.specs.Bounded.{HoldsHere, HoldWindows, WindowsHold}
 
 -- what each role holds, whatever happens at its node
 pub record RolesHold : Type 0 where

@@ -1,18 +1,9 @@
 -- the lines that connect a leg are changes that tell no node anything
-use Rattle.std.proofs.Common.{◌≡◌, List, [], ◌∷◌, true}
-use Rattle.std.specs.List.{list_all}
-use Rattle.std.proofs.lemmas.Bool.{and_parts}
-use Rattle.rh_line.specs.declared.leg.Leg.{Leg}
-use Rattle.rh_record.specs.declared.answer.Answer.{Answer}
-use Rattle.rh_nodes.specs.Company.{Rulebook}
-use Rattle.rh_nodes.specs.Giving.{Deeds}
-use Rattle.rh_nodes.specs.Opening.{Makers, open_leg, open_same}
-use Rattle.rh_nodes.specs.World.{World}
-use Rattle.law_node_history.specs.Changes.{Change, IsTold, IsFed, changed, is_work}
-use Rattle.law_node_history.specs.Closes.{told_by}
-use Rattle.law_node_history.proofs.Connecting.{Joins, connects, joins_open_leg, joins_open_same, quiet_connects}
-use Rattle.law_node_history.proofs.Working.{all_wider, quiet_work}
-use Rattle.law_world_reports.specs.Closed.Shows.{AreShown, IsShown, ShownWorks}
+use Rattle.law_order.proofs.Vocabulary.{◌≡◌, List, [], ◌∷◌, true, list_all, and_parts}
+use Rattle.law_moves.proofs.Vocabulary.{Leg}
+use Rattle.law_node_history.proofs.Vocabulary.{Answer, Rulebook, Deeds, Makers, open_leg, open_same, World, Change, IsTold, IsFed, changed, is_work, told_by}
+use Rattle.law_node_history.proofs.Lemmas.{Joins, connects, joins_open_leg, joins_open_same, quiet_connects, all_wider, quiet_work}
+use Rattle.law_world_reports.proofs.Vocabulary.{AreShown, IsShown, ShownWorks}
 
 module _ {K C S I O : Type 0} (r : Rulebook C S I O) (m : Makers K I O) (d : Deeds C S)
     (all : List Answer) where

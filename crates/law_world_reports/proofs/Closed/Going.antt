@@ -1,15 +1,9 @@
 -- what is done, and answers that show what it tells
-use Rattle.std.proofs.Common.{List, [], ◌∷◌, ◌++◌, inl, inr}
-use Rattle.rh_record.specs.declared.answer.Answer.{Answer}
-use Rattle.rh_nodes.specs.Company.{Rulebook}
-use Rattle.rh_nodes.specs.Giving.{Deeds}
-use Rattle.rh_nodes.specs.Opening.{Makers}
-use Rattle.rh_nodes.specs.Reports.{and_then}
-use Rattle.rh_nodes.specs.World.{World}
-use Rattle.law_node_history.specs.Closes.{IsOneOf}
-use Rattle.law_node_history.proofs.Reported.{one_behind}
-use Rattle.law_world_reports.specs.Closed.Shows.{ShownWorks}
+use Rattle.law_order.proofs.Vocabulary.{List, [], ◌∷◌, ◌++◌, inl, inr}
+use Rattle.law_node_history.proofs.Vocabulary.{Answer, Rulebook, Deeds, Makers, and_then, World, IsOneOf}
+use Rattle.law_node_history.proofs.Lemmas.{one_behind}
 use Rattle.law_world_reports.proofs.Closed.Showing.{shown_none, shown_then}
+use Rattle.law_world_reports.proofs.Vocabulary.{ShownWorks}
 
 pub one_before : {X : Type 0} (x : X) (xs ys : List X) → IsOneOf x xs → IsOneOf x (xs ++ ys)
 one_before x [] ys h = absurd h

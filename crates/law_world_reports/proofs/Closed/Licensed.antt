@@ -1,54 +1,17 @@
 -- each close that a line reports shows in the line's answers
-use Rattle.std.proofs.Common.{◌≡◌, ℕ, List, [], ◌∷◌, ◌++◌, true, Some, None, refl, sym, ap, ◌∙◌, subst, inl, inr, ⊎_elim}
-use Rattle.std.specs.List.{list_all}
-use Rattle.std.proofs.lemmas.Bool.{and_parts, false≢true}
-use Rattle.std.specs.declared.option.Option.{Option}
-use Rattle.rh_line.specs.declared.cause.Cause.{Cause}
+use Rattle.law_order.proofs.Vocabulary.{◌≡◌, ℕ, List, [], ◌∷◌, ◌++◌, true, Some, None, refl, sym, ap, ◌∙◌, subst, inl, inr, ⊎_elim, list_all, and_parts, false≢true, Option}
 use Rattle.rh_line.specs.declared.cause.Cause.TheVariants as cause
-use Rattle.rh_line.specs.declared.leg.Leg.{Leg}
-use Rattle.rh_line.specs.Texts.{cause_leg}
-use Rattle.rh_record.specs.declared.answer.Answer.{Answer}
 use Rattle.rh_record.specs.declared.answer.Answer.TheVariants as answer
-use Rattle.rh_record.specs.declared.answer.Who.{Who}
-use Rattle.rh_record.specs.declared.answer.Who.TheVariants.{Client, Server, In, Out}
-use Rattle.rh_record.specs.declared.line.Line.{Line}
-use Rattle.rh_shell.specs.declared.course.Course.{Course}
-use Rattle.rh_shell.specs.declared.course.Course.TheVariants.{Going, Closed, Refusing}
-use Rattle.rh_shell.specs.Hearing.{hear}
-use Rattle.rh_shell.specs.NearEnds.{NearEnd}
-use Rattle.rh_shell.specs.Rules.{Rules}
-use Rattle.rh_shell.specs.Shells.{Shell, bytes_at, bytes_by, end_at}
-use Rattle.rh_nodes.specs.declared.closing.Closing.{Closing}
-use Rattle.rh_nodes.specs.declared.event.Event.{Event}
-use Rattle.rh_nodes.specs.declared.event.Event.TheVariants.{Comes, Ends, Breaks, Passes}
-use Rattle.rh_nodes.specs.declared.place.Place.{Place}
-use Rattle.rh_nodes.specs.declared.place.Place.TheVariants.{Absent, Here, Gone}
-use Rattle.rh_nodes.specs.Closings.{lines}
-use Rattle.rh_nodes.specs.Company as company
-use Rattle.rh_nodes.specs.Company.{Company, Rulebook}
-use Rattle.rh_nodes.specs.Giving.{Deeds}
-use Rattle.rh_nodes.specs.Opening.{Makers}
-use Rattle.rh_nodes.specs.Places as places
-use Rattle.rh_nodes.specs.Steps.{step, step_line}
-use Rattle.rh_nodes.specs.Telling as telling
-use Rattle.rh_nodes.specs.World.{World}
-use Rattle.law_moves.specs.Laws.{ClosedWith}
-use Rattle.law_node_history.specs.Changes.{Change, Works, changed, all_changed}
-use Rattle.law_node_history.specs.Closes.{IsOneOf, IsClosedBy, told_by}
-use Rattle.law_node_history.specs.Histories.{in_place, out_place}
-use Rattle.law_node_history.proofs.Answering.{is_other}
-use Rattle.law_node_history.proofs.Closed.{told_closes, told_silent}
-use Rattle.law_node_history.proofs.Lines.{goes_step_line as goes_lines}
-use Rattle.law_node_history.proofs.Numbers.{answered}
-use Rattle.law_node_history.proofs.Reporting.{changes_close, one_of_lines}
+use Rattle.rh_company.specs.Company as company
+use Rattle.rh_company.specs.Places as places
+use Rattle.rh_company.specs.Telling as telling
+use Rattle.law_moves.proofs.Vocabulary.{Cause, Leg, cause_leg, Course, Going, Closed, Refusing, hear, NearEnd, Rules, Shell, bytes_at, bytes_by, end_at, ClosedWith}
+use Rattle.law_node_history.proofs.Vocabulary.{Answer, Who, Client, Server, In, Out, Line, Closing, Event, Comes, Ends, Breaks, Passes, Place, Absent, Here, Gone, lines, Company, Rulebook, Deeds, Makers, step, step_line, World, Change, Works, changed, all_changed, IsOneOf, IsClosedBy, told_by, in_place, out_place}
+use Rattle.law_node_history.proofs.Lemmas.{is_other, told_closes, told_silent, goes_step_line as goes_lines, answered, changes_close, one_of_lines, some_none}
 use Rattle.law_node_causes.specs.Closings.{ClosesWith, MayClose}
 use Rattle.law_node_causes.specs.Reasons.{RefusesHead, IsOfPiece}
-use Rattle.law_world_reports.specs.Closed.Shows.{Shows, ShowsPiece, IsShown, AreShown, ShownWorks}
-use Rattle.law_world_reports.specs.Closed.Licences.{MayCloseThere, MayCloseAt, ShowsMove, ShowsCause, IsPieceOn, IsEventOf, IsLicensed}
 use Rattle.law_world_reports.proofs.Closed.Lines.{goes_step_line}
-
-some_none : {A : Type 0} (x : A) → Some x ≡ None → ⊥
-some_none x e = absurd cc
+use Rattle.law_world_reports.proofs.Vocabulary.{Shows, ShowsPiece, IsShown, AreShown, ShownWorks, MayCloseThere, MayCloseAt, ShowsMove, ShowsCause, IsPieceOn, IsEventOf, IsLicensed}
 
 -- ---- what is reported closed was noted
 

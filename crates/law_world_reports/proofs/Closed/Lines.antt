@@ -1,23 +1,14 @@
 -- what each line tells shows in its answers
-use Rattle.std.proofs.Common.{◌≡◌, List, true, Some, None, refl, ap, inl, inr}
-use Rattle.std.specs.declared.option.Option.{Option}
-use Rattle.rh_record.specs.declared.answer.Answer.{Answer}
+use Rattle.law_order.proofs.Vocabulary.{◌≡◌, List, true, Some, None, refl, ap, inl, inr, Option}
 use Rattle.rh_record.specs.declared.answer.Answer.TheVariants as answer
-use Rattle.rh_record.specs.declared.line.Line.{Line}
 use Rattle.rh_record.specs.declared.line.Line.TheVariants as line
-use Rattle.rh_nodes.specs.Company.{Rulebook}
-use Rattle.rh_nodes.specs.Giving.{Deeds}
-use Rattle.rh_nodes.specs.Opening.{Makers}
-use Rattle.rh_nodes.specs.Steps.{reported, ending_answer, leg_answer, answer_of, step_line}
-use Rattle.rh_nodes.specs.World.{World}
-use Rattle.law_node_history.specs.Changes.{Gives, Takes, Closes, RecyclesIn, RecyclesOut}
-use Rattle.law_node_history.specs.Closes.{IsOneOf}
-use Rattle.law_world_reports.specs.Closed.Shows.{ShownWorks}
+use Rattle.law_node_history.proofs.Vocabulary.{Answer, Line, Rulebook, Deeds, Makers, reported, ending_answer, leg_answer, answer_of, step_line, World, Gives, Takes, Closes, RecyclesIn, RecyclesOut, IsOneOf}
 use Rattle.law_world_reports.proofs.Closed.Showing.{shown_none, shown_one}
 use Rattle.law_world_reports.proofs.Closed.Connected.{shown_open_leg, shown_open_same}
 use Rattle.law_world_reports.proofs.Closed.Losing.{shown_break_leg, shown_end_leg, shown_send, shown_feed, shown_tick}
 use Rattle.law_world_reports.proofs.Closed.Going.{Goes}
 use Rattle.law_world_reports.proofs.Closed.Rounds.{goes_settle}
+use Rattle.law_world_reports.proofs.Vocabulary.{ShownWorks}
 
 -- the answer of a line, where it has one
 abbrev pub Has : List Answer → Option Answer → Type 0

@@ -1,31 +1,16 @@
 -- what the lines tell by which a leg is lost, bytes are carried or time passes, they answer
-use Rattle.std.proofs.Common.{◌≡◌, ℕ, List, [], Bool, true, false, ◌&&◌, if◌then◌else◌, length, Some, None, refl, ◌⊎◌, inl, inr}
-use Rattle.std.specs.Prelude.{nat_le}
-use Rattle.std.proofs.lemmas.Bool.{leb-true}
-use Rattle.rh_text.specs.declared.ends.Dir.{Dir}
-use Rattle.rh_text.specs.declared.ends.Side.{Side}
 use Rattle.rh_text.specs.declared.ends.Side.TheVariants as side
-use Rattle.rh_line.specs.declared.leg.Leg.{Leg}
-use Rattle.rh_record.specs.declared.answer.Answer.{Answer}
+use Rattle.law_order.proofs.Vocabulary.{◌≡◌, ℕ, List, [], Bool, true, false, ◌&&◌, if◌then◌else◌, length, Some, None, refl, ◌⊎◌, inl, inr, nat_le, leb-true}
 use Rattle.rh_record.specs.declared.answer.Answer.TheVariants as answer
-use Rattle.rh_record.specs.declared.answer.Who.{Who}
 use Rattle.rh_record.specs.declared.answer.Who.TheVariants as who
-use Rattle.rh_nodes.specs.declared.event.Event.{Event}
-use Rattle.rh_nodes.specs.declared.event.Event.TheVariants.{Ends, Breaks, Passes}
-use Rattle.rh_nodes.specs.Breaking.{is_up, lost, lose, refuse, break_leg, end_leg}
-use Rattle.rh_nodes.specs.Carrying.{send, sent, draw_into, feed, fed}
-use Rattle.rh_nodes.specs.Company as company
-use Rattle.rh_nodes.specs.Company.{Rulebook}
-use Rattle.rh_nodes.specs.Giving.{Deeds}
-use Rattle.rh_nodes.specs.Legs as legs
-use Rattle.rh_nodes.specs.Opening.{Makers}
-use Rattle.rh_nodes.specs.Time.{tick, tick_all, tick_ins, tick_outs, at_moment}
-use Rattle.rh_nodes.specs.Wires.{sender, receiver}
-use Rattle.rh_nodes.specs.World.{World, at, tell}
-use Rattle.law_node_history.specs.Changes.{IsTold, IsFed, IsDrawn, GoesDown, MovesTo, HasUp, MayBeTold}
-use Rattle.law_node_history.specs.Closes.{IsOneOf}
-use Rattle.law_world_reports.specs.Closed.Shows.{Shows, ShownWorks}
+use Rattle.rh_wires.specs.Legs as legs
+use Rattle.rh_company.specs.Company as company
+use Rattle.rh_nodes.specs.Time.{at_moment}
+use Rattle.rh_nodes.specs.World.{tell}
+use Rattle.law_moves.proofs.Vocabulary.{Dir, Side, Leg}
+use Rattle.law_node_history.proofs.Vocabulary.{Answer, Who, sender, receiver, Event, Ends, Breaks, Passes, Rulebook, is_up, lost, lose, refuse, break_leg, end_leg, send, sent, draw_into, feed, fed, Deeds, Makers, tick, tick_all, tick_ins, tick_outs, World, at, IsTold, IsFed, IsDrawn, GoesDown, MovesTo, HasUp, MayBeTold, IsOneOf}
 use Rattle.law_world_reports.proofs.Closed.Showing.{ShownOk, shown_none, shown_one, shown_then, shown_more, shown_for_each}
+use Rattle.law_world_reports.proofs.Vocabulary.{Shows, ShownWorks}
 
 module _ {K C S I O : Type 0} (r : Rulebook C S I O) (m : Makers K I O) (d : Deeds C S)
     (all : List Answer) where

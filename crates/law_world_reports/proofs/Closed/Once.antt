@@ -1,19 +1,11 @@
 -- a recording reports a node as closed once at most
-use Rattle.std.proofs.Common.{◌≡◌, ◌≤◌, List, [], ◌∷◌, ◌++◌, true, false, refl, sym, ap, ◌∙◌, subst, arith}
-use Rattle.rh_record.specs.declared.answer.Answer.{Answer}
-use Rattle.rh_record.specs.declared.answer.Who.{Who}
-use Rattle.rh_record.specs.declared.line.Line.{Line}
-use Rattle.rh_record.specs.declared.line.Line.TheVariants.{First, Set}
+use Rattle.law_order.proofs.Vocabulary.{◌≡◌, ◌≤◌, List, [], ◌∷◌, ◌++◌, true, false, refl, sym, ap, ◌∙◌, subst, arith}
 use Rattle.rh_nodes.specs.Steps as nodes
-use Rattle.law_node_history.specs.Closes.{closings_of}
-use Rattle.law_node_history.proofs.Counting.{told_once}
-use Rattle.rh_world.specs.declared.any_world.AnyWorld.TheVariants.{Before, Direct, Settings, Roles}
-use Rattle.rh_world.specs.declared.config.WorldConfig.{WorldConfig}
-use Rattle.rh_world.specs.Any.{run, told}
-use Rattle.rh_world.specs.Config.{roles_config, with_number}
+use Rattle.law_node_history.proofs.Vocabulary.{Answer, Who, Line, First, Set, closings_of}
+use Rattle.law_node_history.proofs.Lemmas.{told_once}
 use Rattle.rh_world.specs.Direct as direct
-use Rattle.rh_world.specs.Direct.{Deed, Offers, Asks, Draws, Feeds, Nothing, deed}
 use Rattle.rh_world.specs.Roles as roles
+use Rattle.law_world_reports.proofs.Vocabulary.{Before, Direct, Settings, Roles, WorldConfig, run, told, roles_config, with_number, Deed, Offers, Asks, Draws, Feeds, Nothing, deed}
 
 -- the report of a world of roles is that of its nodes
 told_of_roles : (lines : List Line) (w : roles.World)

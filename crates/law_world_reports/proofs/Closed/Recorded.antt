@@ -1,25 +1,12 @@
 -- each line of a recording, whatever its form
-use Rattle.std.proofs.Common.{◌≡◌, List, [], ◌∷◌, true, false, refl, sym, ap, ◌∙◌, inl, inr}
-use Rattle.std.proofs.lemmas.Bool.{false≢true}
-use Rattle.rh_line.specs.declared.cause.Cause.{Cause}
-use Rattle.rh_record.specs.declared.answer.Answer.{Answer}
+use Rattle.law_order.proofs.Vocabulary.{◌≡◌, List, [], ◌∷◌, true, false, refl, sym, ap, ◌∙◌, inl, inr, false≢true}
 use Rattle.rh_record.specs.declared.answer.Answer.TheVariants as answer
-use Rattle.rh_record.specs.declared.answer.Who.{Who}
-use Rattle.rh_record.specs.declared.line.Line.{Line}
-use Rattle.rh_record.specs.declared.line.Line.TheVariants.{First, Set}
-use Rattle.law_node_history.specs.Changes.{Leads}
-use Rattle.law_node_history.specs.Closes.{IsOneOf}
-use Rattle.law_node_history.proofs.Answering.{is_other}
-use Rattle.law_node_history.proofs.Leading.{leads_none, leads_then}
-use Rattle.law_node_history.proofs.Lines.{leads_step}
-use Rattle.rh_world.specs.declared.any_world.AnyWorld.{AnyWorld}
-use Rattle.rh_world.specs.declared.any_world.AnyWorld.TheVariants.{Before, Direct, Settings, Roles}
-use Rattle.rh_world.specs.declared.config.WorldConfig.{WorldConfig}
-use Rattle.rh_world.specs.Any.{act, after, prepared, step}
+use Rattle.law_moves.proofs.Vocabulary.{Cause}
+use Rattle.law_node_history.proofs.Vocabulary.{Answer, Who, Line, First, Set, Leads, IsOneOf}
+use Rattle.law_node_history.proofs.Lemmas.{is_other, leads_none, leads_then, leads_step}
 use Rattle.rh_world.specs.Direct as direct
-use Rattle.rh_world.specs.Direct.{Deed, Offers, Asks, Draws, Feeds, Nothing, deed}
 use Rattle.rh_world.specs.Roles as roles
-use Rattle.law_world_reports.specs.Closed.Recordings.{IsLicensedAt, IsLicensedIn}
+use Rattle.law_world_reports.proofs.Vocabulary.{AnyWorld, Before, Direct, Settings, Roles, WorldConfig, act, after, prepared, step, Deed, Offers, Asks, Draws, Feeds, Nothing, deed, IsLicensedAt, IsLicensedIn}
 
 -- ---- worlds of roles come from new ones
 

@@ -1,55 +1,23 @@
 -- only a client is refused, by what moved towards it
-use Rattle.std.proofs.Common.{◌≡◌, ℕ, List, [], ◌∷◌, ◌++◌, get_or, Some, None, refl, ap, sym, ◌∙◌, subst}
-use Rattle.rh_text.specs.declared.ends.Dir.{Dir}
-use Rattle.rh_text.specs.declared.ends.Dir.TheVariants.{U, D}
-use Rattle.rh_text.specs.declared.ends.Side.{Side}
 use Rattle.rh_text.specs.declared.ends.Side.TheVariants as side
-use Rattle.rh_line.specs.declared.cause.Cause.{Cause}
+use Rattle.law_order.proofs.Vocabulary.{◌≡◌, ℕ, List, [], ◌∷◌, ◌++◌, get_or, Some, None, refl, ap, sym, ◌∙◌, subst}
 use Rattle.rh_line.specs.declared.cause.Cause.TheVariants as cause
-use Rattle.rh_line.specs.declared.leg.Leg.{Leg}
-use Rattle.rh_line.specs.declared.leg.LegKind.{LegKind}
-use Rattle.rh_line.specs.declared.leg.LegKind.TheVariants.{ClientOut, OutServer, ClientIn, InServer}
-use Rattle.rh_record.specs.declared.answer.Answer.{Answer}
 use Rattle.rh_record.specs.declared.answer.Answer.TheVariants as answer
-use Rattle.rh_record.specs.declared.answer.Who.{Who}
-use Rattle.rh_record.specs.declared.answer.Who.TheVariants.{Client, Server, In, Out}
-use Rattle.rh_record.specs.declared.line.Line.{Line}
-use Rattle.rh_shell.specs.Rules.{Rules}
-use Rattle.rh_shell.specs.Shells.{Shell}
-use Rattle.rh_inproxy.specs.State.{InProxy}
 use Rattle.rh_inproxy.specs.Machine as in_proxies
-use Rattle.rh_outproxy.specs.OutProxy.{OutProxy}
 use Rattle.rh_outproxy.specs.Machine as out_proxies
-use Rattle.rh_client.specs.declared.state.ClientRole.{ClientRole}
 use Rattle.rh_client.specs.Client as clients
 use Rattle.rh_server.specs.Servers as servers
-use Rattle.rh_nodes.specs.declared.event.Event.{Event}
-use Rattle.rh_nodes.specs.declared.event.Event.TheVariants.{Comes}
-use Rattle.rh_nodes.specs.declared.place.Place.{Place}
-use Rattle.rh_nodes.specs.declared.place.Place.TheVariants.{Absent, Here, Gone}
-use Rattle.rh_nodes.specs.Company as company
-use Rattle.rh_nodes.specs.Company.{Rulebook}
-use Rattle.rh_nodes.specs.Numbered.{act}
-use Rattle.rh_nodes.specs.Giving.{Deeds}
-use Rattle.rh_nodes.specs.Opening.{Makers}
-use Rattle.rh_nodes.specs.Places as places
-use Rattle.rh_nodes.specs.Readers.{reader_of}
-use Rattle.rh_nodes.specs.Steps.{step_line}
-use Rattle.rh_nodes.specs.Wires.{receiver}
-use Rattle.rh_nodes.specs.World.{World, node_by}
-use Rattle.law_moves.specs.Moving.{EndEvent, after_end_events}
-use Rattle.law_node_history.specs.Changes.{Change, AreAllowed, Leads, changed}
-use Rattle.law_node_history.specs.Closes.{IsOneOf}
-use Rattle.law_node_history.specs.Histories.{AreRuns, all_noted, in_place, out_place, nothing}
-use Rattle.law_node_history.proofs.Leading.{leads_then}
-use Rattle.law_node_history.proofs.Noting.{begins, changes_are_noted}
-use Rattle.law_node_history.proofs.Numbers.{answered}
+use Rattle.rh_company.specs.Company as company
+use Rattle.rh_company.specs.Places as places
+use Rattle.law_moves.proofs.Vocabulary.{Dir, U, D, Side, Cause, Leg, LegKind, ClientOut, OutServer, ClientIn, InServer, Rules, Shell, EndEvent, after_end_events}
+use Rattle.law_role_inproxy.proofs.Vocabulary.{InProxy}
+use Rattle.law_role_client.proofs.Vocabulary.{ClientRole}
+use Rattle.law_node_history.proofs.Vocabulary.{Answer, Who, Client, Server, In, Out, Line, act, reader_of, receiver, Event, Comes, Place, Absent, Here, Gone, Rulebook, Deeds, Makers, step_line, World, node_by, Change, AreAllowed, Leads, changed, IsOneOf, AreRuns, all_noted, nothing}
+use Rattle.law_node_history.proofs.Lemmas.{leads_then, begins, changes_are_noted, answered}
 use Rattle.law_node_causes.specs.Closings.{ClosesWith, IsResponse}
-use Rattle.rh_world.specs.declared.any_world.AnyWorld.{AnyWorld}
-use Rattle.rh_world.specs.declared.any_world.AnyWorld.TheVariants.{Before, Direct, Settings, Roles}
+use Rattle.law_role_outproxy.proofs.Vocabulary.{OutProxy}
 use Rattle.rh_world.specs.Roles as roles
-use Rattle.law_world_reports.specs.Closed.Licences.{IsLicensed, ShowsMove, midst}
-use Rattle.law_world_reports.specs.Closed.Recordings.{IsLicensedAt, IsLicensedIn, RefusesClient, IsRefusedIn}
+use Rattle.law_world_reports.proofs.Vocabulary.{AnyWorld, Before, Direct, Settings, Roles, IsLicensed, ShowsMove, midst, IsLicensedAt, IsLicensedIn, RefusesClient, IsRefusedIn}
 use Rattle.law_world_reports.proofs.Closed.Recorded.{IsReached, Reached}
 
 -- ---- towards the client

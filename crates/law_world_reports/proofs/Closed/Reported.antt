@@ -1,26 +1,13 @@
 -- each cause shows in the report
-use Rattle.std.proofs.Common.{List, true, Some, inl, inr, ⊎_elim}
-use Rattle.rh_line.specs.declared.cause.Cause.{Cause}
+use Rattle.law_order.proofs.Vocabulary.{List, true, Some, inl, inr, ⊎_elim}
 use Rattle.rh_line.specs.declared.cause.Cause.TheVariants as cause
-use Rattle.rh_line.specs.declared.leg.Leg.{Leg}
-use Rattle.rh_line.specs.Texts.{cause_leg}
-use Rattle.rh_record.specs.declared.answer.Answer.{Answer}
 use Rattle.rh_record.specs.declared.answer.Answer.TheVariants as answer
-use Rattle.rh_record.specs.declared.answer.Who.{Who}
-use Rattle.rh_record.specs.declared.line.Line.{Line}
-use Rattle.rh_nodes.specs.declared.event.Event.{Event}
-use Rattle.rh_nodes.specs.Closings.{lines}
-use Rattle.rh_nodes.specs.Steps.{step_line}
-use Rattle.rh_nodes.specs.World.{World}
-use Rattle.rh_world.specs.declared.any_world.AnyWorld.{AnyWorld}
-use Rattle.rh_world.specs.declared.any_world.AnyWorld.TheVariants.{Before, Direct, Settings, Roles}
-use Rattle.rh_world.specs.Any.{act}
+use Rattle.law_moves.proofs.Vocabulary.{Cause, Leg, cause_leg}
+use Rattle.law_node_history.proofs.Vocabulary.{Answer, Who, Line, Event, lines, step_line, World}
 use Rattle.rh_world.specs.Roles as roles
-use Rattle.law_world_reports.specs.Closed.Licences.{ShowsCause, ShowsMove, midst}
-use Rattle.law_world_reports.specs.Closed.Recordings.{IsLicensedIn}
-use Rattle.law_world_reports.specs.Closed.Reports.{Moved, ShowsIn}
-use Rattle.law_world_reports.specs.Closed.Shows.{ShowsLoss}
+use Rattle.law_world_reports.proofs.Vocabulary.{AnyWorld, Before, Direct, Settings, Roles, act, ShowsCause, ShowsMove, midst, IsLicensedIn, ShowsLoss}
 use Rattle.law_world_reports.proofs.Closed.Going.{AreIn, one_before}
+use Rattle.law_world_reports.specs.Closed.Reports.{Moved, ShowsIn}
 
 module _ {K C S I O : Type 0} (answers all : List Answer) (are_in : AreIn answers all)
     (w : World K C S I O) (node : Who) (event : Event) where

@@ -1,27 +1,15 @@
 -- what each round of settling tells shows in what it reports
-use Rattle.std.proofs.Common.{ℕ, List, [], ◌∷◌, Bool, true, false, Some, None, refl, sym, ap, subst, ◌≡◌, ◌⊎◌, inl, inr}
-use Rattle.std.specs.declared.option.Option.{Option}
-use Rattle.rh_text.specs.declared.ends.Dir.{Dir}
-use Rattle.rh_text.specs.declared.ends.Side.{Side}
-use Rattle.rh_line.specs.declared.leg.Leg.{Leg}
-use Rattle.rh_record.specs.declared.answer.Answer.{Answer}
+use Rattle.law_order.proofs.Vocabulary.{ℕ, List, [], ◌∷◌, Bool, true, false, Some, None, refl, sym, ap, subst, ◌≡◌, ◌⊎◌, inl, inr, Option}
 use Rattle.rh_record.specs.declared.answer.Answer.TheVariants as answer
-use Rattle.rh_record.specs.declared.answer.TakeAnswer.{TakeAnswer}
 use Rattle.rh_record.specs.declared.answer.TakeAnswer.TheVariants as takes
-use Rattle.rh_nodes.specs.Carrying.{send, feed}
-use Rattle.rh_nodes.specs.Company.{Rulebook}
-use Rattle.rh_nodes.specs.Giving.{Deeds, take, has_ended}
-use Rattle.rh_nodes.specs.Opening.{Makers, open_leg, open_same}
-use Rattle.rh_nodes.specs.Settling.{opened, opened_same, most_bytes, carry_bytes, carried, carry, took, take_one, ended, end_where, settle}
-use Rattle.rh_nodes.specs.World.{World}
-use Rattle.law_node_history.specs.Changes.{Takes}
-use Rattle.law_node_history.specs.Closes.{IsOneOf}
-use Rattle.law_node_history.proofs.Rounds.{carries_go, ends_go, opens_go, rounds_go}
-use Rattle.law_world_reports.specs.Closed.Shows.{ShownWorks}
+use Rattle.law_moves.proofs.Vocabulary.{Dir, Side, Leg}
+use Rattle.law_node_history.proofs.Vocabulary.{Answer, TakeAnswer, Rulebook, send, feed, Deeds, take, has_ended, Makers, open_leg, open_same, opened, opened_same, most_bytes, carry_bytes, carried, carry, took, take_one, ended, end_where, settle, World, Takes, IsOneOf}
+use Rattle.law_node_history.proofs.Lemmas.{carries_go, ends_go, opens_go, rounds_go}
 use Rattle.law_world_reports.proofs.Closed.Showing.{shown_none, shown_one, shown_then}
 use Rattle.law_world_reports.proofs.Closed.Going.{Goes, Quiet, goes_none, goes_and_then}
 use Rattle.law_world_reports.proofs.Closed.Losing.{shown_end_leg, shown_send, shown_feed}
 use Rattle.law_world_reports.proofs.Closed.Connected.{shown_open_leg, shown_open_same}
+use Rattle.law_world_reports.proofs.Vocabulary.{ShownWorks}
 
 module _ {K C S I O : Type 0} (r : Rulebook C S I O) (m : Makers K I O) (d : Deeds C S) where
   opened_goes : (w : World K C S I O) (leg : Leg) (did : World K C S I O × Bool)

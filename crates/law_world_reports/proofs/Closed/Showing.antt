@@ -1,16 +1,8 @@
 -- changes behind changes, whose tellings some answers show
-use Rattle.std.proofs.Common.{◌≡◌, ℕ, zero, suc, List, [], ◌∷◌, ◌++◌, Bool, true, ◌&&◌, sym, subst}
-use Rattle.rh_record.specs.declared.answer.Answer.{Answer}
-use Rattle.rh_nodes.specs.Company.{Rulebook}
-use Rattle.rh_nodes.specs.Giving.{Deeds}
-use Rattle.rh_nodes.specs.Opening.{Makers}
-use Rattle.rh_nodes.specs.Time.{for_each}
-use Rattle.rh_nodes.specs.World.{World}
-use Rattle.law_node_history.specs.Changes.{Change, MayChange, changed, all_changed, is_work}
-use Rattle.law_node_history.specs.Closes.{told_by}
-use Rattle.law_node_history.proofs.Drawing.{DrawsWork, draws_none, draws_one, draws_then, is_steady}
-use Rattle.law_node_history.proofs.Working.{works_none}
-use Rattle.law_world_reports.specs.Closed.Shows.{IsShown, AreShown, ShownWorks}
+use Rattle.law_order.proofs.Vocabulary.{◌≡◌, ℕ, zero, suc, List, [], ◌∷◌, ◌++◌, Bool, true, ◌&&◌, sym, subst}
+use Rattle.law_node_history.proofs.Vocabulary.{Answer, Rulebook, Deeds, Makers, for_each, World, Change, MayChange, changed, all_changed, is_work, told_by}
+use Rattle.law_node_history.proofs.Lemmas.{DrawsWork, draws_none, draws_one, draws_then, is_steady, works_none}
+use Rattle.law_world_reports.proofs.Vocabulary.{IsShown, AreShown, ShownWorks}
 
 module _ {K C S I O : Type 0} (r : Rulebook C S I O) (m : Makers K I O) (d : Deeds C S)
     (all : List Answer) where

@@ -1,43 +1,26 @@
 -- only a client and an in proxy fall silent, by what happened at them
-use Rattle.std.proofs.Common.{◌≡◌, ℕ, List, Some, None, refl, sym, ◌∙◌, subst}
-use Rattle.rh_http.specs.declared.config.ClientConfig.{ClientConfig}
-use Rattle.rh_line.specs.declared.cause.Cause.{Cause}
+use Rattle.law_order.proofs.Vocabulary.{◌≡◌, ℕ, List, Some, None, refl, sym, ◌∙◌, subst}
 use Rattle.rh_line.specs.declared.cause.Cause.TheVariants as cause
-use Rattle.rh_line.specs.declared.leg.Leg.{Leg}
-use Rattle.rh_record.specs.declared.answer.Who.{Who}
-use Rattle.rh_record.specs.declared.answer.Who.TheVariants.{Client, Server, In, Out}
-use Rattle.rh_record.specs.declared.line.Line.{Line}
-use Rattle.rh_shell.specs.Rules.{Rules}
-use Rattle.rh_shell.specs.Shells.{Shell}
-use Rattle.rh_inproxy.specs.declared.state.InProxyConfig.{InProxyConfig}
 use Rattle.rh_inproxy.specs.Machine as in_proxies
-use Rattle.rh_outproxy.specs.OutProxy.{OutProxy}
 use Rattle.rh_outproxy.specs.Machine as out_proxies
 use Rattle.rh_client.specs.Client as clients
 use Rattle.rh_server.specs.States as states
 use Rattle.rh_server.specs.Servers as servers
-use Rattle.rh_nodes.specs.declared.event.Event.{Event}
-use Rattle.rh_nodes.specs.declared.place.Place.{Place}
-use Rattle.rh_nodes.specs.declared.place.Place.TheVariants.{Absent, Here, Gone}
-use Rattle.rh_nodes.specs.Company as company
-use Rattle.rh_nodes.specs.Cookies.{cookie_of}
-use Rattle.rh_nodes.specs.Places as places
-use Rattle.rh_nodes.specs.World.{World}
+use Rattle.rh_company.specs.Company as company
+use Rattle.rh_company.specs.Places as places
+use Rattle.law_moves.proofs.Vocabulary.{ClientConfig, Cause, Leg, Rules, Shell, EndEvent, after_end_events, after_events}
 use Rattle.law_moves.specs.Moving as moving
-use Rattle.law_moves.specs.Moving.{EndEvent, after_end_events, after_events}
-use Rattle.law_node_history.specs.Histories.{IsRun, all_noted, in_place, nothing}
-use Rattle.law_node_history.proofs.Leading.{cast_kept}
-use Rattle.law_node_history.proofs.Numbers.{answered}
+use Rattle.law_role_inproxy.proofs.Vocabulary.{InProxyConfig}
+use Rattle.law_node_history.proofs.Vocabulary.{Who, Client, Server, In, Out, Line, Event, Place, Absent, Here, Gone, cookie_of, World, IsRun, all_noted, in_place, nothing}
+use Rattle.law_node_history.proofs.Lemmas.{cast_kept, answered}
 use Rattle.law_node_causes.specs.Closings.{ClosesWith}
 use Rattle.law_node_causes.specs.Watching.{ClientFellSilent, InProxyFellSilent}
-use Rattle.rh_world.specs.declared.any_world.AnyWorld.{AnyWorld}
-use Rattle.rh_world.specs.declared.any_world.AnyWorld.TheVariants.{Before, Direct, Settings, Roles}
+use Rattle.law_role_outproxy.proofs.Vocabulary.{OutProxy}
 use Rattle.rh_world.specs.Roles as roles
-use Rattle.law_world_reports.specs.Closed.Licences.{midst}
-use Rattle.law_world_reports.specs.Closed.Recordings.{IsLicensedAt, IsLicensedIn}
-use Rattle.law_world_reports.specs.Closed.Silences.{FellSilent, IsSilentAt, IsSilentIn}
+use Rattle.law_world_reports.proofs.Vocabulary.{AnyWorld, Before, Direct, Settings, Roles, midst, IsLicensedAt, IsLicensedIn}
 use Rattle.law_world_reports.proofs.Closed.Recorded.{IsReached, Reached}
 use Rattle.law_world_reports.proofs.Closed.Refused.{midst_runs, never_at}
+use Rattle.law_world_reports.specs.Closed.Silences.{FellSilent, IsSilentAt, IsSilentIn}
 
 -- ---- nodes
 

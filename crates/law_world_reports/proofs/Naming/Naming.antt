@@ -1,17 +1,10 @@
 -- answers that name a cause where they are of the end
-use Rattle.std.proofs.Common.{◌≡◌, ◌++◌, List, [], ◌∷◌, true, false, IsTrue, Some, refl, sym, ap, ◌∙◌, subst, inl, inr}
-use Rattle.std.specs.List.{list_all}
-use Rattle.std.proofs.lemmas.Bool.{and_parts, false≢true}
-use Rattle.rh_text.specs.declared.ends.Side.{Side}
-use Rattle.rh_line.specs.declared.cause.Cause.{Cause}
-use Rattle.rh_record.specs.declared.answer.Answer.{Answer}
+use Rattle.law_order.proofs.Vocabulary.{◌≡◌, ◌++◌, List, [], ◌∷◌, true, false, IsTrue, Some, refl, sym, ap, ◌∙◌, subst, inl, inr, list_all, and_parts, false≢true}
 use Rattle.rh_record.specs.declared.answer.Answer.TheVariants as answer
-use Rattle.rh_nodes.specs.declared.closing.Closing.{Closing}
-use Rattle.rh_nodes.specs.Closings.{lines}
-use Rattle.law_node_history.specs.Closes.{IsOneOf}
-use Rattle.law_node_history.proofs.Answering.{is_other}
-use Rattle.law_world_reports.specs.Telling.{node_of}
-use Rattle.law_world_reports.specs.Naming.{Names, NamesIt, cause_told, tells_of}
+use Rattle.law_moves.proofs.Vocabulary.{Side, Cause}
+use Rattle.law_node_history.proofs.Vocabulary.{Answer, Closing, lines, IsOneOf}
+use Rattle.law_node_history.proofs.Lemmas.{is_other}
+use Rattle.law_world_reports.proofs.Vocabulary.{node_of, Names, NamesIt, cause_told, tells_of}
 
 module _ (end : Side) (why : Cause) where
   pub names_none : Names end why []

@@ -1,17 +1,10 @@
 -- recordings, whatever their form
-use Rattle.std.proofs.Common.{◌≡◌, List, [], ◌∷◌, ◌++◌, true, false, refl, ap, subst}
-use Rattle.rh_record.specs.declared.answer.Answer.{Answer}
-use Rattle.rh_record.specs.declared.line.Line.{Line}
-use Rattle.rh_record.specs.declared.line.Line.TheVariants.{First, Set}
+use Rattle.law_order.proofs.Vocabulary.{◌≡◌, List, [], ◌∷◌, ◌++◌, true, false, refl, ap, subst}
 use Rattle.rh_nodes.specs.Steps as steps
-use Rattle.rh_world.specs.declared.any_world.AnyWorld.TheVariants.{Direct, Settings, Roles}
-use Rattle.rh_world.specs.declared.config.WorldConfig.{WorldConfig}
-use Rattle.rh_world.specs.Any.{run, told}
-use Rattle.rh_world.specs.Config.{roles_config, with_number}
+use Rattle.law_node_history.proofs.Vocabulary.{Answer, Line, First, Set}
 use Rattle.rh_world.specs.Direct as direct
-use Rattle.rh_world.specs.Direct.{Deed, Offers, Asks, Draws, Feeds, Nothing, deed}
 use Rattle.rh_world.specs.Roles as roles
-use Rattle.law_world_reports.specs.Naming.{NamesIt}
+use Rattle.law_world_reports.proofs.Vocabulary.{Direct, Settings, Roles, WorldConfig, run, told, roles_config, with_number, Deed, Offers, Asks, Draws, Feeds, Nothing, deed, NamesIt}
 use Rattle.law_world_reports.proofs.Naming.Naming.{AllName, all_name_it, all_others}
 
 -- a direct world reports no end as closed

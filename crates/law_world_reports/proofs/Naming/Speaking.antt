@@ -1,30 +1,12 @@
 -- what carries, opens and ends legs is answered by no answer of an end
-use Rattle.std.proofs.Common.{ℕ, zero, suc, List, [], ◌∷◌, Bool, true, false, ◌&&◌, if◌then◌else◌, length, Some, None, refl}
-use Rattle.std.specs.Prelude.{nat_le}
-use Rattle.std.specs.declared.option.Option.{Option}
-use Rattle.rh_text.specs.declared.ends.Dir.{Dir}
-use Rattle.rh_text.specs.declared.ends.Dir.TheVariants.{U, D}
-use Rattle.rh_text.specs.declared.ends.Side.{Side}
-use Rattle.rh_line.specs.declared.cause.Cause.{Cause}
-use Rattle.rh_line.specs.declared.leg.Leg.{Leg}
-use Rattle.rh_line.specs.declared.leg.LegKind.{LegKind}
-use Rattle.rh_line.specs.declared.leg.LegKind.TheVariants.{ClientOut, OutServer, ClientIn, InServer}
-use Rattle.rh_record.specs.declared.answer.Answer.{Answer}
+use Rattle.law_order.proofs.Vocabulary.{ℕ, zero, suc, List, [], ◌∷◌, Bool, true, false, ◌&&◌, if◌then◌else◌, length, Some, None, refl, nat_le, Option}
 use Rattle.rh_record.specs.declared.answer.Answer.TheVariants as answer
-use Rattle.rh_record.specs.declared.line.Line.{Line}
 use Rattle.rh_record.specs.declared.line.Line.TheVariants as line
-use Rattle.rh_nodes.specs.Breaking.{break_leg, end_leg}
-use Rattle.rh_nodes.specs.Carrying.{send, feed}
-use Rattle.rh_nodes.specs.Company.{Rulebook}
-use Rattle.rh_nodes.specs.Legs as legs
-use Rattle.rh_nodes.specs.Opening.{Makers, open_leg, open_same, may_open_same}
-use Rattle.rh_nodes.specs.Reports.{and_then, each}
-use Rattle.rh_nodes.specs.Settling.{leg_at, opened, opened_same, open_next, open_next_in, next_number, open_client_outs, open_client_ins, open_out_servers, open_in_servers, open_all, carry_bytes, carried, carry, carry_both, carry_kind, carry_all, ends_now, end_where, end_one, end_kind, end_all}
-use Rattle.rh_nodes.specs.Steps.{reported, ending_answer, leg_answer}
-use Rattle.rh_nodes.specs.Time.{tick}
-use Rattle.rh_nodes.specs.World.{World}
-use Rattle.law_world_reports.specs.Naming.{Names}
+use Rattle.rh_wires.specs.Legs as legs
+use Rattle.law_moves.proofs.Vocabulary.{Dir, U, D, Side, Cause, Leg, LegKind, ClientOut, OutServer, ClientIn, InServer}
+use Rattle.law_node_history.proofs.Vocabulary.{Answer, Line, Rulebook, break_leg, end_leg, send, feed, Makers, open_leg, open_same, may_open_same, and_then, each, leg_at, opened, opened_same, open_next, open_next_in, next_number, open_client_outs, open_client_ins, open_out_servers, open_in_servers, open_all, carry_bytes, carried, carry, carry_both, carry_kind, carry_all, ends_now, end_where, end_one, end_kind, end_all, reported, ending_answer, leg_answer, tick, World}
 use Rattle.law_world_reports.proofs.Naming.Naming.{names_none, names_other, names_append}
+use Rattle.law_world_reports.proofs.Vocabulary.{Names}
 
 module _ {K C S I O : Type 0} (r : Rulebook C S I O) (m : Makers K I O) (end : Side)
     (why : Cause) where

@@ -1,18 +1,7 @@
 -- what the law of closed ends stands on: a closed end tells its cause, and stays closed
-use Rattle.std.proofs.Common.{◌≡◌, []}
-use Rattle.rh_line.specs.declared.cause.Cause.{Cause}
-use Rattle.rh_record.specs.declared.answer.Who.{Who}
-use Rattle.rh_record.specs.declared.answer.Who.TheVariants.{Client, Server}
-use Rattle.rh_record.specs.declared.line.Line.{Line}
-use Rattle.rh_nodes.specs.declared.closing.Closing.{Closing}
-use Rattle.rh_nodes.specs.Company.{Rulebook}
-use Rattle.rh_nodes.specs.Giving.{Deeds}
-use Rattle.rh_nodes.specs.Opening.{Makers}
-use Rattle.rh_nodes.specs.Settling.{open_all, carry_all, end_all}
-use Rattle.rh_nodes.specs.Steps.{step, step_line}
-use Rattle.rh_nodes.specs.World.{World}
-use Rattle.law_node_history.specs.Changes.{Change, Works, GoesQuietly, Leads, MayChange, changed}
-use Rattle.law_node_history.specs.Closes.{ClientTells, HasClosed, IsOneOf, ServerTells}
+use Rattle.law_order.proofs.Vocabulary.{◌≡◌, []}
+use Rattle.law_moves.proofs.Vocabulary.{Cause}
+use Rattle.law_node_history.proofs.Vocabulary.{Who, Client, Server, Line, Closing, Rulebook, Deeds, Makers, open_all, carry_all, end_all, step, step_line, World, Change, Works, GoesQuietly, Leads, MayChange, changed, ClientTells, HasClosed, IsOneOf, ServerTells}
 
 pub record Stands {K C S I O : Type 0} (r : Rulebook C S I O) (m : Makers K I O) (d : Deeds C S)
     : Type 0 where

@@ -1,36 +1,16 @@
 -- each answer of an end that closed names its cause
-use Rattle.std.proofs.Common.{◌≡◌, ◌++◌, ◌+◌, ℕ, zero, suc, List, [], ◌∷◌, Bool, true, false, IsTrue, Some, refl, sym, ap, ◌∙◌, subst, inl, inr}
-use Rattle.std.specs.List.{list_all}
-use Rattle.std.proofs.lemmas.Bool.{and_parts, false≢true}
-use Rattle.rh_text.specs.declared.ends.Side.{Side}
-use Rattle.rh_text.specs.declared.ends.Side.TheVariants.{Client, Server}
-use Rattle.rh_line.specs.declared.cause.Cause.{Cause}
-use Rattle.rh_record.specs.declared.answer.Answer.{Answer}
+use Rattle.law_order.proofs.Vocabulary.{◌≡◌, ◌++◌, ◌+◌, ℕ, zero, suc, List, [], ◌∷◌, Bool, true, false, IsTrue, Some, refl, sym, ap, ◌∙◌, subst, inl, inr, list_all, and_parts, false≢true}
 use Rattle.rh_record.specs.declared.answer.Answer.TheVariants as answer
-use Rattle.rh_record.specs.declared.answer.TakeAnswer.{TakeAnswer}
 use Rattle.rh_record.specs.declared.answer.TakeAnswer.TheVariants as takes
-use Rattle.rh_record.specs.declared.answer.Who.{Who}
 use Rattle.rh_record.specs.declared.answer.Who.TheVariants as who
-use Rattle.rh_record.specs.declared.line.Line.{Line}
 use Rattle.rh_record.specs.declared.line.Line.TheVariants as line
-use Rattle.rh_nodes.specs.declared.closing.Closing.{Closing}
-use Rattle.rh_nodes.specs.Closings.{lines}
-use Rattle.rh_nodes.specs.Company.{Company, Rulebook}
-use Rattle.rh_nodes.specs.Giving.{Deeds, give, has_ended, recycle_in, recycle_out, take}
-use Rattle.rh_nodes.specs.Opening.{Makers}
-use Rattle.rh_nodes.specs.Reports.{and_then}
-use Rattle.rh_nodes.specs.Settling.{open_all, carry_all, took, take_one, take_both, end_all, round, behind_round, rounds_from}
-use Rattle.rh_nodes.specs.Steps.{last, last_of, step, step_line, told}
-use Rattle.rh_nodes.specs.World.{World}
-use Rattle.law_node_history.specs.Changes.{Takes, GoesQuietly}
-use Rattle.law_node_history.specs.Closes.{HasClosed, IsOneOf}
-use Rattle.law_node_history.proofs.Answering.{is_other}
-use Rattle.law_node_history.proofs.Lines.{goes_step_line}
-use Rattle.law_world_reports.specs.Telling.{node_of}
-use Rattle.law_world_reports.specs.Naming.{Names, NamesIt, cause_told, tells_of}
+use Rattle.law_moves.proofs.Vocabulary.{Side, Client, Server, Cause}
+use Rattle.law_node_history.proofs.Vocabulary.{Answer, TakeAnswer, Who, Line, Closing, lines, Company, Rulebook, Deeds, give, has_ended, recycle_in, recycle_out, take, Makers, and_then, open_all, carry_all, took, take_one, take_both, end_all, round, behind_round, rounds_from, last, last_of, step, step_line, told, World, Takes, GoesQuietly, HasClosed, IsOneOf}
+use Rattle.law_node_history.proofs.Lemmas.{is_other, goes_step_line}
 use Rattle.law_world_reports.proofs.Naming.Naming.{AllName, all_append, all_closings, all_name_it, all_others, names_append, names_closings, names_more, names_none, names_one, names_other, names_past}
 use Rattle.law_world_reports.proofs.Naming.Speaking.{carries_say, ends_say, leg_says, opens_say}
 use Rattle.law_world_reports.proofs.Naming.Standing.{Stands}
+use Rattle.law_world_reports.proofs.Vocabulary.{node_of, Names, NamesIt, cause_told, tells_of}
 
 -- ---- the node that an answer reports as closed
 

@@ -1,22 +1,11 @@
 -- the last lines of a report count what it tells of
-use Rattle.std.proofs.Common.{◌≡◌, ◌++◌, ◌+◌, ℕ, List, [], ◌∷◌, sym, ap, ◌∙◌, length, arith}
-use Rattle.std.proofs.lemmas.List.{append-nil, map-append}
-use Rattle.rh_text.specs.declared.ends.Side.{Side}
-use Rattle.rh_text.specs.declared.ends.Side.TheVariants.{Client, Server}
-use Rattle.rh_record.specs.declared.answer.Answer.{Answer}
-use Rattle.rh_record.specs.declared.answer.Answer.TheVariants.{Up, Down}
-use Rattle.rh_record.specs.declared.line.Line.{Line}
-use Rattle.rh_record.specs.Events.Events.{Event, event, events, given, offered, taken}
-use Rattle.rh_nodes.specs.declared.counts.Counts.{Counts}
-use Rattle.rh_nodes.specs.Company.{Rulebook}
-use Rattle.rh_nodes.specs.Counts.{none, one_more}
-use Rattle.rh_nodes.specs.Giving.{Deeds}
-use Rattle.rh_nodes.specs.Opening.{Makers}
-use Rattle.rh_nodes.specs.Steps.{last, last_of, told}
-use Rattle.rh_nodes.specs.World.{World}
-use Rattle.law_world_reports.specs.Ordering.Counted.{CountsCapped, capped_count}
+use Rattle.law_order.proofs.Vocabulary.{◌≡◌, ◌++◌, ◌+◌, ℕ, List, [], ◌∷◌, sym, ap, ◌∙◌, length, arith, append-nil, map-append}
+use Rattle.rh_record.specs.Events.Events.{Event}
+use Rattle.law_moves.proofs.Vocabulary.{Side, Client, Server}
+use Rattle.law_node_history.proofs.Vocabulary.{Answer, Up, Down, Line, event, events, given, offered, taken, Counts, none, one_more, Rulebook, Deeds, Makers, last, last_of, told, World}
 use Rattle.law_world_reports.proofs.Ordering.Passing.{count_more, counted, counts_of}
 use Rattle.law_world_reports.proofs.Ordering.Counting.{CountsTold, reports}
+use Rattle.law_world_reports.proofs.Vocabulary.{CountsCapped, capped_count}
 
 -- ---- counts from none
 
@@ -32,7 +21,7 @@ more_capped (pdu ∷ pdus) n =
 from_none : (pdus : List (List ℕ)) → count_more pdus 0 ≡ capped_count (length pdus)
 from_none pdus = more_capped pdus 0 ∙ ap capped_count (omega arith)
 
-counted_none : (begun now : Counts) (gave took gave_all took_all : List (List ℕ))
+pub counted_none : (begun now : Counts) (gave took gave_all took_all : List (List ℕ))
     → begun ≡ none → now ≡ counted begun gave took → gave_all ≡ gave → took_all ≡ took
     → now ≡ counts_of (capped_count (length gave_all)) (capped_count (length took_all))
 counted_none begun now gave took gave_all took_all from is gives takes =

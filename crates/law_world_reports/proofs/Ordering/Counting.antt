@@ -1,32 +1,15 @@
 -- each line counts what it tells of gives and takes
-use Rattle.std.proofs.Common.{◌≡◌, ◌++◌, ◌+◌, ℕ, zero, suc, List, [], ◌∷◌, true, refl, sym, ap, ◌∙◌, subst, append_assoc}
-use Rattle.std.specs.List.{list_all}
-use Rattle.std.proofs.lemmas.Bool.{and_parts, and_from}
-use Rattle.std.proofs.lemmas.List.{map-append}
-use Rattle.rh_text.specs.declared.ends.Side.{Side}
-use Rattle.rh_text.specs.declared.ends.Side.TheVariants.{Client, Server}
-use Rattle.rh_line.specs.declared.cause.Cause.{Cause}
-use Rattle.rh_record.specs.declared.answer.Answer.{Answer}
+use Rattle.law_order.proofs.Vocabulary.{◌≡◌, ◌++◌, ◌+◌, ℕ, zero, suc, List, [], ◌∷◌, true, refl, sym, ap, ◌∙◌, subst, append_assoc, list_all, and_parts, and_from, map-append}
+use Rattle.rh_record.specs.Events.Events.{Event}
 use Rattle.rh_record.specs.declared.answer.Answer.TheVariants as answer
-use Rattle.rh_record.specs.declared.answer.Who.{Who}
 use Rattle.rh_record.specs.declared.answer.Who.TheVariants as who
-use Rattle.rh_record.specs.declared.line.Line.{Line}
 use Rattle.rh_record.specs.declared.line.Line.TheVariants as line
 use Rattle.rh_record.specs.Events.Events as events
-use Rattle.rh_record.specs.Events.Events.{Event, event, events, offer, offered}
 use Rattle.rh_shell.specs.Ends as ends
-use Rattle.rh_nodes.specs.declared.closing.Closing.{Closing}
-use Rattle.rh_nodes.specs.Closings.{lines}
-use Rattle.rh_nodes.specs.Company.{Rulebook}
-use Rattle.rh_nodes.specs.Giving.{Deeds, close, give, has_ended, recycle_in, recycle_out, take, take_from}
-use Rattle.rh_nodes.specs.Opening.{Makers}
-use Rattle.rh_nodes.specs.Reports.{and_then}
-use Rattle.rh_nodes.specs.Settling.{open_all, carry_all, take_one, take_both, end_all, round, behind_round, rounds_from}
-use Rattle.rh_nodes.specs.Steps.{reported, leg_answer, step_line, tell_closed, step, last, told}
-use Rattle.rh_nodes.specs.World.{World}
-use Rattle.law_node_history.specs.Changes.{Change, Gives, Takes, Closes, RecyclesIn, RecyclesOut, Reports, GoesQuietly, all_changed, changed, is_quiet, is_silent}
-use Rattle.law_node_history.proofs.Lines.{leg_goes}
-use Rattle.law_node_history.proofs.Rounds.{open_goes, carry_all_goes, end_all_goes}
+use Rattle.law_moves.proofs.Vocabulary.{Side, Client, Server, Cause}
+use Rattle.law_node_history.proofs.Vocabulary.{Answer, Who, Line, event, events, offer, offered, Closing, lines, Rulebook, Deeds, close, give, has_ended, recycle_in, recycle_out, take, take_from, Makers, and_then, open_all, carry_all, take_one, take_both, end_all, round, behind_round, rounds_from, reported, leg_answer, step_line, tell_closed, step, last, told, World, Change, Gives, Takes, Closes, RecyclesIn, RecyclesOut, Reports, GoesQuietly, all_changed, changed, is_quiet}
+use Rattle.law_node_history.proofs.Vocabulary.{is_silent}
+use Rattle.law_node_history.proofs.Lemmas.{leg_goes, open_goes, carry_all_goes, end_all_goes}
 use Rattle.law_world_reports.proofs.Ordering.Passing.{Passes, both, passes_none, passes_then, still}
 use Rattle.law_world_reports.proofs.Ordering.GivesAndTakes.{TellsTake, line_tells, give_up, give_down, take_up, take_down, took_passes}
 
@@ -183,7 +166,7 @@ module _ {K C S I O : Type 0} (r : Rulebook C S I O) (m : Makers K I O) (d : Dee
       (list_all passes_none (events (lines closings))) (closed_one x.who x.cause)
       (closed_lines closings)
 
-  step_passes : (one : Line) (rest : List (List ℕ)) (w : World K C S I O)
+  pub step_passes : (one : Line) (rest : List (List ℕ)) (w : World K C S I O)
       → PassesBy (offer one ++ rest) rest w (step r m d one w)
   step_passes one rest w =
       let did = step_line r m d one w in
@@ -200,7 +183,7 @@ module _ {K C S I O : Type 0} (r : Rulebook C S I O) (m : Makers K I O) (d : Dee
     pub is : told r m d w offers ≡ front ++ last r d v
     pub passes : Passes w v (offered offers) [] (events front)
 
-  pub reports : (offers : List Line) (w : World K C S I O) → CountsTold w offers
+  unfoldable pub reports : (offers : List Line) (w : World K C S I O) → CountsTold w offers
   reports [] w = record {
     v = w;
     front = [];

@@ -1,19 +1,10 @@
 -- a PDU that is given or taken is counted
-use Rattle.std.proofs.Common.{◌≡◌, ℕ, List, [], ◌∷◌, Bool, true, false, Ok, Err, refl, sym, subst}
-use Rattle.std.specs.List.{list_all}
-use Rattle.std.specs.declared.result.Result.{Result}
-use Rattle.rh_text.specs.declared.ends.Side.{Side}
-use Rattle.rh_text.specs.declared.ends.Side.TheVariants.{Client, Server}
-use Rattle.rh_line.specs.declared.cause.Cause.{Cause}
-use Rattle.rh_line.specs.declared.give_fault.GiveFault.{GiveFault}
+use Rattle.law_order.proofs.Vocabulary.{◌≡◌, ℕ, List, [], ◌∷◌, Bool, true, false, Ok, Err, refl, sym, subst, list_all, Result}
+use Rattle.rh_record.specs.Events.Events.{Event, Gives, Takes, Ends}
 use Rattle.rh_record.specs.declared.answer.Answer.TheVariants as answer
-use Rattle.rh_record.specs.declared.answer.TakeAnswer.{TakeAnswer}
 use Rattle.rh_record.specs.declared.answer.TakeAnswer.TheVariants as takes
-use Rattle.rh_record.specs.Events.Events.{Event, Gives, Refuses, Takes, Ends, event, events, given, of_end}
-use Rattle.rh_shell.specs.Shells.{Shell}
-use Rattle.rh_nodes.specs.Giving.{given_down, given_up, taken_down, taken_up}
-use Rattle.rh_nodes.specs.Settling.{took}
-use Rattle.rh_nodes.specs.World.{World}
+use Rattle.law_moves.proofs.Vocabulary.{Side, Client, Server, Cause, GiveFault, Shell}
+use Rattle.law_node_history.proofs.Vocabulary.{TakeAnswer, Refuses, event, events, given, of_end, given_down, given_up, taken_down, taken_up, took, World}
 use Rattle.law_world_reports.proofs.Ordering.Passing.{Passes, both, counted, passes_none, still}
 
 -- ---- one event

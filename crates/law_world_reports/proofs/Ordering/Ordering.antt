@@ -1,30 +1,21 @@
 -- the order law of the events of a report
-use Rattle.std.proofs.Common.{◌≡◌, ◌++◌, ℕ, List, [], ◌∷◌, true, refl, sym, ap, ◌∙◌, subst, inl, inr, take, drop}
-use Rattle.std.proofs.lemmas.List.{append_assoc, append-nil, append_cancel_left, take-append-drop}
-use Rattle.rh_text.specs.declared.ends.Side.{Side}
 use Rattle.rh_text.specs.declared.ends.Side.TheVariants as side
-use Rattle.rh_record.specs.Events.Events.{Event, Ends, Closes, Stops, StopsTaking, StopsGiving, other, given, taken}
-use Rattle.rh_record.specs.Events.Order.{IsPrefix}
-use Rattle.rh_shell.specs.Shells.{Shell}
-use Rattle.rh_inproxy.specs.State.{InProxy}
-use Rattle.rh_outproxy.specs.OutProxy.{OutProxy}
-use Rattle.rh_client.specs.declared.state.ClientRole.{ClientRole}
-use Rattle.rh_server.specs.States.{Server, is_closing}
-use Rattle.rh_nodes.specs.Opening.{Makers}
-use Rattle.rh_nodes.specs.World.{World}
-use Rattle.law_moves.specs.Moving.{IsClosed}
+use Rattle.law_order.proofs.Vocabulary.{◌≡◌, ◌++◌, ℕ, List, [], ◌∷◌, true, refl, sym, ap, ◌∙◌, subst, inl, inr, take, drop, append_assoc, append-nil, append_cancel_left, take-append-drop}
+use Rattle.rh_record.specs.Events.Events.{Event, Ends, Closes}
+use Rattle.law_moves.proofs.Vocabulary.{Side, Shell, IsClosed}
+use Rattle.law_role_inproxy.proofs.Vocabulary.{InProxy}
+use Rattle.law_role_client.proofs.Vocabulary.{ClientRole}
+use Rattle.law_role_server.proofs.Vocabulary.{Server, is_closing}
+use Rattle.law_node_history.proofs.Vocabulary.{Stops, StopsTaking, StopsGiving, other, given, taken, IsPrefix, Makers, World, Change, Leads, of_line, AreRuns, History, all_noted, nothing}
 use Rattle.law_node_history.specs.Changes as changes
-use Rattle.law_node_history.specs.Changes.{Change, Leads, of_line}
-use Rattle.law_node_history.specs.Histories.{AreRuns, History, all_noted, nothing}
+use Rattle.law_role_outproxy.proofs.Vocabulary.{OutProxy}
 use Rattle.law_node_streams.specs.Streams.{all_given}
-use Rattle.law_node_traces.specs.Traced.Ours.{deeds, rules}
-use Rattle.law_world_reports.specs.Telling.{Moment, GoesOn, end_events, end_given, until, in_the_end}
-use Rattle.law_world_reports.specs.Ordering.Ends.{GivesUntilClosing, IsClosing}
-use Rattle.law_world_reports.specs.Ordering.Premises.{KeepsOrder}
+use Rattle.law_node_traces.proofs.Vocabulary.{deeds, rules}
 use Rattle.law_world_reports.proofs.Telling.Behind.{taken_append}
+use Rattle.law_world_reports.proofs.Vocabulary.{Moment, GoesOn, end_events, end_given, until, in_the_end, GivesUntilClosing, IsClosing, KeepsOrder}
 
 -- a list that goes on and is still a front of itself goes on with nothing
-nothing_more : (all more : List (List ℕ)) → IsPrefix (all ++ more) all → more ≡ []
+pub nothing_more : (all more : List (List ℕ)) → IsPrefix (all ++ more) all → more ≡ []
 nothing_more all more (rest, is) =
     let none : more ++ rest ≡ [] =
     append_cancel_left all (more ++ rest) []
@@ -71,7 +62,7 @@ module _ {K : Type 0} (m : Makers K InProxy OutProxy)
   -- ---- an end that gives no more
 
   -- from a moment on at which it was told to close
-  closing_gives : (front behind : List Event) (at : Moment rules m deeds w pdus front behind)
+  pub closing_gives : (front behind : List Event) (at : Moment rules m deeds w pdus front behind)
       (end : Side) → IsClosing at.v end
       → end_given rules deeds w.company (in_the_end at) end
       ≡ end_given rules deeds w.company (until at) end

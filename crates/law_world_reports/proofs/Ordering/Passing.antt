@@ -1,13 +1,8 @@
 -- what a world counts, and what its answers tell of gives and takes
-use Rattle.std.proofs.Common.{◌≡◌, ◌++◌, ℕ, List, [], ◌∷◌, Bool, true, false, refl, sym, ap, ◌∙◌, append_assoc}
-use Rattle.std.specs.List.{list_all}
-use Rattle.std.proofs.lemmas.Bool.{and_parts}
-use Rattle.rh_text.specs.declared.ends.Side.{Side}
-use Rattle.rh_text.specs.declared.ends.Side.TheVariants.{Client, Server}
-use Rattle.rh_record.specs.Events.Events.{Event, Gives, Refuses, Takes, given, taken}
-use Rattle.rh_nodes.specs.declared.counts.Counts.{Counts}
-use Rattle.rh_nodes.specs.Counts.{one_more}
-use Rattle.rh_nodes.specs.World.{World}
+use Rattle.law_order.proofs.Vocabulary.{◌≡◌, ◌++◌, ℕ, List, [], ◌∷◌, Bool, true, false, refl, sym, ap, ◌∙◌, append_assoc, list_all, and_parts}
+use Rattle.rh_record.specs.Events.Events.{Event, Gives, Takes}
+use Rattle.law_moves.proofs.Vocabulary.{Side, Client, Server}
+use Rattle.law_node_history.proofs.Vocabulary.{Refuses, given, taken, Counts, one_more, World}
 
 -- a count after these PDUs more
 abbrev pub count_more : List (List ℕ) → ℕ → ℕ
@@ -77,7 +72,7 @@ passes_none (Refuses at) = false
 passes_none (Takes at pdu) = false
 passes_none event = true
 
-given_none : (end : Side) (events : List Event) → given end [] events ≡ []
+pub given_none : (end : Side) (events : List Event) → given end [] events ≡ []
 given_none end [] = refl
 given_none end (event ∷ events) = refl
 

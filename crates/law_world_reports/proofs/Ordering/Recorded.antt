@@ -1,24 +1,14 @@
 -- recordings, whatever their form
-use Rattle.std.proofs.Common.{◌≡◌, ◌++◌, ℕ, zero, suc, List, [], ◌∷◌, true, false, refl, sym, ap, subst, take}
-use Rattle.rh_text.specs.declared.ends.Side.{Side}
-use Rattle.rh_record.specs.declared.answer.Answer.{Answer}
-use Rattle.rh_record.specs.declared.line.Key.{Key}
-use Rattle.rh_record.specs.declared.line.Line.{Line}
-use Rattle.rh_record.specs.declared.line.Line.TheVariants.{First, Set, Give}
-use Rattle.rh_record.specs.Events.Events.{Ends, Event, events, given, offered, other, taken}
-use Rattle.rh_record.specs.Events.Order.{IsOrdered, IsPrefix}
-use Rattle.rh_nodes.specs.Cookies.{cookie_of}
+use Rattle.law_order.proofs.Vocabulary.{◌≡◌, ◌++◌, ℕ, zero, suc, List, [], ◌∷◌, true, false, refl, sym, ap, subst, take}
+use Rattle.rh_record.specs.Events.Events.{Ends, Event}
 use Rattle.rh_nodes.specs.Steps as steps
-use Rattle.law_node_history.specs.Histories.{IsNew}
-use Rattle.rh_world.specs.declared.any_world.AnyWorld.TheVariants.{Before, Settings, Roles}
-use Rattle.rh_world.specs.declared.config.WorldConfig.{WorldConfig}
-use Rattle.rh_world.specs.Any.{run, told}
-use Rattle.rh_world.specs.Config.{AreInRange, roles_config, with_number}
-use Rattle.rh_world.specs.Roles as roles
+use Rattle.law_moves.proofs.Vocabulary.{Side}
+use Rattle.law_node_history.proofs.Vocabulary.{Answer, Key, Line, First, Set, Give, events, given, offered, other, taken, IsOrdered, IsPrefix, cookie_of, IsNew}
 use Rattle.rh_world.proofs.Either.{direct_in_order}
-use Rattle.law_node_traces.specs.Traced.Ours.{AreOurs}
+use Rattle.rh_world.specs.Roles as roles
+use Rattle.law_node_traces.proofs.Vocabulary.{AreOurs}
+use Rattle.law_world_reports.proofs.Vocabulary.{Before, Settings, Roles, WorldConfig, run, told, AreInRange, roles_config, with_number, OffersBehindFirst}
 use Rattle.law_world_reports.proofs.Bounded.Reached.{behind_lines}
-use Rattle.law_world_reports.specs.Ordering.Recordings.{OffersBehindFirst}
 
 -- ---- the world that settings make
 

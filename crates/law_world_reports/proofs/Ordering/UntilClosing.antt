@@ -1,16 +1,9 @@
 -- an end that was told to close gives no more, whatever happens then
-use Rattle.std.proofs.Common.{◌≡◌, ◌++◌, List, [], ◌∷◌, Bool, true, refl, sym, ap, ◌∙◌, subst}
-use Rattle.std.proofs.lemmas.List.{append_assoc, append-nil}
-use Rattle.rh_shell.specs.declared.course.Course.{Course}
-use Rattle.rh_shell.specs.declared.course.Course.TheVariants.{Going, Closed, Refusing}
-use Rattle.rh_shell.specs.Ends.{cause_of, close_where, with_role}
-use Rattle.rh_shell.specs.Rules.{Rules, Acts}
-use Rattle.rh_shell.specs.Shells.{Shell}
-use Rattle.law_moves.specs.Laws.{ClosedWith}
-use Rattle.law_moves.specs.Moving.{AreHeld, EndEvent, IsClosed, after_end_event, after_end_events}
+use Rattle.law_order.proofs.Vocabulary.{◌≡◌, ◌++◌, List, [], ◌∷◌, Bool, true, refl, sym, ap, ◌∙◌, subst, append_assoc, append-nil}
+use Rattle.law_moves.proofs.Vocabulary.{Course, Going, Closed, Refusing, cause_of, close_where, with_role, Rules, Acts, Shell, ClosedWith, AreHeld, EndEvent, IsClosed, after_end_event, after_end_events}
 use Rattle.law_node_streams.specs.Streams.{all_given, given_by}
 use Rattle.law_node_ends.specs.Stops.{ClosedEndsAreSilent, EventsGiveNoMore}
-use Rattle.law_world_reports.specs.Ordering.Ends.{GivesUntilClosing}
+use Rattle.law_world_reports.proofs.Vocabulary.{GivesUntilClosing}
 
 -- ---- what is given in events behind events
 

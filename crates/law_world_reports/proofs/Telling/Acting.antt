@@ -1,44 +1,23 @@
 -- the acts at the ends: what they add, and what their answers tell
-use Rattle.std.proofs.Common.{◌≡◌, ℕ, List, [], ◌∷◌, Bool, true, false, Some, None, Ok, Err, refl, sym, ◌∙◌}
-use Rattle.std.specs.declared.option.Option.{Option}
-use Rattle.std.specs.declared.result.Result.{Result}
-use Rattle.std.proofs.lemmas.List.{append-nil}
-use Rattle.rh_text.specs.declared.ends.Side.{Side}
 use Rattle.rh_text.specs.declared.ends.Side.TheVariants as side
-use Rattle.rh_line.specs.Lines as lines
-use Rattle.rh_line.specs.Lines.{Line, is_ended}
-use Rattle.rh_line.specs.declared.cause.Cause.{Cause}
-use Rattle.rh_line.specs.declared.give_fault.GiveFault.{GiveFault}
-use Rattle.rh_line.specs.declared.line_take.LineTake.{LineTake}
-use Rattle.rh_line.specs.declared.line_take.LineTake.TheVariants as line_take
+use Rattle.law_order.proofs.Vocabulary.{◌≡◌, ℕ, List, [], ◌∷◌, Bool, true, false, Some, None, Ok, Err, refl, sym, ◌∙◌, Option, Result, append-nil}
+use Rattle.rh_line.specs.Lines.{is_ended}
 use Rattle.rh_line.specs.declared.state.Take.{Take}
+use Rattle.rh_line.specs.Lines as lines
+use Rattle.rh_line.specs.declared.line_take.LineTake.TheVariants as line_take
 use Rattle.rh_line.specs.declared.state.Take.TheVariants as taken
+use Rattle.rh_record.specs.Events.Events.{Event}
 use Rattle.rh_record.specs.declared.answer.Answer.TheVariants as answer
-use Rattle.rh_record.specs.declared.answer.TakeAnswer.{TakeAnswer}
 use Rattle.rh_record.specs.declared.answer.TakeAnswer.TheVariants as takes
-use Rattle.rh_record.specs.Events.Events.{Event, Silent, event, of_end}
 use Rattle.rh_record.specs.Events.Events as events
-use Rattle.rh_shell.specs.declared.course.Course.{Course}
-use Rattle.rh_shell.specs.declared.course.Course.TheVariants.{Going, Closed, Refusing}
 use Rattle.rh_shell.specs.Ends as ends
-use Rattle.rh_shell.specs.Ends.{cause_of}
-use Rattle.rh_shell.specs.Rules.{Acts}
-use Rattle.rh_shell.specs.Shells.{Shell}
-use Rattle.rh_nodes.specs.Company.{Rulebook}
-use Rattle.rh_nodes.specs.Giving.{Deeds, give, give_answer, take, take_answer, take_from, has_ended, close, recycle_in, recycle_out}
-use Rattle.rh_nodes.specs.Opening.{Makers}
-use Rattle.rh_nodes.specs.Settling.{took, take_one}
-use Rattle.rh_nodes.specs.Steps.{answered, reported}
-use Rattle.rh_nodes.specs.World.{World}
-use Rattle.law_moves.specs.Carrying.{accepted, first_in, handed, handed_by}
-use Rattle.law_moves.specs.Laws.{ClosedWith}
-use Rattle.law_node_history.specs.Changes.{Change, Gives, Takes, Closes, RecyclesIn, RecyclesOut, MayChange, changed, of_line}
-use Rattle.law_node_history.specs.Closes.{HasClosed}
-use Rattle.law_node_history.proofs.Working.{works_one}
-use Rattle.law_world_reports.specs.Telling.{Tells, next_take, node_of}
-use Rattle.law_world_reports.proofs.Telling.Adding.{Way, Given, Taken, adds}
+use Rattle.law_moves.proofs.Vocabulary.{Side, Line, Cause, GiveFault, LineTake, Course, Going, Closed, Refusing, cause_of, Acts, Shell, accepted, first_in, handed, handed_by, ClosedWith}
+use Rattle.law_node_history.proofs.Vocabulary.{TakeAnswer, Silent, event, of_end, Rulebook, Deeds, give, give_answer, take, take_answer, take_from, has_ended, close, recycle_in, recycle_out, Makers, took, take_one, answered, reported, World, Change, Gives, Takes, Closes, RecyclesIn, RecyclesOut, MayChange, changed, of_line, HasClosed}
+use Rattle.law_node_history.proofs.Lemmas.{works_one}
+use Rattle.law_world_reports.proofs.Telling.Adding.{Way, Given, Taken, Stopped, adds, is_of_pdus}
 use Rattle.law_world_reports.proofs.Telling.Parts.{part, part_silent, left}
 use Rattle.law_world_reports.proofs.Telling.Tales.{Idle, Told, TaleOf, idle_none, idle_then, tale_none, tale_one}
+use Rattle.law_world_reports.proofs.Vocabulary.{Tells, next_take, node_of}
 
 -- what is of one end, asked for another
 abbrev own : Side → Side → List (List ℕ) → List (List ℕ)
@@ -138,29 +117,40 @@ gave_part side.Server side.Client pdu rest (Ok done) = refl
 gave_part side.Server side.Server pdu rest (Ok done) = refl
 gave_part end at pdu rest (Err fault) = own_none end at
 
--- an end that ends, closes or stops tells of neither
-ends_none : (pdus : List (List ℕ)) (at : Side) (way : Way) (end : Side)
+-- neither tells of an end that gives no more
+take_stopped : (end at : Side) (pdus : List (List ℕ)) (t : TakeAnswer)
+    → part Stopped end pdus (event (answer.Take at t)) ≡ []
+take_stopped end at pdus (takes.Pdu pdu) = refl
+take_stopped end at pdus takes.Empty = refl
+take_stopped end at pdus takes.Ended = refl
+take_stopped end at pdus (takes.Closed why) = refl
+
+give_stopped : (end at : Side) (pdu : List ℕ) (pdus : List (List ℕ))
+    (given : Result (Unit {0}) GiveFault)
+    → part Stopped end pdus (event (answer.Give at (give_answer pdu given))) ≡ []
+give_stopped end at pdu pdus (Ok done) = refl
+give_stopped end at pdu pdus (Err fault) = refl
+
+-- an end that ends or closes tells of none of these
+pub ends_none : (pdus : List (List ℕ)) (at : Side) (way : Way) (end : Side)
     → part way end pdus (events.Ends at) ≡ []
 ends_none pdus at Given end = refl
 ends_none pdus at Taken end = refl
+ends_none pdus at Stopped end = refl
 
 pub closes_none : (pdus : List (List ℕ)) (at : Side) (way : Way) (end : Side)
     → part way end pdus (events.Closes at) ≡ []
 closes_none pdus at Given end = refl
 closes_none pdus at Taken end = refl
+closes_none pdus at Stopped end = refl
 
-stops_none : (pdus : List (List ℕ)) (at : Side) (way : Way) (end : Side)
-    → part way end pdus (events.Stops at) ≡ []
-stops_none pdus at Given end = refl
-stops_none pdus at Taken end = refl
-
-left_give : (at : Side) (pdu : List ℕ) (rest : List (List ℕ))
+pub left_give : (at : Side) (pdu : List ℕ) (rest : List (List ℕ))
     (given : Result (Unit {0}) GiveFault)
     → left (pdu ∷ rest) (event (answer.Give at (give_answer pdu given))) ≡ rest
 left_give at pdu rest (Ok done) = refl
 left_give at pdu rest (Err fault) = refl
 
-left_take : (at : Side) (pdus : List (List ℕ)) (t : TakeAnswer)
+pub left_take : (at : Side) (pdus : List (List ℕ)) (t : TakeAnswer)
     → left pdus (event (answer.Take at t)) ≡ pdus
 left_take at pdus (takes.Pdu pdu) = refl
 left_take at pdus takes.Empty = refl
@@ -213,13 +203,21 @@ module _ {K C S I O : Type 0} (r : Rulebook C S I O) (m : Makers K I O) (d : Dee
     gives_take_none side.Server side.Client = refl
     gives_take_none side.Server side.Server = refl
 
-    give_gain : (at : Side) (way : Way) (end : Side)
+    gives_stop_none : (end at : Side) → adds r m d Stopped w (Gives at pdu) end ≡ []
+    gives_stop_none side.Client side.Client = refl
+    gives_stop_none side.Client side.Server = refl
+    gives_stop_none side.Server side.Client = refl
+    gives_stop_none side.Server side.Server = refl
+
+    pub give_gain : (at : Side) (way : Way) (end : Side)
         → adds r m d way w (Gives at pdu) end
         ≡ part way end (pdu ∷ rest) (event (answer.Give at (give_answer pdu (given_result at))))
     give_gain at Given end =
         adds_given end at ∙ gave_part end at pdu rest (given_result at)
     give_gain at Taken end =
         gives_take_none end at ∙ sym (give_took end at pdu (pdu ∷ rest) (given_result at))
+    give_gain at Stopped end =
+        gives_stop_none end at ∙ sym (give_stopped end at pdu (pdu ∷ rest) (given_result at))
 
     give_tells : (at : Side) (later : List Change) (given : Result (Unit {0}) GiveFault)
         → Tells r m d w later (event (answer.Give at (give_answer pdu given)))
@@ -262,12 +260,20 @@ module _ {K C S I O : Type 0} (r : Rulebook C S I O) (m : Makers K I O) (d : Dee
     takes_give_none side.Server side.Client = refl
     takes_give_none side.Server side.Server = refl
 
-    take_gain : (at : Side) (way : Way) (end : Side)
+    takes_stop_none : (end at : Side) → adds r m d Stopped w (Takes at) end ≡ []
+    takes_stop_none side.Client side.Client = refl
+    takes_stop_none side.Client side.Server = refl
+    takes_stop_none side.Server side.Client = refl
+    takes_stop_none side.Server side.Server = refl
+
+    pub take_gain : (at : Side) (way : Way) (end : Side)
         → adds r m d way w (Takes at) end
         ≡ part way end pdus (event (answer.Take at (take d w at).1))
     take_gain at Given end =
         takes_give_none end at ∙ sym (take_gave end at pdus (take d w at).1)
     take_gain at Taken end = adds_taken end at ∙ took_part end at pdus (take d w at).1
+    take_gain at Stopped end =
+        takes_stop_none end at ∙ sym (take_stopped end at pdus (take d w at).1)
 
     ended_tells : (at : Side) → (take d w at).1 ≡ takes.Ended → next_take d w at ≡ taken.Ended
     ended_tells side.Client e =
@@ -327,20 +333,30 @@ module _ {K C S I O : Type 0} (r : Rulebook C S I O) (m : Makers K I O) (d : Dee
   -- ---- no PDU is given any more, or a channel is replaced
 
   module _ (w : World K C S I O) (pdus : List (List ℕ)) where
-    pub adds_closed : (way : Way) (end at : Side) → adds r m d way w (Closes at) end ≡ []
-    adds_closed Given side.Client side.Client = refl
-    adds_closed Given side.Client side.Server = refl
-    adds_closed Given side.Server side.Client = refl
-    adds_closed Given side.Server side.Server = refl
-    adds_closed Taken side.Client side.Client = refl
-    adds_closed Taken side.Client side.Server = refl
-    adds_closed Taken side.Server side.Client = refl
-    adds_closed Taken side.Server side.Server = refl
+    pub adds_closed : (way : Way) (end at : Side) → is_of_pdus way ≡ true
+        → adds r m d way w (Closes at) end ≡ []
+    adds_closed Given side.Client side.Client is = refl
+    adds_closed Given side.Client side.Server is = refl
+    adds_closed Given side.Server side.Client is = refl
+    adds_closed Given side.Server side.Server is = refl
+    adds_closed Taken side.Client side.Client is = refl
+    adds_closed Taken side.Client side.Server is = refl
+    adds_closed Taken side.Server side.Client is = refl
+    adds_closed Taken side.Server side.Server is = refl
+    adds_closed Stopped end at is = absurd cc
+
+    pub close_gain : (at : Side) (way : Way) (end : Side)
+        → adds r m d way w (Closes at) end ≡ part way end pdus (events.Stops at)
+    close_gain at Given end = adds_closed Given end at refl
+    close_gain at Taken end = adds_closed Taken end at refl
+    close_gain side.Client Stopped side.Client = refl
+    close_gain side.Client Stopped side.Server = refl
+    close_gain side.Server Stopped side.Client = refl
+    close_gain side.Server Stopped side.Server = refl
 
     close_told : (at : Side) → Told r m d w (close d w at).0 pdus (events.Stops at)
     close_told at =
-        told_one w (Closes at) pdus (events.Stops at) tt refl
-        (λ way end. adds_closed way end at ∙ sym (stops_none pdus at way end)) ([], refl)
+        told_one w (Closes at) pdus (events.Stops at) tt refl (close_gain at) ([], refl)
 
     pub close_tale : (at : Side) → TaleOf r m d pdus pdus w
         (reported (answered (λ closed. closed) (close d w at)))
@@ -356,12 +372,16 @@ module _ {K C S I O : Type 0} (r : Rulebook C S I O) (m : Makers K I O) (d : Dee
     adds_in Given side.Server = refl
     adds_in Taken side.Client = refl
     adds_in Taken side.Server = refl
+    adds_in Stopped side.Client = refl
+    adds_in Stopped side.Server = refl
 
     pub adds_out : (way : Way) (end : Side) → adds r m d way w RecyclesOut end ≡ []
     adds_out Given side.Client = refl
     adds_out Given side.Server = refl
     adds_out Taken side.Client = refl
     adds_out Taken side.Server = refl
+    adds_out Stopped side.Client = refl
+    adds_out Stopped side.Server = refl
 
     pub recycle_in_tale : TaleOf r m d pdus pdus w
         (reported (answered (λ recycled. recycled) (recycle_in d.client r.client w)))

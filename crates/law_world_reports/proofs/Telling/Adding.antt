@@ -1,27 +1,25 @@
 -- what changes add to what passed at the ends
-use Rattle.std.proofs.Common.{◌≡◌, ◌++◌, ℕ, List, [], ◌∷◌, true, refl, sym, ap, ◌∙◌}
-use Rattle.std.specs.List.{list_all}
-use Rattle.std.proofs.lemmas.Bool.{and_parts}
-use Rattle.std.proofs.lemmas.List.{append_assoc, append-nil}
-use Rattle.rh_text.specs.declared.ends.Side.{Side}
 use Rattle.rh_text.specs.declared.ends.Side.TheVariants as side
+use Rattle.law_order.proofs.Vocabulary.{◌≡◌, ◌++◌, ℕ, List, [], ◌∷◌, Bool, true, false, refl, sym, ap, ◌∙◌, list_all, and_parts, append_assoc, append-nil}
 use Rattle.rh_record.specs.declared.answer.Who.TheVariants as who
-use Rattle.rh_nodes.specs.Company.{Company, Rulebook}
-use Rattle.rh_nodes.specs.Giving.{Deeds}
-use Rattle.rh_nodes.specs.Opening.{Makers}
-use Rattle.rh_nodes.specs.World.{World}
-use Rattle.law_moves.specs.Moving.{after_end_events}
-use Rattle.law_node_history.specs.Changes.{Change, Gives, Takes, Closes, RecyclesIn, RecyclesOut, MayChange, AreAllowed, ByLines, changed, all_changed, is_quiet, Quietly}
-use Rattle.law_node_history.specs.Histories.{History, acts_by, all_noted, noted, nothing, told_to}
-use Rattle.law_node_history.proofs.Working.{works_then, works_quietly, works_by_lines}
-use Rattle.law_node_history.proofs.Noting.{does, end_on}
-use Rattle.law_world_reports.specs.Telling.{end_given, end_taken}
-use Rattle.law_world_reports.proofs.Telling.Passed.{given_more, given_quiet, taken_more, taken_quiet}
+use Rattle.law_moves.proofs.Vocabulary.{Side, after_end_events}
+use Rattle.law_node_history.proofs.Vocabulary.{Company, Rulebook, Deeds, Makers, World, Change, Gives, Takes, Closes, RecyclesIn, RecyclesOut, MayChange, AreAllowed, ByLines, changed, all_changed, is_quiet, Quietly, History, acts_by, all_noted, noted, nothing, told_to}
+use Rattle.law_node_history.proofs.Lemmas.{works_then, works_quietly, works_by_lines, does, end_on}
+use Rattle.law_world_reports.proofs.Telling.Passed.{given_more, given_quiet, stopped_more, stopped_quiet, taken_more, taken_quiet}
+use Rattle.law_world_reports.proofs.Vocabulary.{end_given, end_stopped, end_taken}
 
--- PDUs that were given at an end, and such that were taken there
+-- PDUs that were given at an end, such that were taken there, and an empty one each time that it
+-- was told to give no more
 pub data Way : Type 0 where
   Given : Way
   Taken : Way
+  Stopped : Way
+
+-- it is of PDUs that pass the end
+abbrev pub is_of_pdus : Way → Bool
+is_of_pdus Given = true
+is_of_pdus Taken = true
+is_of_pdus Stopped = false
 
 -- a change that acts at no end
 quiet_acts : (change : Change) (end : Side) → is_quiet change ≡ true → acts_by change end ≡ []
@@ -37,6 +35,7 @@ module _ {C S I O : Type 0} (r : Rulebook C S I O) (d : Deeds C S) where
   abbrev pub passed : Way → Company C S I O → History → Side → List (List ℕ)
   passed Given first h end = end_given r d first h end
   passed Taken first h end = end_taken r d first h end
+  passed Stopped first h end = end_stopped h end
 
 module _ {K C S I O : Type 0} (r : Rulebook C S I O) (m : Makers K I O) (d : Deeds C S) where
   -- ---- one change
@@ -81,6 +80,10 @@ module _ {K C S I O : Type 0} (r : Rulebook C S I O) (m : Makers K I O) (d : Dee
   adds_to Taken first w h change side.Server run =
       taken_more r.server d.server first.server w.company.server h.server
       (noted w nothing change).server run.server
+  adds_to Stopped first w h change side.Client run =
+      stopped_more h.client (noted w nothing change).client
+  adds_to Stopped first w h change side.Server run =
+      stopped_more h.server (noted w nothing change).server
 
   -- one that is no act adds nothing
   pub adds_none : (way : Way) (w : World K C S I O) (change : Change) (end : Side)
@@ -97,6 +100,10 @@ module _ {K C S I O : Type 0} (r : Rulebook C S I O) (m : Makers K I O) (d : Dee
   adds_none Taken w change side.Server none =
       taken_quiet r.server d.server w.company.server (told_to w change who.Server)
       (acts_by change side.Server) none
+  adds_none Stopped w change side.Client none =
+      stopped_quiet (told_to w change who.Client) (acts_by change side.Client) none
+  adds_none Stopped w change side.Server none =
+      stopped_quiet (told_to w change who.Server) (acts_by change side.Server) none
 
   pub adds_quiet : (way : Way) (w : World K C S I O) (change : Change) (end : Side)
       → is_quiet change ≡ true → adds way w change end ≡ []

@@ -1,19 +1,13 @@
 -- what is told behind a moment from which on an end gives or takes nothing
-use Rattle.std.proofs.Common.{◌≡◌, ◌++◌, ℕ, List, [], ◌∷◌, refl, sym, ap, ◌∙◌}
-use Rattle.std.proofs.lemmas.List.{append_assoc, append-nil, append_cancel_left}
-use Rattle.rh_text.specs.declared.ends.Side.{Side}
-use Rattle.rh_record.specs.declared.line.Line.{Line}
-use Rattle.rh_record.specs.Events.Events.{Event, Closes, events, offered, given, taken}
-use Rattle.rh_nodes.specs.Company.{Rulebook}
-use Rattle.rh_nodes.specs.Giving.{Deeds}
-use Rattle.rh_nodes.specs.Opening.{Makers}
-use Rattle.rh_nodes.specs.Steps.{told}
-use Rattle.rh_nodes.specs.World.{World}
-use Rattle.law_world_reports.specs.Telling.{Moment, end_given, end_taken, until, in_the_end}
+use Rattle.law_order.proofs.Vocabulary.{◌≡◌, ◌++◌, ℕ, List, [], ◌∷◌, refl, sym, ap, ◌∙◌, append_assoc, append-nil, append_cancel_left}
+use Rattle.rh_record.specs.Events.Events.{Event, Closes}
+use Rattle.law_moves.proofs.Vocabulary.{Side}
+use Rattle.law_node_history.proofs.Vocabulary.{Line, events, offered, given, taken, Rulebook, Deeds, Makers, told, World}
 use Rattle.law_world_reports.proofs.Telling.Adding.{Given, Taken}
 use Rattle.law_world_reports.proofs.Telling.Parts.{said_more, part}
 use Rattle.law_world_reports.proofs.Telling.Shut.{stays_passed}
 use Rattle.law_world_reports.proofs.Telling.Splits.{runs_until, told_moment}
+use Rattle.law_world_reports.proofs.Vocabulary.{Moment, end_given, end_taken, until, in_the_end}
 
 pub taken_append : (end : Side) (xs ys : List Event)
     → taken end (xs ++ ys) ≡ taken end xs ++ taken end ys
@@ -55,7 +49,7 @@ module _ {K C S I O : Type 0} (r : Rulebook C S I O) (m : Makers K I O) (d : Dee
     closed_takes =
         none_taken w (offered lines) front (Closes end ∷ behind) at end
         (stays_passed r m d at.next.0 Taken w.company at.v at.u (until at) at.after.leads end
-        (runs_until r m d w at.v at.before) at.next.1)
+        refl (runs_until r m d w at.v at.before) at.next.1)
 
     pub closed_gives : given end (offered lines) (events (told r m d w lines))
         ≡ given end (offered lines) front
@@ -63,4 +57,4 @@ module _ {K C S I O : Type 0} (r : Rulebook C S I O) (m : Makers K I O) (d : Dee
         ap (given end (offered lines)) e
         ∙ none_given w (offered lines) front (Closes end ∷ behind) at end
         (stays_passed r m d at.next.0 Given w.company at.v at.u (until at) at.after.leads end
-        (runs_until r m d w at.v at.before) at.next.1)
+        refl (runs_until r m d w at.v at.before) at.next.1)

@@ -1,16 +1,8 @@
 -- the histories of the ends go on
-use Rattle.std.proofs.Common.{◌≡◌, ◌++◌, List, [], ◌∷◌, refl, sym, ap, ◌∙◌}
-use Rattle.std.proofs.lemmas.List.{append_assoc, append-nil}
-use Rattle.rh_text.specs.declared.ends.Side.{Side}
-use Rattle.rh_text.specs.declared.ends.Side.TheVariants.{Client, Server}
-use Rattle.rh_nodes.specs.Company.{Rulebook}
-use Rattle.rh_nodes.specs.Giving.{Deeds}
-use Rattle.rh_nodes.specs.Opening.{Makers}
-use Rattle.rh_nodes.specs.World.{World}
-use Rattle.law_moves.specs.Moving.{IsClosed}
-use Rattle.law_node_history.specs.Changes.{Change, Closes, changed}
-use Rattle.law_node_history.specs.Histories.{History, all_noted, noted, nothing}
-use Rattle.law_world_reports.specs.Telling.{end_events, GoesOn}
+use Rattle.law_order.proofs.Vocabulary.{◌≡◌, ◌++◌, List, [], ◌∷◌, refl, sym, ap, ◌∙◌, append_assoc, append-nil}
+use Rattle.law_moves.proofs.Vocabulary.{Side, Client, Server, IsClosed}
+use Rattle.law_node_history.proofs.Vocabulary.{Rulebook, Deeds, Makers, World, Change, Closes, changed, History, all_noted, noted, nothing}
+use Rattle.law_world_reports.proofs.Vocabulary.{end_events, GoesOn}
 
 module _ {K C S I O : Type 0} (r : Rulebook C S I O) (m : Makers K I O) (d : Deeds C S) where
   -- what a change notes at an end

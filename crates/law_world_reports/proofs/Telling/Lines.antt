@@ -1,40 +1,21 @@
 -- the tale of each line, of settling and of the report
-use Rattle.std.proofs.Common.{◌≡◌, ◌++◌, ◌+◌, ℕ, zero, suc, List, [], ◌∷◌, true, refl, sym, ◌∙◌, subst, inl, inr}
-use Rattle.std.specs.List.{list_all}
-use Rattle.std.proofs.lemmas.Bool.{and_parts}
-use Rattle.rh_text.specs.declared.ends.Side.{Side}
-use Rattle.rh_text.specs.declared.ends.Side.TheVariants.{Client, Server}
-use Rattle.rh_line.specs.declared.cause.Cause.{Cause}
-use Rattle.rh_record.specs.declared.answer.Answer.{Answer}
+use Rattle.law_order.proofs.Vocabulary.{◌≡◌, ◌++◌, ◌+◌, ℕ, zero, suc, List, [], ◌∷◌, true, refl, sym, ◌∙◌, subst, inl, inr, list_all, and_parts}
+use Rattle.rh_record.specs.Events.Events.{Event}
 use Rattle.rh_record.specs.declared.answer.Answer.TheVariants as answer
-use Rattle.rh_record.specs.declared.answer.Who.{Who}
 use Rattle.rh_record.specs.declared.answer.Who.TheVariants as who
-use Rattle.rh_record.specs.declared.line.Line.{Line}
 use Rattle.rh_record.specs.declared.line.Line.TheVariants as line
-use Rattle.rh_record.specs.Events.Events.{Event, Silent, event, events, offer, offered}
 use Rattle.rh_record.specs.Events.Events as told_as
-use Rattle.rh_nodes.specs.declared.closing.Closing.{Closing}
-use Rattle.rh_nodes.specs.Closings.{lines}
-use Rattle.rh_nodes.specs.Company.{Rulebook}
-use Rattle.rh_nodes.specs.Giving.{Deeds}
-use Rattle.rh_nodes.specs.Opening.{Makers}
-use Rattle.rh_nodes.specs.Reports.{and_then}
-use Rattle.rh_nodes.specs.Settling.{open_all, carry_all, take_one, take_both, end_all, round, behind_round, rounds_from}
-use Rattle.rh_nodes.specs.Steps.{reported, leg_answer, step_line, tell_closed, step, last, told}
-use Rattle.rh_nodes.specs.World.{World}
-use Rattle.law_node_history.specs.Changes.{Reports, Quietly, GoesQuietly, is_silent, changed}
-use Rattle.law_node_history.specs.Closes.{IsOneOf, HasClosed}
-use Rattle.law_node_history.proofs.Working.{works_none}
-use Rattle.law_node_history.proofs.Lines.{leg_goes, goes_step_line}
-use Rattle.law_node_history.proofs.Rounds.{open_goes, carry_all_goes, end_all_goes}
+use Rattle.law_moves.proofs.Vocabulary.{Side, Client, Server, Cause}
+use Rattle.law_node_history.proofs.Vocabulary.{Answer, Who, Line, Silent, event, events, offer, offered, Closing, lines, Rulebook, Deeds, Makers, and_then, open_all, carry_all, take_one, take_both, end_all, round, behind_round, rounds_from, reported, leg_answer, step_line, tell_closed, step, last, told, World, Reports, Quietly, GoesQuietly, is_silent, changed, IsOneOf, HasClosed}
+use Rattle.law_node_history.proofs.Lemmas.{works_none, leg_goes, goes_step_line, open_goes, carry_all_goes, end_all_goes}
 use Rattle.law_node_history.proofs.ToReport.{closed_to_report}
-use Rattle.law_world_reports.specs.Telling.{Tells}
-use Rattle.law_world_reports.proofs.Telling.Adding.{Way, Given, Taken, adds, quiet_lines, gains_quiet}
+use Rattle.law_world_reports.proofs.Telling.Adding.{Way, Given, Taken, Stopped, adds, quiet_lines, gains_quiet}
 use Rattle.law_world_reports.proofs.Telling.Parts.{part, part_silent, events_append}
 use Rattle.law_world_reports.proofs.Telling.Tales.{Idle, Told, Tale, TaleOf, idle_none, tale_append, tale_and_then, tale_one}
 use Rattle.law_world_reports.proofs.Telling.Acting.{closes_none, told_one, idle_told, give_tale, take_tale, take_one_tale, close_tale, recycle_in_tale, recycle_out_tale}
+use Rattle.law_world_reports.proofs.Vocabulary.{Tells}
 
-silent_event : (one : Answer) → is_silent one ≡ true → event one ≡ Silent
+pub silent_event : (one : Answer) → is_silent one ≡ true → event one ≡ Silent
 silent_event (answer.Give end given) silent = absurd cc
 silent_event (answer.Take end taken) silent = absurd cc
 silent_event (answer.Close end) silent = absurd cc
@@ -140,6 +121,8 @@ module _ {K C S I O : Type 0} (r : Rulebook C S I O) (m : Makers K I O) (d : Dee
   adds_reported w Given Server = refl
   adds_reported w Taken Client = refl
   adds_reported w Taken Server = refl
+  adds_reported w Stopped Client = refl
+  adds_reported w Stopped Server = refl
 
   still : (w : World K C S I O) (pdus : List (List ℕ)) (told : Event)
       → ((way : Way) (end : Side) → part way end pdus told ≡ []) → Tells r m d w [] told
@@ -184,7 +167,7 @@ module _ {K C S I O : Type 0} (r : Rulebook C S I O) (m : Makers K I O) (d : Dee
 
   -- ---- the report
 
-  step_tale : (one : Line) (rest : List (List ℕ)) (w : World K C S I O) → w.closed ≡ []
+  pub step_tale : (one : Line) (rest : List (List ℕ)) (w : World K C S I O) → w.closed ≡ []
       → TaleOf r m d (offer one ++ rest) rest w (step r m d one w)
   step_tale one rest w none =
       let did = step_line r m d one w in

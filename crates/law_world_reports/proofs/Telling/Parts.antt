@@ -1,14 +1,17 @@
 -- what one event of a report tells of gives and takes
-use Rattle.std.proofs.Common.{◌≡◌, ◌++◌, ℕ, List, [], ◌∷◌, refl, sym, ap}
-use Rattle.rh_text.specs.declared.ends.Side.{Side}
-use Rattle.rh_record.specs.declared.answer.Answer.{Answer}
-use Rattle.rh_record.specs.Events.Events.{Event, Gives, Refuses, Takes, Ends, Closes, Stops, Silent, event, events, of_end, given, taken}
-use Rattle.law_world_reports.proofs.Telling.Adding.{Way, Given, Taken}
+use Rattle.law_order.proofs.Vocabulary.{◌≡◌, ◌++◌, ℕ, List, [], ◌∷◌, refl, sym, ap}
+use Rattle.rh_record.specs.Events.Events.{Event, Gives, Takes, Ends, Closes}
+use Rattle.law_moves.proofs.Vocabulary.{Side}
+use Rattle.law_node_history.proofs.Vocabulary.{Answer, Refuses, Stops, Silent, event, events, of_end, given, taken}
+use Rattle.law_world_reports.proofs.Telling.Adding.{Way, Given, Taken, Stopped}
+use Rattle.law_world_reports.proofs.Ordering.Passing.{given_none as none_given}
+use Rattle.law_world_reports.proofs.Vocabulary.{stopped}
 
 -- what events tell
 abbrev pub said : Way → Side → List (List ℕ) → List Event → List (List ℕ)
 said Given end pdus events = given end pdus events
 said Taken end pdus events = taken end events
+said Stopped end pdus events = stopped end events
 
 -- the first that was offered, where the end asked for gave it
 abbrev pub first_given : Side → Side → List (List ℕ) → List (List ℕ)
@@ -19,6 +22,7 @@ first_given end at (pdu ∷ pdus) = of_end end at pdu
 abbrev pub part : Way → Side → List (List ℕ) → Event → List (List ℕ)
 part Given end pdus (Gives at) = first_given end at pdus
 part Taken end pdus (Takes at pdu) = of_end end at pdu
+part Stopped end pdus (Stops at) = of_end end at []
 part way end pdus event = []
 
 abbrev pub behind_first : List (List ℕ) → List (List ℕ)
@@ -30,10 +34,6 @@ abbrev pub left : List (List ℕ) → Event → List (List ℕ)
 left pdus (Gives at) = behind_first pdus
 left pdus (Refuses at) = behind_first pdus
 left pdus event = pdus
-
-none_given : (end : Side) (events : List Event) → given end [] events ≡ []
-none_given end [] = refl
-none_given end (event ∷ events) = refl
 
 pub said_more : (way : Way) (end : Side) (pdus : List (List ℕ)) (event : Event)
     (events : List Event)
@@ -60,15 +60,24 @@ said_more Taken end pdus (Ends at) events = refl
 said_more Taken end pdus (Closes at) events = refl
 said_more Taken end pdus (Stops at) events = refl
 said_more Taken end pdus Silent events = refl
+said_more Stopped end pdus (Gives at) events = refl
+said_more Stopped end pdus (Refuses at) events = refl
+said_more Stopped end pdus (Takes at one) events = refl
+said_more Stopped end pdus (Ends at) events = refl
+said_more Stopped end pdus (Closes at) events = refl
+said_more Stopped end pdus (Stops at) events = refl
+said_more Stopped end pdus Silent events = refl
 
 pub said_none : (way : Way) (end : Side) (pdus : List (List ℕ)) → said way end pdus [] ≡ []
 said_none Given end pdus = refl
 said_none Taken end pdus = refl
+said_none Stopped end pdus = refl
 
 pub part_silent : (way : Way) (end : Side) (pdus : List (List ℕ))
     → part way end pdus Silent ≡ []
 part_silent Given end pdus = refl
 part_silent Taken end pdus = refl
+part_silent Stopped end pdus = refl
 
 -- events of reports behind each other
 pub events_append : (xs ys : List Answer) → events (xs ++ ys) ≡ events xs ++ events ys

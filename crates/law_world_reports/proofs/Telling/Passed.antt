@@ -1,11 +1,9 @@
 -- what passed an end by events behind events
-use Rattle.std.proofs.Common.{◌≡◌, ◌++◌, ℕ, List, [], ◌∷◌, map, refl, sym, ap, ◌∙◌}
-use Rattle.std.proofs.lemmas.List.{append_assoc}
-use Rattle.rh_shell.specs.Rules.{Rules, Acts}
-use Rattle.rh_shell.specs.Shells.{Shell}
+use Rattle.law_order.proofs.Vocabulary.{◌≡◌, ◌++◌, ℕ, List, [], ◌∷◌, map, refl, sym, ap, ◌∙◌, append_assoc}
+use Rattle.law_moves.proofs.Vocabulary.{Rules, Acts, Shell, EndEvent, Happens, IsGiven, IsTaken, IsClosed, IsRecycled, after_events, after_event, after_end_event, after_end_events}
 use Rattle.law_moves.specs.Moving as moving
-use Rattle.law_moves.specs.Moving.{EndEvent, Happens, after_events, after_event, after_end_event, after_end_events}
 use Rattle.law_node_streams.specs.Streams.{all_given, given_by, all_taken, taken_by}
+use Rattle.law_world_reports.proofs.Vocabulary.{all_stopped}
 
 -- for a log of what passed in each event, and nothing in one that just happens
 module _ {S : Type 0} (rules : Rules S) (acts : Acts S)
@@ -66,3 +64,19 @@ module _ {S : Type 0} (rules : Rules S) (acts : Acts S) where
   taken_quiet =
       passed_quiet rules acts (taken_by acts) (all_taken rules acts) (λ s. refl)
       (λ s e es. refl) (λ s e. refl)
+
+-- ---- what tells an end to give no more
+
+pub stopped_more : (xs ys : List EndEvent)
+    → all_stopped (xs ++ ys) ≡ all_stopped xs ++ all_stopped ys
+stopped_more [] ys = refl
+stopped_more (Happens event ∷ xs) ys = stopped_more xs ys
+stopped_more (IsGiven pdu ∷ xs) ys = stopped_more xs ys
+stopped_more (IsTaken ∷ xs) ys = stopped_more xs ys
+stopped_more (IsClosed ∷ xs) ys = ap (λ behind. [] ∷ behind) (stopped_more xs ys)
+stopped_more (IsRecycled ∷ xs) ys = stopped_more xs ys
+
+pub stopped_quiet : (es : List moving.Event) (acts : List EndEvent) → acts ≡ []
+    → all_stopped (map Happens es ++ acts) ≡ []
+stopped_quiet [] acts is = ap all_stopped is
+stopped_quiet (e ∷ es) acts is = stopped_quiet es acts is

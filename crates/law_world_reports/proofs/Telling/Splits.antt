@@ -1,31 +1,23 @@
 -- each front of the events of a report stands at a moment of the run
-use Rattle.std.proofs.Common.{◌≡◌, ◌++◌, ℕ, List, [], ◌∷◌, refl, sym, ap, ◌∙◌, subst}
-use Rattle.std.proofs.lemmas.List.{append_assoc}
-use Rattle.rh_text.specs.declared.ends.Side.{Side}
-use Rattle.rh_text.specs.declared.ends.Side.TheVariants.{Client, Server}
-use Rattle.rh_record.specs.declared.line.Line.{Line}
-use Rattle.rh_record.specs.Events.Events.{Event, Gives, Refuses, Takes, Ends, Closes, Stops, Silent, events, offered}
-use Rattle.rh_nodes.specs.Company.{Company, Rulebook}
-use Rattle.rh_nodes.specs.Giving.{Deeds}
-use Rattle.rh_nodes.specs.Opening.{Makers}
-use Rattle.rh_nodes.specs.Steps.{told}
-use Rattle.rh_nodes.specs.World.{World}
-use Rattle.law_node_history.specs.Changes.{Change, ByLines}
-use Rattle.law_node_history.specs.Histories.{History, all_noted, nothing}
-use Rattle.law_node_history.proofs.Working.{works_none, works_then}
-use Rattle.law_world_reports.specs.Telling.{Agrees, Tells, TellsNext, Moment}
-use Rattle.law_world_reports.proofs.Telling.Adding.{Way, Given, Taken, gains, gains_then, passed, EndsRun, all_add_to, run_all}
+use Rattle.law_order.proofs.Vocabulary.{◌≡◌, ◌++◌, ℕ, List, [], ◌∷◌, refl, sym, ap, ◌∙◌, subst, append_assoc}
+use Rattle.rh_record.specs.Events.Events.{Event, Gives, Takes, Ends, Closes}
+use Rattle.law_moves.proofs.Vocabulary.{Side, Client, Server}
+use Rattle.law_node_history.proofs.Vocabulary.{Line, Refuses, Stops, Silent, events, offered, Company, Rulebook, Deeds, Makers, told, World, Change, ByLines, History, all_noted, nothing}
+use Rattle.law_node_history.proofs.Lemmas.{works_none, works_then}
+use Rattle.law_world_reports.proofs.Telling.Adding.{Way, Given, Taken, Stopped, gains, gains_then, passed, EndsRun, all_add_to, run_all}
 use Rattle.law_world_reports.proofs.Telling.Parts.{said, part, left, said_more, said_none}
 use Rattle.law_world_reports.proofs.Telling.Tales.{Tale}
 use Rattle.law_world_reports.proofs.Telling.Lines.{told_tale}
+use Rattle.law_world_reports.proofs.Vocabulary.{Agrees, Tells, TellsNext, Moment}
 
 module _ {K C S I O : Type 0} (r : Rulebook C S I O) (m : Makers K I O) (d : Deeds C S) where
   -- the whole of a tale
-  record Whole (w u : World K C S I O) (pdus : List (List ℕ)) (all : List Event) : Type 0 where
-    lines : ByLines r m d w u
-    gain : (way : Way) (end : Side) → gains r m d lines way end ≡ said way end pdus all
+  pub record Whole (w u : World K C S I O) (pdus : List (List ℕ)) (all : List Event)
+      : Type 0 where
+    pub lines : ByLines r m d w u
+    pub gain : (way : Way) (end : Side) → gains r m d lines way end ≡ said way end pdus all
 
-  whole : (w u : World K C S I O) (pdus rest : List (List ℕ)) (all : List Event)
+  pub whole : (w u : World K C S I O) (pdus rest : List (List ℕ)) (all : List Event)
       → Tale r m d w u pdus rest all → Whole w u pdus all
   whole w u pdus rest [] (idle, same) = record {
     lines = idle.lines;
@@ -125,18 +117,21 @@ module _ {K C S I O : Type 0} (r : Rulebook C S I O) (m : Makers K I O) (d : Dee
 
   -- ---- by the histories
 
-  agrees : (first : Company C S I O) (h : History) (pdus : List (List ℕ)) (all : List Event)
+  pub agrees : (first : Company C S I O) (h : History) (pdus : List (List ℕ)) (all : List Event)
       → ((way : Way) (end : Side) → said way end pdus all ≡ passed r d way first h end)
       → Agrees r d first h pdus all
-  agrees first h pdus all is = record { gives = is Given; takes = is Taken }
+  agrees first h pdus all is =
+      record { gives = is Given; takes = is Taken; stops = is Stopped }
 
   -- nothing passed before anything happened
-  none_passed : (way : Way) (first : Company C S I O) (end : Side)
+  pub none_passed : (way : Way) (first : Company C S I O) (end : Side)
       → passed r d way first nothing end ≡ []
   none_passed Given first Client = refl
   none_passed Given first Server = refl
   none_passed Taken first Client = refl
   none_passed Taken first Server = refl
+  none_passed Stopped first Client = refl
+  none_passed Stopped first Server = refl
 
   pub runs_until : (w v : World K C S I O) (before : ByLines r m d w v)
       → EndsRun r m d w.company v (all_noted r m d w nothing before.leads.changes)

@@ -1,18 +1,12 @@
 -- a run and the events of its report, side by side
-use Rattle.std.proofs.Common.{◌≡◌, ◌++◌, ℕ, List, [], ◌∷◌, refl, sym, ap, ◌∙◌, subst}
-use Rattle.rh_text.specs.declared.ends.Side.{Side}
-use Rattle.rh_record.specs.declared.answer.Answer.{Answer}
-use Rattle.rh_record.specs.Events.Events.{Event, event, events}
-use Rattle.rh_nodes.specs.Company.{Rulebook}
-use Rattle.rh_nodes.specs.Giving.{Deeds}
-use Rattle.rh_nodes.specs.Opening.{Makers}
-use Rattle.rh_nodes.specs.Reports.{and_then}
-use Rattle.rh_nodes.specs.World.{World}
-use Rattle.law_node_history.specs.Changes.{ByLines}
-use Rattle.law_node_history.proofs.Working.{works_none, works_then}
-use Rattle.law_world_reports.specs.Telling.{Tells}
+use Rattle.law_order.proofs.Vocabulary.{◌≡◌, ◌++◌, ℕ, List, [], ◌∷◌, refl, sym, ap, ◌∙◌, subst}
+use Rattle.rh_record.specs.Events.Events.{Event}
+use Rattle.law_moves.proofs.Vocabulary.{Side}
+use Rattle.law_node_history.proofs.Vocabulary.{Answer, event, events, Rulebook, Deeds, Makers, and_then, World, ByLines}
+use Rattle.law_node_history.proofs.Lemmas.{works_none, works_then}
 use Rattle.law_world_reports.proofs.Telling.Adding.{Way, gains, gains_then}
 use Rattle.law_world_reports.proofs.Telling.Parts.{part, left, events_append}
+use Rattle.law_world_reports.proofs.Vocabulary.{Tells}
 
 module _ {K C S I O : Type 0} (r : Rulebook C S I O) (m : Makers K I O) (d : Deeds C S) where
   -- changes by which nothing is given or taken

@@ -11,15 +11,15 @@ use Rattle.rh_record.specs.declared.answer.Who.{Who}
 use Rattle.rh_record.specs.declared.answer.Who.TheVariants.{Client, Server, In, Out}
 use Rattle.rh_record.specs.declared.line.Line.{Line}
 use Rattle.rh_shell.specs.Rules.{Rules}
-use Rattle.rh_nodes.specs.declared.event.Event.{Event}
-use Rattle.rh_nodes.specs.declared.event.Event.TheVariants.{Comes, Ends, Breaks, Passes}
-use Rattle.rh_nodes.specs.declared.place.Place.{Place}
-use Rattle.rh_nodes.specs.declared.place.Place.TheVariants.{Absent, Here, Gone}
-use Rattle.rh_nodes.specs.Company.{Company, Rulebook}
+use Rattle.rh_wires.specs.Wires.{receiver}
+use Rattle.rh_company.specs.declared.event.Event.{Event}
+use Rattle.rh_company.specs.declared.event.Event.TheVariants.{Comes, Ends, Breaks, Passes}
+use Rattle.rh_company.specs.declared.place.Place.{Place}
+use Rattle.rh_company.specs.declared.place.Place.TheVariants.{Absent, Here, Gone}
+use Rattle.rh_company.specs.Company.{Company, Rulebook}
 use Rattle.rh_nodes.specs.Giving.{Deeds}
 use Rattle.rh_nodes.specs.Opening.{Makers}
 use Rattle.rh_nodes.specs.Steps.{step_line}
-use Rattle.rh_nodes.specs.Wires.{receiver}
 use Rattle.rh_nodes.specs.World.{World, at}
 use Rattle.law_node_history.specs.Changes.{all_changed}
 use Rattle.law_node_history.specs.Closes.{IsClosedBy, IsOneOf}

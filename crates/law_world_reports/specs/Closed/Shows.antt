@@ -6,13 +6,13 @@ use Rattle.rh_line.specs.declared.leg.Leg.{Leg}
 use Rattle.rh_record.specs.declared.answer.Answer.{Answer}
 use Rattle.rh_record.specs.declared.answer.Answer.TheVariants as answer
 use Rattle.rh_record.specs.declared.answer.Who.{Who}
-use Rattle.rh_nodes.specs.declared.event.Event.{Event}
-use Rattle.rh_nodes.specs.declared.event.Event.TheVariants.{Comes, Ends, Breaks, Passes}
-use Rattle.rh_nodes.specs.Company.{Rulebook}
+use Rattle.rh_wires.specs.Legs as legs
+use Rattle.rh_wires.specs.Wires.{sender, receiver}
+use Rattle.rh_company.specs.declared.event.Event.{Event}
+use Rattle.rh_company.specs.declared.event.Event.TheVariants.{Comes, Ends, Breaks, Passes}
+use Rattle.rh_company.specs.Company.{Rulebook}
 use Rattle.rh_nodes.specs.Giving.{Deeds}
-use Rattle.rh_nodes.specs.Legs as legs
 use Rattle.rh_nodes.specs.Opening.{Makers}
-use Rattle.rh_nodes.specs.Wires.{sender, receiver}
 use Rattle.rh_nodes.specs.World.{World, at}
 use Rattle.law_node_history.specs.Changes.{Change, Works, changed}
 use Rattle.law_node_history.specs.Closes.{IsOneOf, told_by}

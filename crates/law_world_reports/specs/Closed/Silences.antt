@@ -6,8 +6,8 @@ use Rattle.rh_record.specs.declared.answer.Answer.TheVariants as answer
 use Rattle.rh_record.specs.declared.answer.Who.{Who}
 use Rattle.rh_record.specs.declared.answer.Who.TheVariants.{Client, Server, In, Out}
 use Rattle.rh_record.specs.declared.line.Line.{Line}
-use Rattle.rh_nodes.specs.declared.event.Event.{Event}
-use Rattle.rh_nodes.specs.Cookies.{cookie_of}
+use Rattle.rh_company.specs.declared.event.Event.{Event}
+use Rattle.rh_company.specs.Cookies.{cookie_of}
 use Rattle.rh_nodes.specs.Steps.{step_line}
 use Rattle.law_node_history.specs.Changes.{Leads}
 use Rattle.law_node_history.specs.Closes.{IsOneOf}

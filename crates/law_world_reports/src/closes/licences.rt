@@ -1,22 +1,19 @@
 //! What closed each node that a report tells closed. These functions do nothing: their contracts
 //! are the laws.
 
-ghost use Rattle.std.specs.Prelude.{◌≡◌, ◌⊎◌, [], true, ℕ};
+ghost use Rattle.std.specs.Prelude.{◌≡◌, []};
 ghost use Rattle.rh_line.specs.declared.cause.Cause.{Cause};
 ghost use Rattle.rh_line.specs.declared.cause.Cause.TheVariants as cause;
-ghost use Rattle.rh_line.specs.declared.leg.Leg.{Leg};
-ghost use Rattle.rh_record.specs.declared.answer.Answer.TheVariants.{BreakLeg, NodeClosed, Tick};
+ghost use Rattle.rh_record.specs.declared.answer.Answer.TheVariants.{NodeClosed};
 ghost use Rattle.rh_record.specs.declared.answer.Who.{Who};
 ghost use Rattle.rh_record.specs.declared.line.Line.{Line};
-ghost use Rattle.rh_nodes.specs.declared.event.Event.TheVariants.{Ends, Passes};
-ghost use Rattle.rh_nodes.specs.Company.{Rulebook, rules_of};
+ghost use Rattle.rh_company.specs.Company.{rules_of};
 ghost use Rattle.rh_nodes.specs.Giving.{Deeds};
 ghost use Rattle.rh_nodes.specs.Opening.{Makers};
-ghost use Rattle.rh_nodes.specs.Steps.{step, step_line};
+ghost use Rattle.rh_nodes.specs.Steps.{step};
 ghost use Rattle.rh_nodes.specs.World.{World};
 ghost use Rattle.law_node_history.specs.Closes.{IsOneOf};
-ghost use Rattle.law_world_reports.specs.Closed.Licences.{IsLicensed, MayCloseAt, ShowsMove, midst};
-ghost use Rattle.law_world_reports.specs.Closed.Shows.{ShowsEnd, ShowsLoss};
+ghost use Rattle.law_world_reports.specs.Closed.Licences.{IsLicensed};
 
 use law_node_causes::events_close_with_their_causes;
 use rh_shell::Role;
@@ -42,37 +39,3 @@ pub fn each_close_shows<K, C: Role, S: Role, I: Role, O: Role>()
     events_close_with_their_causes::<I>();
     events_close_with_their_causes::<O>();
 }
-
-/// So for each cause that names its event. A node that closed with `LegBroken` stands where the
-/// line broke that leg, or ended it in the direction in which the node puts there. One that closed
-/// with `LegEnded` stands where the line ended that leg in the direction in which it reads, and
-/// held that many bytes of what was unfinished there. One that closed with `Silent` was told that
-/// moment, and the leg was silent as long as its role allows. One that closed with `HttpRefused`
-/// stands where bytes moved to on that leg.
-pub fn each_cause_shows<K, C, S, I, O>()
-    ensures broken { (r : Rulebook C S I O) (m : Makers K I O) (d : Deeds C S) (line : Line)
-        (w : World K C S I O) (node : Who) (leg : Leg)
-        (is : IsLicensed r m d line w node (cause.LegBroken leg))
-        → IsOneOf (BreakLeg leg true) (step_line r m d line w).1
-        ⊎ ShowsLoss (step_line r m d line w).1
-        (midst r m d line w node (cause.LegBroken leg) is) node leg }
-    ensures ended { (r : Rulebook C S I O) (m : Makers K I O) (d : Deeds C S) (line : Line)
-        (w : World K C S I O) (node : Who) (leg : Leg) (partial : ℕ)
-        (is : IsLicensed r m d line w node (cause.LegEnded leg partial))
-        → ShowsEnd (step_line r m d line w).1
-        (midst r m d line w node (cause.LegEnded leg partial) is) node leg
-        × MayCloseAt r (midst r m d line w node (cause.LegEnded leg partial) is).company node
-        (Ends leg) (cause.LegEnded leg partial) }
-    ensures silent { (r : Rulebook C S I O) (m : Makers K I O) (d : Deeds C S) (line : Line)
-        (w : World K C S I O) (node : Who) (leg : Leg) (since now : ℕ)
-        (is : IsLicensed r m d line w node (cause.Silent leg since now))
-        → IsOneOf (Tick now true) (step_line r m d line w).1
-        × MayCloseAt r (midst r m d line w node (cause.Silent leg since now) is).company node
-        (Passes now) (cause.Silent leg since now) }
-    ensures refused { (r : Rulebook C S I O) (m : Makers K I O) (d : Deeds C S) (line : Line)
-        (w : World K C S I O) (node : Who) (leg : Leg) (status : ℕ)
-        (is : IsLicensed r m d line w node (cause.HttpRefused leg status))
-        → ShowsMove (step_line r m d line w).1
-        (midst r m d line w node (cause.HttpRefused leg status) is) node
-        is.closed.closes.event leg }
-{}

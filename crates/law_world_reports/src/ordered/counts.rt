@@ -3,8 +3,8 @@
 ghost use Rattle.std.specs.Prelude.{◌≡◌, List, ◌∷◌, true};
 ghost use Rattle.rh_record.specs.declared.line.Line.{Line};
 ghost use Rattle.rh_record.specs.declared.line.Line.TheVariants.{First};
-ghost use Rattle.rh_nodes.specs.Company.{Rulebook};
-ghost use Rattle.rh_nodes.specs.Counts.{none};
+ghost use Rattle.rh_wires.specs.Counts.{none};
+ghost use Rattle.rh_company.specs.Company.{Rulebook};
 ghost use Rattle.rh_nodes.specs.Giving.{Deeds};
 ghost use Rattle.rh_nodes.specs.Opening.{Makers};
 ghost use Rattle.rh_nodes.specs.Steps.{told};

@@ -1,14 +1,8 @@
 -- what was over before changes counts for them as well: so lists of changes are put behind each
 -- other
-use Rattle.std.proofs.Common.{◌≡◌, ◌++◌, List, [], ◌∷◌, Some, None, refl, ap, subst, ◌⊎◌, inl, inr}
-use Rattle.std.specs.Prelude.{IfSome}
-use Rattle.std.specs.declared.option.Option.{Option}
-use Rattle.rh_line.specs.declared.leg.Leg.{Leg}
-use Rattle.rh_nodes.specs.Company.{Rulebook}
-use Rattle.rh_nodes.specs.Giving.{Deeds}
-use Rattle.rh_nodes.specs.Opening.{Makers}
-use Rattle.rh_nodes.specs.World.{World}
-use Rattle.law_node_history.specs.Changes.{Change, all_changed, changed}
+use Rattle.law_order.proofs.Vocabulary.{◌≡◌, ◌++◌, List, [], ◌∷◌, Some, None, refl, ap, subst, ◌⊎◌, inl, inr, IfSome, Option}
+use Rattle.law_moves.proofs.Vocabulary.{Leg}
+use Rattle.law_node_history.proofs.Vocabulary.{Rulebook, Deeds, Makers, World, Change, all_changed, changed}
 use Rattle.law_world_ways.specs.EndsInTime.InTime.{AllEndInTime, IsOver, WasOver, ended_by}
 
 -- what holds of an option's value may be less

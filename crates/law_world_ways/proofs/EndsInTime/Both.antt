@@ -1,38 +1,17 @@
 -- what lines do keeps each leg up for both of its ends, or for neither
-use Rattle.std.proofs.Common.{◌≡◌, ℕ, zero, suc, List, ◌++◌, Bool, true, false, ◌||◌, ◌&&◌, if◌then◌else◌, length, None, refl, sym, ap, ◌∙◌, subst, ⊎_elim}
-use Rattle.std.specs.Prelude.{drop, nat_le, nat_lt}
-use Rattle.std.specs.declared.option.Option.{Option}
-use Rattle.rh_text.specs.declared.ends.Dir.{Dir}
-use Rattle.rh_text.specs.declared.ends.Dir.TheVariants.{U, D}
-use Rattle.rh_text.specs.declared.ends.Side.{Side}
-use Rattle.rh_text.specs.declared.ends.Side.TheVariants.{Client, Server}
-use Rattle.law_order.proofs.ByNumber.{by_test}
-use Rattle.rh_rts.specs.declared.command.TheConstants.{NO_COOKIE}
-use Rattle.rh_line.specs.declared.leg.Leg.{Leg}
-use Rattle.rh_line.specs.declared.leg.LegKind.{LegKind}
-use Rattle.rh_line.specs.declared.leg.LegKind.TheVariants.{ClientOut, OutServer, ClientIn, InServer}
+use Rattle.law_order.proofs.Vocabulary.{◌≡◌, ℕ, zero, suc, List, ◌++◌, Bool, true, false, ◌||◌, ◌&&◌, if◌then◌else◌, length, None, refl, sym, ap, ◌∙◌, subst, ⊎_elim, drop, nat_le, nat_lt, Option}
 use Rattle.rh_record.specs.declared.answer.Who.TheVariants as who
 use Rattle.rh_shell.specs.Shells as shell
-use Rattle.rh_shell.specs.Shells.{same_leg}
-use Rattle.rh_nodes.specs.declared.event.Event.{Event}
-use Rattle.rh_nodes.specs.declared.event.Event.TheVariants.{Ends, Breaks, Passes}
-use Rattle.rh_nodes.specs.declared.legs.Legs.{Legs}
-use Rattle.rh_nodes.specs.declared.wire.Wire.{Wire}
-use Rattle.rh_nodes.specs.Breaking.{is_up, lost, lose, refuse, break_leg, end_leg}
-use Rattle.rh_nodes.specs.Carrying.{send, sent, draw_into, feed, fed}
-use Rattle.rh_nodes.specs.Company as company
-use Rattle.rh_nodes.specs.Company.{Rulebook}
-use Rattle.rh_nodes.specs.Giving.{Deeds, give, take, close}
-use Rattle.rh_nodes.specs.Legs as legs
+use Rattle.rh_wires.specs.Legs as legs
+use Rattle.rh_wires.specs.Wires as wires
+use Rattle.rh_company.specs.Company as company
+use Rattle.rh_nodes.specs.Time.{at_moment}
+use Rattle.rh_nodes.specs.World.{tell}
 use Rattle.rh_nodes.specs.Opening as opening
-use Rattle.rh_nodes.specs.Opening.{Makers, connect, connect_client, is_wanted, may_make, may_open_same, open_by, open_in_to, open_leg, open_out_to, open_same, read_on, with_in, with_out}
-use Rattle.rh_nodes.specs.Settling.{leg_at}
-use Rattle.rh_nodes.specs.Time.{for_each, tick, tick_all, tick_ins, at_moment}
-use Rattle.rh_nodes.specs.Wires as wires
-use Rattle.rh_nodes.specs.Wires.{sender, receiver}
-use Rattle.rh_nodes.specs.World.{World, at, tell}
-use Rattle.law_node_history.specs.Carried.{wire_at}
-use Rattle.law_node_history.proofs.Wired.{cases_leg, is_up_at, put_here, put_beside, take_here, take_beside, raise_here, raise_beside, lower_here, lower_beside}
+use Rattle.law_moves.proofs.Vocabulary.{Dir, U, D, Side, Client, Server, by_test, NO_COOKIE, Leg, LegKind, ClientOut, OutServer, ClientIn, InServer, same_leg}
+use Rattle.law_node_history.proofs.Vocabulary.{Legs, Wire, sender, receiver, Event, Ends, Breaks, Passes, Rulebook, is_up, lost, lose, refuse, break_leg, end_leg, send, sent, draw_into, feed, fed, Deeds, give, take, close, Makers, connect, connect_client, is_wanted, may_make, may_open_same, open_by, open_in_to, open_leg, open_out_to, open_same, read_on, with_in, with_out, leg_at, for_each, tick, tick_all, tick_ins, World, at, wire_at}
+use Rattle.law_node_history.proofs.Lemmas.{cases_leg, is_up_at, put_beside, take_here, take_beside, raise_here, raise_beside, lower_here, lower_beside}
+use Rattle.law_node_history.proofs.Wired.{put_here}
 use Rattle.law_world_ways.specs.EndsInTime.Both.{AreUpAtBoth}
 
 -- ---- one wire

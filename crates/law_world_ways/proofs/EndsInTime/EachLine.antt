@@ -1,24 +1,16 @@
 -- each line ends a leg only where it is over, and keeps each leg up for both of its ends or for
 -- neither
-use Rattle.std.proofs.Common.{◌≡◌, true, Some, None, refl}
-use Rattle.std.specs.declared.option.Option.{Option}
-use Rattle.rh_record.specs.declared.answer.Answer.{Answer}
-use Rattle.rh_record.specs.declared.line.Line.{Line}
+use Rattle.law_order.proofs.Vocabulary.{◌≡◌, true, Some, None, refl, Option}
 use Rattle.rh_record.specs.declared.line.Line.TheVariants as line
-use Rattle.rh_nodes.specs.Company.{Rulebook}
-use Rattle.rh_nodes.specs.Giving.{Deeds}
-use Rattle.rh_nodes.specs.Opening.{Makers, open_leg, open_same}
-use Rattle.rh_nodes.specs.Steps.{reported, ending_answer, leg_answer, answer_of, step_line, step}
-use Rattle.rh_nodes.specs.World.{World}
-use Rattle.law_node_history.specs.Changes.{Gives, Takes, Closes, RecyclesIn, RecyclesOut, Reports}
-use Rattle.law_node_history.proofs.Connecting.{connects_open_leg, connects_open_same}
-use Rattle.law_world_ways.specs.EndsInTime.Both.{AreUpAtBoth}
-use Rattle.law_world_ways.specs.EndsInTime.Losses.{LosesInTime, loses_no_leg}
+use Rattle.law_node_history.proofs.Vocabulary.{Answer, Line, Rulebook, Deeds, Makers, open_leg, open_same, reported, ending_answer, leg_answer, answer_of, step_line, step, World, Gives, Takes, Closes, RecyclesIn, RecyclesOut, Reports}
+use Rattle.law_node_history.proofs.Lemmas.{connects_open_leg, connects_open_same}
 use Rattle.law_world_ways.proofs.EndsInTime.Behind.{NoLeg}
 use Rattle.law_world_ways.proofs.EndsInTime.Both.{break_keeps, close_keeps, end_keeps, feed_keeps, give_keeps, open_keeps, same_keeps, send_keeps, take_keeps, tick_keeps}
-use Rattle.law_world_ways.proofs.EndsInTime.Goes.{InTime, goes_none, goes_one, goes_then, goes_connecting}
+use Rattle.law_world_ways.proofs.EndsInTime.Goes.{InTime, QuietInTime, goes_connecting, goes_none, goes_one, goes_then, quiet_in_time}
 use Rattle.law_world_ways.proofs.EndsInTime.Losing.{break_in_time, end_in_time, send_in_time, feed_in_time, tick_in_time}
 use Rattle.law_world_ways.proofs.EndsInTime.Rounds.{settle_in_time}
+use Rattle.law_world_ways.specs.EndsInTime.Both.{AreUpAtBoth}
+use Rattle.law_world_ways.specs.EndsInTime.Losses.{LosesInTime, loses_no_leg}
 
 module _ {K C S I O : Type 0} (r : Rulebook C S I O) where
   pub others_lose_none : (w : World K C S I O) (one : Line) → loses_no_leg one ≡ true
@@ -72,14 +64,14 @@ module _ {K C S I O : Type 0} (r : Rulebook C S I O) (m : Makers K I O) (d : Dee
   -- ---- legs end in time
 
   ending_in_time : (w : World K C S I O) (one : Line) → LosesInTime r w one
-      → InTime r m d w (ending_answer r w one).0
+      → QuietInTime r m d w (ending_answer r w one).0
   ending_in_time w (line.BreakLeg leg) over = break_in_time r m d w leg over
   ending_in_time w (line.EndLeg leg dir) over = end_in_time r m d w leg dir over
   ending_in_time w (line.Tick now) over = tick_in_time r m d w now
   ending_in_time w one over = goes_none r m d NoLeg w
 
-  leg_in_time : (w : World K C S I O) (one : Line) → LosesInTime r w one
-      → InTime r m d w (leg_answer r m w one).0
+  pub leg_in_time : (w : World K C S I O) (one : Line) → LosesInTime r w one
+      → QuietInTime r m d w (leg_answer r m w one).0
   leg_in_time w (line.Send (Some leg) dir count) over = send_in_time r m d w leg dir count
   leg_in_time w (line.Move (Some leg) dir count) over = feed_in_time r m d w leg dir count
   leg_in_time w (line.OpenLeg leg) over =
@@ -95,7 +87,8 @@ module _ {K C S I O : Type 0} (r : Rulebook C S I O) (m : Makers K I O) (d : Dee
   answer_in_time w (line.Close end) over = goes_one r m d NoLeg w (Closes end) tt refl tt
   answer_in_time w line.RecycleIn over = goes_one r m d NoLeg w RecyclesIn tt refl tt
   answer_in_time w line.RecycleOut over = goes_one r m d NoLeg w RecyclesOut tt refl tt
-  answer_in_time w one over = leg_in_time w one over
+  answer_in_time w one over =
+      quiet_in_time r m d w (leg_answer r m w one).0 (leg_in_time w one over)
 
   reported_goes : (w : World K C S I O) (did : World K C S I O × Option Answer)
       → InTime r m d w did.0 → InTime r m d w (reported did).0

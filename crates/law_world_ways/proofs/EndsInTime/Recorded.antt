@@ -1,23 +1,16 @@
 -- each world of roles that a recording comes to is reached by changes that end a leg only where it
 -- is over
-use Rattle.std.proofs.Common.{◌≡◌, List, [], ◌∷◌, true, false}
-use Rattle.std.specs.List.{list_all}
-use Rattle.std.proofs.lemmas.Bool.{and_parts}
-use Rattle.rh_record.specs.declared.line.Line.{Line}
-use Rattle.rh_record.specs.declared.line.Line.TheVariants.{First, Set}
-use Rattle.rh_world.specs.declared.any_world.AnyWorld.{AnyWorld}
-use Rattle.rh_world.specs.declared.any_world.AnyWorld.TheVariants.{Before, Direct, Settings, Roles}
-use Rattle.rh_world.specs.declared.config.WorldConfig.{WorldConfig}
-use Rattle.rh_world.specs.Any.{act, after, prepared, step}
-use Rattle.rh_world.specs.Config.{AreInRange}
+use Rattle.law_order.proofs.Vocabulary.{◌≡◌, List, [], ◌∷◌, true, false, list_all, and_parts}
+use Rattle.law_node_history.proofs.Vocabulary.{Line, First, Set}
 use Rattle.rh_world.specs.Roles as roles
+use Rattle.law_world_reports.proofs.Vocabulary.{AnyWorld, Before, Direct, Settings, Roles, WorldConfig, act, after, prepared, step, AreInRange}
 use Rattle.law_world_reports.proofs.Bounded.Reached.{prepared_is_recorded}
-use Rattle.law_world_ways.specs.EndsInTime.Both.{AreUpAtBoth}
-use Rattle.law_world_ways.specs.EndsInTime.Losses.{AllLoseInTime, IsEndedInTime, LosesInTime, LosesInTimeAt, loses_no_leg}
 use Rattle.law_world_ways.proofs.EndsInTime.Behind.{NoLeg}
 use Rattle.law_world_ways.proofs.EndsInTime.Both.{none_up}
 use Rattle.law_world_ways.proofs.EndsInTime.Goes.{InTime, ends_in_time, goes_none, goes_then}
 use Rattle.law_world_ways.proofs.EndsInTime.EachLine.{others_lose_none, step_in_time, step_keeps}
+use Rattle.law_world_ways.specs.EndsInTime.Both.{AreUpAtBoth}
+use Rattle.law_world_ways.specs.EndsInTime.Losses.{AllLoseInTime, IsEndedInTime, LosesInTime, LosesInTimeAt, loses_no_leg}
 
 record IsReached (world : roles.World) : Type 0 where
   config : WorldConfig

@@ -1,77 +1,41 @@
 -- fronts of the changes that lead to a world of roles: what is known behind each
-use Rattle.std.proofs.Common.{◌≡◌, ◌≢◌, ◌⊎◌, inl, inr, ◌<◌, ◌≤◌, ℕ, List, [], ◌++◌, Bool, true, false, true≢false, not, Some, arith, refl, sym, ap, ◌∙◌, subst}
-use Rattle.std.specs.List.{AllByRecursion, list_all}
-use Rattle.std.specs.declared.option.Option.{Option}
-use Rattle.std.proofs.lemmas.Bool.{and_parts, cases_lt}
-use mathlib.Core.List.{IsPrefix}
-use Rattle.rh_http.specs.declared.config.ClientConfig.{ClientConfig}
-use Rattle.rh_text.specs.declared.ends.Dir.{Dir}
-use Rattle.rh_text.specs.declared.ends.Side.{Side}
 use Rattle.rh_text.specs.declared.ends.Side.TheVariants as side
-use Rattle.rh_sig.specs.declared.name.Pipe.{Pipe}
-use Rattle.rh_line.specs.declared.leg.Leg.{Leg}
-use Rattle.law_order.proofs.Prefixes.{prefix_self}
-use Rattle.rh_shell.specs.declared.course.Course.TheVariants.{Going}
-use Rattle.rh_shell.specs.declared.rooms.Rooms.{Rooms}
-use Rattle.law_moves.specs.Moving.{EndEvent, Event, after_end_events, after_events}
-use Rattle.rh_shell.specs.Rules.{Acts, Rules}
-use Rattle.law_moves.specs.Moves.{is_at_work, is_in_use}
-use Rattle.rh_shell.specs.Shells.{Shell, begun, finished}
-use Rattle.rh_client.specs.declared.state.ClientRole.{ClientRole}
-use Rattle.rh_client.specs.Client as client
-use Rattle.law_role_client.specs.Order.{put_log}
-use Rattle.rh_client.specs.State as client_state
-use Rattle.rh_inproxy.specs.declared.state.InProxyConfig.{InProxyConfig}
-use Rattle.rh_inproxy.specs.Machine as in_proxy
-use Rattle.law_role_inproxy.specs.Order as in_order
-use Rattle.rh_inproxy.specs.State.{InProxy}
-use Rattle.rh_inproxy.specs.State as in_state
-use Rattle.rh_outproxy.specs.declared.out_proxy.TheConstants.{ROOMS}
-use Rattle.rh_outproxy.specs.declared.state.OutProxyConfig.{OutProxyConfig}
-use Rattle.rh_outproxy.specs.Machine as out_proxy
-use Rattle.law_role_outproxy.specs.Order.{put_items}
-use Rattle.rh_outproxy.specs.OutProxy.{OutProxy, new_proxy}
-use Rattle.law_role_server.specs.Order.{sent}
-use Rattle.rh_server.specs.Servers as server
-use Rattle.rh_server.specs.States.{Server}
+use Rattle.law_order.proofs.Vocabulary.{◌≡◌, ◌≢◌, ◌⊎◌, inl, inr, ◌<◌, ◌≤◌, ℕ, List, [], ◌++◌, Bool, true, false, true≢false, not, Some, arith, refl, sym, ap, ◌∙◌, subst, AllByRecursion, list_all, and_parts, cases_lt, IsPrefix}
 use Rattle.rh_record.specs.declared.answer.Who.TheVariants as who
-use Rattle.rh_nodes.specs.declared.place.Place.TheVariants.{Absent, Gone}
-use Rattle.rh_nodes.specs.Company as company
-use Rattle.rh_nodes.specs.Opening.{Makers}
-use Rattle.rh_nodes.specs.Places as places
-use Rattle.rh_nodes.specs.Readers.{reader_of}
-use Rattle.rh_nodes.specs.Legs as legs
-use Rattle.rh_nodes.specs.Wires.{is_up, sender}
-use Rattle.rh_nodes.specs.World.{World, at}
-use Rattle.law_node_history.specs.Carried.{AreAccepted, AreAcceptedAtEnd, ComesUpOnce, ComesUpOnceAtEnd, LegsComeUpOnce, came_up, events_of, happened, wire_at}
-use Rattle.law_node_history.specs.Changes.{AreAllowed, ByLines, Change, all_changed, of_line}
-use Rattle.law_node_history.specs.Histories.{History, IsNew, all_noted, in_place, nothing, out_place}
+use Rattle.rh_inproxy.specs.Machine as in_proxy
+use Rattle.rh_inproxy.specs.State as in_state
+use Rattle.rh_outproxy.specs.Machine as out_proxy
+use Rattle.rh_client.specs.Client as client
+use Rattle.rh_client.specs.State as client_state
+use Rattle.rh_server.specs.Servers as server
+use Rattle.rh_wires.specs.Wires.{is_up}
+use Rattle.rh_wires.specs.Legs as legs
+use Rattle.rh_wires.specs.Legs as legs
+use Rattle.rh_company.specs.Company as company
+use Rattle.rh_company.specs.Places as places
+use Rattle.rh_company.specs.Company as company
+use Rattle.rh_company.specs.Places as places
+use Rattle.law_moves.proofs.Vocabulary.{Dir, Side, prefix_self, Pipe, ClientConfig, Leg, Going, Rooms, Acts, Rules, Shell, begun, finished, EndEvent, Event, after_end_events, after_events, is_at_work, is_in_use}
+use Rattle.law_role_inproxy.proofs.Vocabulary.{InProxyConfig, InProxy}
+use Rattle.law_role_inproxy.specs.Order as in_order
+use Rattle.law_role_client.proofs.Vocabulary.{ClientRole, put_log}
+use Rattle.law_role_server.proofs.Vocabulary.{Server, sent}
+use Rattle.law_node_history.proofs.Vocabulary.{reader_of, sender, Absent, Gone, Makers, World, at, AreAccepted, AreAcceptedAtEnd, ComesUpOnce, ComesUpOnceAtEnd, LegsComeUpOnce, came_up, events_of, happened, wire_at, AreAllowed, ByLines, Change, all_changed, of_line, History, IsNew, all_noted, in_place, nothing, out_place}
+use Rattle.law_node_history.proofs.Lemmas.{cast_kept, asked, traced_first, is_up_at}
 use Rattle.law_node_causes.proofs.OnceUp.{AllFollow, AllFollowAtEnd}
-use Rattle.law_node_history.proofs.Leading.{cast_kept}
-use Rattle.law_node_history.proofs.Numbers.{asked}
-use Rattle.law_node_history.proofs.Recordings.{traced_first}
-use Rattle.law_node_history.proofs.Wired.{is_up_at}
-use Rattle.law_node_traces.specs.LetGo.{is_gone, was_let_go}
-use Rattle.law_node_streams.specs.Streams.{HasPipes, HearsInTurn, NeverRefuses, StaysUnused, StaysUnusedAtEnd, Stream}
+use Rattle.law_role_outproxy.proofs.Vocabulary.{ROOMS, OutProxyConfig, OutProxy, new_proxy, put_items}
+use Rattle.law_node_streams.specs.Streams.{HasPipes, NeverRefuses, StaysUnused, StaysUnusedAtEnd, Stream}
 use Rattle.law_node_streams.specs.Grown.{EndGrowing, Growing}
-use Rattle.law_node_traces.specs.Traced.Cookies.{ByChanges}
-use Rattle.law_node_traces.specs.Traced.Numbers.{ComeUpByLines, ComeUpInOrder}
-use Rattle.law_node_traces.specs.Traced.Ours.{AreOurs, deeds, rules}
-use Rattle.law_node_traces.specs.Traced.Recordings.{IsKnown, history_at}
-use Rattle.law_node_traces.proofs.Traced.ByChanges.{lines_by_changes}
+use Rattle.law_node_ends.specs.Passed.{AsksNoEcho, HeadsAre}
 use Rattle.law_node_begins.specs.ProxiesBegin.Pipes.{ci, co, in_pipe, is, os, out_pipe}
+use Rattle.law_node_traces.proofs.Traced.ByChanges.{lines_by_changes}
+use Rattle.law_node_traces.proofs.Vocabulary.{is_gone, was_let_go, ByChanges, ComeUpByLines, ComeUpInOrder, AreOurs, deeds, rules, IsKnown, history_at}
 use Rattle.law_peers_routes.specs.Downwards.{client_reads, proxy_reads, server_reads}
 use Rattle.law_world_order.proofs.Marked.{RouteLaws}
-use Rattle.law_world_order.specs.Flows.{Numbers, numbers_of}
-use Rattle.law_node_ends.specs.Passed.{AsksNoEcho, HeadsAre}
-use Rattle.law_world_ways.specs.LiveIntakes.{ReadsLeg}
-use Rattle.law_world_ways.specs.OnPaths.Legs.{has_passed, was_left, was_told, was_up}
-use Rattle.law_world_ways.specs.OnPaths.Lost.{was_lost}
-use Rattle.law_world_ways.specs.OnPaths.OnWay.{left_on}
-use Rattle.law_world_ways.specs.OnPaths.Ways.{AreOnTheirWay, client_node, in_node, out_node, server_node}
-use Rattle.law_world_ways.specs.ExactWays.Keeping.{KeepsIfOfUse, KnowsLeg}
+use Rattle.law_world_order.proofs.Pasts.Family.{EndNodeGrows, NodeGrows}
+use Rattle.law_world_order.proofs.Moments.{OurWorld}
+use Rattle.law_world_order.proofs.Vocabulary.{Numbers, numbers_of}
 use Rattle.law_world_ways.proofs.ExactWays.Passing.{InLaw, OutLaw, ServerLaw}
-use Rattle.law_world_ways.specs.ExactPaths.GoingOn.{AllGoOn}
 use Rattle.law_world_ways.proofs.ExactPaths.Drawn.{finished_empty, nothing_left, place_empty}
 use Rattle.law_world_ways.proofs.ExactPaths.Finished.{finished_unused, place_unused}
 use Rattle.law_world_ways.proofs.ExactPaths.Fronts.{IsEnded, all_front, allowed_front}
@@ -83,26 +47,15 @@ use Rattle.law_world_ways.proofs.ExactPaths.Receivers.{ClientOrder, InOrder, Out
 use Rattle.law_world_ways.proofs.ExactPaths.ServerStays.{writing_stays}
 use Rattle.law_world_ways.proofs.ExactPaths.Streams.{ClientStream, InStream, OutStream, ServerStream}
 use Rattle.law_world_ways.proofs.ExactPaths.Told.{told_by_change}
-
-abbrev pub OurWorld : Type 0 → Type 0
-OurWorld K = World K ClientRole Server InProxy OutProxy
+use Rattle.law_world_ways.specs.LiveIntakes.{ReadsLeg}
+use Rattle.law_world_ways.specs.OnPaths.Legs.{has_passed, was_left, was_told, was_up}
+use Rattle.law_world_ways.specs.OnPaths.Lost.{was_lost}
+use Rattle.law_world_ways.specs.OnPaths.OnWay.{left_on}
+use Rattle.law_world_ways.specs.OnPaths.Ways.{AreOnTheirWay, client_node, in_node, out_node, server_node}
+use Rattle.law_world_ways.specs.ExactWays.Keeping.{KeepsIfOfUse, KnowsLeg}
+use Rattle.law_world_ways.specs.ExactPaths.GoingOn.{AllGoOn}
 
 -- ---- the laws that this stands on
-
-abbrev pub NodeGrows : {S : Type 0} → Rules S → Type 0
-NodeGrows {S} rules =
-    (first : S) (rooms : Rooms) (pipe : Leg → Option Pipe) (events : List Event)
-    → HasPipes rules first pipe → StaysUnused rules first
-    → ComesUpOnce rules (begun first rooms) → AreAccepted rules (begun first rooms) events
-    → HearsInTurn events → Growing rules first rooms pipe events
-
-abbrev pub EndNodeGrows : {S : Type 0} → Rules S → Acts S → Type 0
-EndNodeGrows {S} rules acts =
-    (first : S) (rooms : Rooms) (pipe : Leg → Option Pipe) (events : List EndEvent)
-    → ((s : S) (leg : Leg) → rules.pipe s leg ≡ pipe leg) → NeverRefuses rules
-    → StaysUnusedAtEnd rules acts first → ComesUpOnceAtEnd rules acts (begun first rooms)
-    → AreAcceptedAtEnd rules acts (begun first rooms) events
-    → HearsInTurn (happened events) → EndGrowing rules acts first rooms pipe events
 
 -- of nodes
 pub record NodeLaws : Type 0 where

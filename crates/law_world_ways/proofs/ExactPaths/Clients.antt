@@ -1,22 +1,17 @@
 -- on each leg for which a client has no use any more the handover mark or END came
-use Rattle.std.proofs.Common.{◌≡◌, ◌⊎◌, inl, inr, ◌<◌, ◌≤◌, ℕ, List, true, false, sym, subst}
-use Rattle.std.proofs.lemmas.Bool.{cases_lt}
-use Rattle.law_order.specs.Items.{has_end, has_handover}
-use Rattle.rh_http.specs.declared.config.ClientConfig.{ClientConfig}
-use Rattle.rh_client.specs.declared.state.ClientRole.{ClientRole}
+use Rattle.law_order.proofs.Vocabulary.{◌≡◌, ◌⊎◌, inl, inr, ◌<◌, ◌≤◌, ℕ, List, true, false, sym, subst, cases_lt, has_end, has_handover}
 use Rattle.rh_client.specs.Client as client
 use Rattle.rh_client.specs.State as client_state
-use Rattle.law_moves.specs.Moves.{EndPassage, is_in_use}
-use Rattle.law_moves.specs.Moving.{EndEvent, after_end_events}
+use Rattle.law_moves.proofs.Vocabulary.{ClientConfig, EndPassage, is_in_use, EndEvent, after_end_events}
+use Rattle.law_role_client.proofs.Vocabulary.{ClientRole, TakesInOrder, client_moved, has_leg}
 use Rattle.law_role_client.specs.Order as client_order
-use Rattle.law_role_client.specs.Order.{TakesInOrder, client_moved, has_leg}
+use Rattle.law_node_history.proofs.Lemmas.{or_left as or_first}
 use Rattle.law_node_streams.specs.Streams.{EndStream}
 use Rattle.law_node_begins.specs.ProxiesBegin.Pipes.{co}
 use Rattle.law_peers_routes.specs.Downwards.{client_reads}
-use Rattle.law_world_ways.specs.OnPaths.Legs.{has_passed}
 use Rattle.law_world_ways.proofs.ExactWays.Passing.{client_passes}
 use Rattle.law_world_ways.proofs.ExactPaths.Receivers.{ClientOrder}
-use Rattle.law_world_ways.proofs.ExactPaths.Shelves.{or_first}
+use Rattle.law_world_ways.specs.OnPaths.Legs.{has_passed}
 
 module _ (law : ClientOrder) (config : ClientConfig) (n : ℕ) (has : has_leg n ≡ true)
     (events : List EndEvent)

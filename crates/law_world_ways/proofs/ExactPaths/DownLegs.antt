@@ -1,51 +1,38 @@
 -- the legs down, while all nodes go on: each gives all, or its handover mark or END passed
-use Rattle.std.proofs.Common.{◌≡◌, ◌⊎◌, inl, inr, ◌<◌, ◌≤◌, ℕ, zero, suc, List, [], ◌++◌, Bool, true, false, true≢false, if◌then◌else◌, Some, arith, refl, sym, ap, ◌∙◌, subst}
-use Rattle.std.specs.List.{list_all}
-use Rattle.std.proofs.lemmas.Bool.Decides.{nat_tests}
-use mathlib.Core.List.{IsPrefix}
-use Rattle.rh_text.specs.declared.ends.Dir.TheVariants.{D}
 use Rattle.rh_text.specs.declared.ends.Side.TheVariants as side
-use Rattle.rh_sig.specs.declared.name.Pipe.TheVariants.{CoD, OsD}
-use Rattle.law_order.specs.Items.{Item}
-use Rattle.law_order.specs.Passing.{from_first}
-use Rattle.law_order.specs.Paths.{reader, stops_at}
-use Rattle.law_order.specs.Routes.{Route}
-use Rattle.law_order.proofs.Prefixes.{prefix_self}
-use Rattle.law_moves.specs.Moves.{is_in_use}
-use Rattle.rh_client.specs.Client as client
-use Rattle.law_role_client.specs.Order.{down_items, has_leg}
-use Rattle.rh_inproxy.specs.State.{InProxy}
+use Rattle.law_order.proofs.Vocabulary.{◌≡◌, ◌⊎◌, inl, inr, ◌<◌, ◌≤◌, ℕ, zero, suc, List, [], ◌++◌, Bool, true, false, true≢false, if◌then◌else◌, Some, arith, refl, sym, ap, ◌∙◌, subst, list_all, nat_tests, IsPrefix, Item, from_first, reader, stops_at, Route}
 use Rattle.rh_outproxy.specs.Machine as out_proxy
-use Rattle.law_role_outproxy.specs.Order.{from_server, put_items}
-use Rattle.rh_outproxy.specs.OutProxy.{OutProxy}
-use Rattle.rh_server.specs.States.{Server}
-use Rattle.rh_nodes.specs.Opening.{Makers}
-use Rattle.law_node_history.specs.Carried.{came_up, happened}
-use Rattle.law_node_history.specs.Changes.{AreAllowed, Change, of_line}
-use Rattle.law_node_history.specs.Histories.{History, IsNew, all_noted, nothing}
-use Rattle.law_node_traces.specs.Traced.Ours.{AreOurs, deeds, rules}
+use Rattle.rh_client.specs.Client as client
+use Rattle.law_moves.proofs.Vocabulary.{D, prefix_self, CoD, OsD, is_in_use}
+use Rattle.law_role_inproxy.proofs.Vocabulary.{InProxy}
+use Rattle.law_role_client.proofs.Vocabulary.{down_items, has_leg}
+use Rattle.law_role_server.proofs.Vocabulary.{Server}
+use Rattle.law_node_history.proofs.Vocabulary.{Makers, came_up, happened, AreAllowed, Change, of_line, History, IsNew, all_noted, nothing}
+use Rattle.law_role_outproxy.proofs.Vocabulary.{OutProxy, from_server, put_items}
 use Rattle.law_node_begins.specs.ProxiesBegin.Pipes.{co, os}
-use Rattle.law_world_ways.specs.EndsInTime.InTime.{AllEndInTime}
+use Rattle.law_node_traces.proofs.Vocabulary.{AreOurs, deeds, rules}
 use Rattle.law_world_order.proofs.Marked.{down_is_route}
-use Rattle.law_world_order.specs.Directions.{down_route_of}
-use Rattle.law_world_order.specs.Flows.{numbers_of}
-use Rattle.law_world_ways.specs.OnPaths.Legs.{has_passed, was_up}
-use Rattle.law_world_ways.specs.OnPaths.OnWay.{items_on_way}
-use Rattle.law_world_ways.specs.OnPaths.Ways.{AreOnTheirWay, client_node, down_far, down_lost, down_near, out_node, server_node}
-use Rattle.law_world_ways.specs.ExactWays.Pdus.{NoneStopsButBehindEnd}
-use Rattle.law_world_ways.proofs.ExactWays.Passing.{out_passes, passed_goes}
-use Rattle.law_world_ways.specs.ExactPaths.GoingOn.{AllGoOn}
+use Rattle.law_world_order.proofs.Moments.{OurWorld}
+use Rattle.law_world_order.proofs.Vocabulary.{down_route_of, numbers_of}
+use Rattle.law_world_ways.proofs.ExactWays.Passing.{out_passes}
 use Rattle.law_world_ways.proofs.ExactPaths.Streams.{ClientStream, OutStream, co_passed, os_passed}
 use Rattle.law_world_ways.proofs.ExactPaths.Clients.{passed}
 use Rattle.law_world_ways.proofs.ExactPaths.Fates.{Facts, goes_or_passed}
 use Rattle.law_world_ways.proofs.ExactPaths.Fronts.{front_more}
 use Rattle.law_world_ways.proofs.ExactPaths.Grown.{client_grown, out_grown}
 use Rattle.law_world_ways.proofs.ExactPaths.Receivers.{client_later, out_later}
+use Rattle.law_world_ways.proofs.ExactPaths.AtFronts.{NodeLaws, WorldLaws}
+use Rattle.law_world_ways.proofs.OnPaths.Used.{passed_goes}
 use Rattle.law_world_ways.proofs.ExactPaths.AtFronts as worlds
-use Rattle.law_world_ways.proofs.ExactPaths.AtFronts.{NodeLaws, OurWorld, WorldLaws}
+use Rattle.law_world_ways.specs.EndsInTime.InTime.{AllEndInTime}
+use Rattle.law_world_ways.specs.OnPaths.Legs.{has_passed, was_up}
+use Rattle.law_world_ways.specs.OnPaths.OnWay.{items_on_way}
+use Rattle.law_world_ways.specs.OnPaths.Ways.{AreOnTheirWay, client_node, down_far, down_lost, down_near, out_node, server_node}
+use Rattle.law_world_ways.specs.ExactWays.Pdus.{NoneStopsButBehindEnd}
+use Rattle.law_world_ways.specs.ExactPaths.GoingOn.{AllGoOn}
 
 -- each channel down is read by the out proxy of its number
-own_reader : (n : ℕ) → reader has_leg n ≡ n
+pub own_reader : (n : ℕ) → reader has_leg n ≡ n
 own_reader zero = refl
 own_reader (suc n) =
     let has : has_leg (suc n) ≡ true = grind (arith, nat_tests) in

@@ -1,17 +1,10 @@
 -- on a leg that a node has finished and of which it was not told that it is lost, nothing is begun
-use Rattle.std.proofs.Common.{◌≡◌, ℕ, List, [], ◌∷◌, Bool, true, false, true≢false, ◌&&◌, ◌||◌, Some, None, refl, sym, ap, ◌∙◌, subst}
-use Rattle.std.specs.declared.option.Option.{Option}
-use Rattle.std.proofs.lemmas.Bool.{and_parts}
-use Rattle.rh_line.specs.declared.leg.Leg.{Leg}
-use Rattle.rh_shell.specs.declared.course.Course.TheVariants.{Going}
-use Rattle.rh_shell.specs.NearEnds.{NearEnd, is_empty, is_finished, is_marked, is_useless}
-use Rattle.rh_shell.specs.Rules.{Rules}
-use Rattle.rh_shell.specs.Shells.{Shell, end_at, finished, finished_at, finished_by}
-use Rattle.rh_nodes.specs.declared.place.Place.{Place}
-use Rattle.rh_nodes.specs.declared.place.Place.TheVariants.{Absent, Here, Gone}
-use Rattle.rh_nodes.specs.Places as places
-use Rattle.law_moves.specs.Moving.{Event, after_events}
-use Rattle.law_node_history.specs.Histories.{IsRun}
+use Rattle.law_order.proofs.Vocabulary.{◌≡◌, ℕ, List, [], Bool, true, false, true≢false, ◌&&◌, ◌||◌, Some, None, refl, sym, ap, ◌∙◌, subst, Option, and_parts}
+use Rattle.rh_shell.specs.NearEnds.{is_empty}
+use Rattle.rh_company.specs.Places as places
+use Rattle.law_moves.proofs.Vocabulary.{Leg, Going, NearEnd, is_finished, is_marked, is_useless, Rules, Shell, end_at, finished, finished_at, finished_by, Event, after_events}
+use Rattle.law_moves.proofs.Lemmas.{empty_is as none_begun}
+use Rattle.law_node_history.proofs.Vocabulary.{Place, Absent, Here, Gone, IsRun}
 use Rattle.law_world_ways.specs.OnPaths.OnWay.{left_on}
 
 -- it keeps no end on which bytes are begun
@@ -30,10 +23,6 @@ nothing_left node leg up told going untold none = by (end_at node leg) refl up r
         kept ∙ ap (λ (bytes : List ℕ). Some bytes) (none end at)
     by None at true is = rw (going, at, is, untold) refl
     by None at false is = rw (going, at, is) refl
-
-none_begun : (begun : List ℕ) → is_empty begun ≡ true → begun ≡ []
-none_begun [] e = refl
-none_begun (b ∷ bs) e = absurd cc
 
 empty_if : (marked useless empty : Bool) → marked ≡ false
     → (marked || (useless && empty)) ≡ true → empty ≡ true

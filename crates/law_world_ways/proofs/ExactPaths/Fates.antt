@@ -1,44 +1,25 @@
 -- one direction of a leg along changes: while both its nodes go on it gives all that was put there,
 -- or the handover mark or END passed, where it is ended only once one of its ends is over
-use Rattle.std.proofs.Common.{◌≡◌, ◌⊎◌, inl, inr, ℕ, zero, suc, ◌<◌, List, [], ◌∷◌, ◌++◌, length, Bool, true, false, not, ◌&&◌, ◌||◌, Some, None, arith, refl, sym, ap, ◌∙◌, subst}
-use Rattle.std.specs.Prelude.{◌==◌}
-use Rattle.std.specs.declared.option.Option.{Option}
-use Rattle.std.proofs.lemmas.Bool.{and_parts}
-use Rattle.std.proofs.lemmas.List.{append-nil}
-use mathlib.Core.List.{IsPrefix}
-use Rattle.rh_text.specs.declared.ends.Dir.{Dir}
-use Rattle.rh_text.specs.declared.ends.Dir.TheVariants.{U, D}
-use Rattle.rh_text.specs.declared.ends.Side.{Side}
-use Rattle.rh_sig.specs.declared.name.Pipe.{Pipe}
-use Rattle.rh_line.specs.declared.leg.Leg.{Leg}
-use Rattle.law_order.specs.Items.{Item}
-use Rattle.law_order.proofs.ByNumber.{same_number}
-use Rattle.rh_shell.specs.declared.course.Course.TheVariants.{Going}
-use Rattle.law_moves.specs.Moves.{is_in_use}
-use Rattle.rh_shell.specs.NearEnds.{NearEnd, is_empty, is_ended, is_over, is_useless}
-use Rattle.rh_shell.specs.Rules.{Message, Rules}
-use Rattle.rh_shell.specs.Shells.{Shell, end_at}
-use Rattle.law_moves.specs.ReadBack.Reading.{Reading, begin, messages_from, reading}
-use Rattle.rh_nodes.specs.Company as company
-use Rattle.rh_nodes.specs.Company.{Rulebook}
-use Rattle.rh_nodes.specs.Giving.{Deeds}
-use Rattle.rh_nodes.specs.Legs as legs
-use Rattle.rh_nodes.specs.Opening.{Makers}
-use Rattle.rh_nodes.specs.Wires as wires
-use Rattle.rh_nodes.specs.Wires.{blank, in_flight, receiver, sender}
-use Rattle.rh_nodes.specs.World.{World, at}
-use Rattle.law_node_history.specs.Carried.{wire_at}
-use Rattle.law_node_history.specs.Changes.{Change, all_changed}
-use Rattle.law_node_history.specs.Histories.{History, all_noted, nothing}
-use Rattle.law_node_history.proofs.Numbers.{asked}
+use Rattle.law_order.proofs.Vocabulary.{◌≡◌, ◌⊎◌, inl, inr, ℕ, zero, suc, ◌<◌, List, [], ◌∷◌, ◌++◌, length, Bool, true, false, not, ◌&&◌, ◌||◌, Some, None, arith, refl, sym, ap, ◌∙◌, subst, ◌==◌, Option, and_parts, append-nil, IsPrefix, Item}
+use Rattle.rh_shell.specs.NearEnds.{is_empty}
+use Rattle.rh_wires.specs.Legs as legs
+use Rattle.rh_wires.specs.Wires as wires
+use Rattle.rh_wires.specs.Legs as legs
+use Rattle.rh_wires.specs.Wires as wires
+use Rattle.rh_company.specs.Company as company
+use Rattle.rh_company.specs.Company as company
+use Rattle.law_moves.proofs.Vocabulary.{Dir, U, D, Side, same_number, Pipe, some_is, Leg, Going, NearEnd, is_ended, is_over, is_useless, Message, Rules, Shell, end_at, is_in_use, Reading, begin, messages_from, reading}
+use Rattle.law_moves.proofs.Lemmas.{leg_is}
+use Rattle.law_node_history.proofs.Vocabulary.{blank, in_flight, receiver, sender, Rulebook, Deeds, Makers, World, at, wire_at, Change, all_changed, History, all_noted, nothing}
+use Rattle.law_node_history.proofs.Lemmas.{asked}
 use Rattle.law_node_streams.specs.Streams.{is_live}
-use Rattle.law_node_streams.proofs.Streams.Ends.{end_is, end_leg, leg_is}
-use Rattle.rh_http.proofs.Heads.Finds.{some_is}
+use Rattle.law_world_ways.proofs.ExactPaths.Fronts.{IsEnded, front_more, over_before}
+use Rattle.law_world_ways.proofs.ExactWays.LegGoes.{unused, read_new}
+use Rattle.law_world_ways.proofs.OnPaths.Used.{way_told, read_told}
 use Rattle.law_world_ways.specs.EndsInTime.InTime.{AllEndInTime, IsOver}
 use Rattle.law_world_ways.specs.OnPaths.Legs.{has_passed, is_cut, on_leg, was_left, was_told, was_up}
-use Rattle.law_world_ways.specs.OnPaths.OnWay.{is_lost, items_on_way, left_on, on_way, read_on}
+use Rattle.law_world_ways.specs.OnPaths.OnWay.{is_lost, items_on_way, left_on, read_on}
 use Rattle.law_world_ways.specs.ExactWays.Keeping.{KeepsEnd}
-use Rattle.law_world_ways.proofs.ExactPaths.Fronts.{IsEnded, front_more, over_before}
 
 -- ---- what is told of a leg
 
@@ -46,23 +27,6 @@ uncut : (here there empty : Bool) → there ≡ false → here ≡ false
     → (there || (here && empty)) ≡ false
 uncut here there empty e f =
     ap (λ (t : Bool). t || (here && empty)) e ∙ ap (λ (t : Bool). t && empty) f
-
-way_told : (pipe : Option Pipe) (cut : Bool) (read : Option Reading) (flight : List ℕ)
-    (left : Option (List ℕ)) (r : Reading) (begun : List ℕ) → cut ≡ false → read ≡ Some r
-    → left ≡ Some begun
-    → on_way pipe cut read flight left ≡ Some (messages_from pipe r (flight ++ begun))
-way_told pipe cut read flight left r begun c d e = rw (c, d, e) refl
-
-read_told : {S : Type 0} (rules : Rules S) (s : Shell S) (pipe : Option Pipe) (leg : Leg)
-    (up : Bool) (end : NearEnd) → s.course ≡ Going → end_at s leg ≡ Some end
-    → is_over rules end s.role ≡ false → is_live end.intake.stage ≡ true
-    → read_on rules s pipe leg up ≡ Some (reading end.intake.stage end.intake.held)
-read_told rules s pipe leg up end going at over live = rw (going, at, over, live) refl
-
-read_new : {S : Type 0} (rules : Rules S) (s : Shell S) (pipe : Option Pipe) (leg : Leg)
-    (up : Bool) → s.course ≡ Going → end_at s leg ≡ None → up ≡ false
-    → read_on rules s pipe leg up ≡ Some (begin pipe)
-read_new rules s pipe leg up going at e = rw (going, at, e) refl
 
 -- of a leg that is not lost it is told what is begun
 left_told : {S : Type 0} (s : Shell S) (leg : Leg) (up told : Bool) → s.course ≡ Going
@@ -108,20 +72,6 @@ never_lost v h leg dir pipe puts rules takes puts_on takes_on here there absent 
     (wires.is_up (receiver dir) (wire_at v.legs leg)) there)
     (not_left up (wires.is_up (sender dir) (wire_at v.legs leg)) here))
     (read_new rules takes pipe leg (was_up v h leg (receiver dir)) takes_on absent there) left.1)
-
-pub unused : {S : Type 0} (rules : Rules S) (s : Shell S) (leg : Leg) (end : NearEnd)
-    → end_at s leg ≡ Some end → is_useless rules end s.role ≡ true
-    → is_in_use rules s.role leg ≡ false
-unused rules s leg end at e =
-    subst (λ (l : Leg). is_in_use rules s.role l ≡ false)
-    (leg_is end.leg leg (end_leg leg s.legs end (sym (end_is leg s.legs) ∙ at)))
-    (by (rules.is_done s.role end.leg) (is_ended (rules.phase s.role)) e)
-  where
-    by : (done ended : Bool) → (done || ended) ≡ true → (not ended && not done) ≡ false
-    by true true e = refl
-    by true false e = refl
-    by false true e = refl
-    by false false e = absurd cc
 
 -- ---- directions
 

@@ -1,22 +1,12 @@
 -- a leg that a node has finished, of which it was not told that it is lost, is of no more use to it
-use Rattle.std.proofs.Common.{◌≡◌, ◌⊎◌, inl, inr, List, Bool, true, false, true≢false, not, ◌&&◌, ◌||◌, refl, sym, ap, ◌∙◌, subst}
-use Rattle.std.proofs.lemmas.Bool.{and_parts}
-use Rattle.rh_line.specs.declared.leg.Leg.{Leg}
-use Rattle.rh_shell.specs.declared.answers.Phase.{Phase}
+use Rattle.law_order.proofs.Vocabulary.{◌≡◌, ◌⊎◌, inl, inr, List, Bool, true, false, true≢false, not, ◌&&◌, ◌||◌, refl, sym, ap, ◌∙◌, subst, and_parts}
+use Rattle.rh_shell.specs.NearEnds.{is_empty}
 use Rattle.rh_shell.specs.declared.answers.Phase.TheVariants as phase
-use Rattle.rh_shell.specs.declared.course.Course.{Course}
-use Rattle.rh_shell.specs.declared.course.Course.TheVariants.{Going}
-use Rattle.rh_shell.specs.NearEnds.{is_empty, is_ended, is_finished, is_marked, is_useless}
-use Rattle.rh_shell.specs.Rules.{Rules}
-use Rattle.rh_shell.specs.Shells.{Shell, finished, finished_at, finished_by, is_working_by, state_by}
-use Rattle.rh_nodes.specs.declared.place.Place.{Place}
-use Rattle.rh_nodes.specs.declared.place.Place.TheVariants.{Absent, Here, Gone}
-use Rattle.rh_nodes.specs.Places as places
-use Rattle.law_moves.specs.Moves.{is_in_use}
-use Rattle.law_moves.specs.Moving.{Event, after_events}
-use Rattle.law_node_history.specs.Histories.{IsRun}
+use Rattle.rh_company.specs.Places as places
+use Rattle.law_moves.proofs.Vocabulary.{Leg, Phase, Course, Going, is_ended, is_finished, is_marked, is_useless, Rules, Shell, finished, finished_at, finished_by, is_working_by, state_by, is_in_use, Event, after_events}
+use Rattle.law_node_history.proofs.Vocabulary.{Place, Absent, Here, Gone, IsRun}
+use Rattle.law_world_ways.proofs.ExactWays.LegGoes.{unused}
 use Rattle.law_world_ways.specs.ExactWays.Keeping.{KeepsEnd}
-use Rattle.law_world_ways.proofs.ExactPaths.Fates.{unused}
 
 useless_if : (marked useless empty : Bool) → marked ≡ false
     → (marked || (useless && empty)) ≡ true → useless ≡ true

@@ -1,17 +1,7 @@
 -- fronts of changes: a world behind each, and what happened until then
-use Rattle.std.proofs.Common.{◌≡◌, ◌<◌, List, [], ◌∷◌, ◌++◌, length, append_assoc, Bool, true, ◌&&◌, Some, arith, refl, sym, ap, ◌∙◌, subst}
-use Rattle.std.specs.Prelude.{IfSome}
-use Rattle.std.specs.List.{list_all}
-use Rattle.std.specs.declared.option.Option.{Option}
-use Rattle.std.proofs.lemmas.Bool.{and_parts}
-use Rattle.std.proofs.lemmas.List.{length-append}
-use mathlib.Core.List.{IsPrefix}
-use Rattle.rh_line.specs.declared.leg.Leg.{Leg}
-use Rattle.rh_nodes.specs.Company.{Rulebook}
-use Rattle.rh_nodes.specs.Giving.{Deeds}
-use Rattle.rh_nodes.specs.Opening.{Makers}
-use Rattle.rh_nodes.specs.World.{World}
-use Rattle.law_node_history.specs.Changes.{AreAllowed, Change, all_changed, changed}
+use Rattle.law_order.proofs.Vocabulary.{◌≡◌, ◌<◌, List, [], ◌∷◌, ◌++◌, length, append_assoc, Bool, true, ◌&&◌, Some, arith, refl, sym, ap, ◌∙◌, subst, IfSome, list_all, Option, and_parts, length-append, IsPrefix}
+use Rattle.law_moves.proofs.Vocabulary.{Leg}
+use Rattle.law_node_history.proofs.Vocabulary.{Rulebook, Deeds, Makers, World, AreAllowed, Change, all_changed, changed}
 use Rattle.law_world_ways.specs.EndsInTime.InTime.{AllEndInTime, IsOver, WasOver, ended_by}
 
 -- ---- lists

@@ -1,23 +1,9 @@
 -- what happened until a front of changes is a front of what happened until all of them
-use Rattle.std.proofs.Common.{◌≡◌, ℕ, List, [], ◌∷◌, ◌++◌, refl, sym, ap, ◌∙◌, subst}
-use Rattle.std.specs.Prelude.{map}
-use mathlib.Core.List.{IsPrefix}
-use Rattle.law_order.proofs.Prefixes.{prefix_more, prefix_self, prefix_trans}
 use Rattle.rh_text.specs.declared.ends.Side.TheVariants as side
+use Rattle.law_order.proofs.Vocabulary.{◌≡◌, ℕ, List, [], ◌∷◌, ◌++◌, refl, sym, ap, ◌∙◌, subst, map, IsPrefix}
 use Rattle.rh_record.specs.declared.answer.Who.TheVariants as who
-use Rattle.rh_line.specs.declared.cause.Cause.{Cause}
-use Rattle.rh_shell.specs.declared.course.Course.{Course}
-use Rattle.rh_shell.specs.declared.course.Course.TheVariants.{Going, Closed, Refusing}
-use Rattle.law_moves.specs.Laws.{ClosedWith}
-use Rattle.law_moves.specs.Moving.{EndEvent, Event, Happens, after_end_event, after_end_events, after_event, after_events}
-use Rattle.rh_shell.specs.Rules.{Acts, Rules}
-use Rattle.rh_shell.specs.Shells.{Shell}
-use Rattle.rh_nodes.specs.Company.{Rulebook}
-use Rattle.rh_nodes.specs.Giving.{Deeds}
-use Rattle.rh_nodes.specs.Opening.{Makers}
-use Rattle.rh_nodes.specs.World.{World}
-use Rattle.law_node_history.specs.Changes.{Change, changed}
-use Rattle.law_node_history.specs.Histories.{History, acts_by, all_noted, at_place, in_place, made_by, noted, nothing, out_place, told_to}
+use Rattle.law_moves.proofs.Vocabulary.{prefix_more, prefix_self, prefix_trans, Cause, Course, Going, Closed, Refusing, Acts, Rules, Shell, ClosedWith, EndEvent, Event, Happens, after_end_event, after_end_events, after_event, after_events}
+use Rattle.law_node_history.proofs.Vocabulary.{Rulebook, Deeds, Makers, World, Change, changed, History, acts_by, all_noted, at_place, in_place, made_by, noted, nothing, out_place, told_to}
 use Rattle.law_node_causes.proofs.StaysClosed.{run_keeps, run_keeps_at_end}
 
 module _ {K C S I O : Type 0} (r : Rulebook C S I O) (m : Makers K I O) (d : Deeds C S) where

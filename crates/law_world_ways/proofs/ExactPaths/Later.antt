@@ -1,22 +1,13 @@
 -- the streams of a node behind a front of its events and behind all of them: what came behind the
 -- front came
-use Rattle.std.proofs.Common.{List, [], ◌∷◌, ◌++◌, Some, None, Ok, Err, sym, ap, ◌∙◌, subst}
-use Rattle.std.specs.declared.option.Option.{Option}
-use Rattle.std.proofs.lemmas.List.{append-nil}
-use mathlib.Core.List.{IsPrefix}
-use Rattle.law_order.proofs.Prefixes.{prefix_more, prefix_self, prefix_trans}
-use Rattle.rh_sig.specs.declared.name.Pipe.{Pipe}
-use Rattle.rh_line.specs.declared.leg.Leg.{Leg}
-use Rattle.rh_shell.specs.declared.rooms.Rooms.{Rooms}
-use Rattle.law_moves.specs.Moves.{EndMove, EndPassage, Move, OnLeg, Passage, all_end_moved, all_moved, end_started, started}
-use Rattle.law_moves.specs.Moving.{EndEvent, Event}
-use Rattle.rh_shell.specs.Rules.{Acts, Message, Row, Rules}
-use Rattle.law_moves.proofs.Passages.Logs.{ActsKeep, Fact, PutKeeps, RowKeeps, StepsKeep, end_moves_keep, moves_keep}
-use Rattle.law_node_streams.specs.Streams.{EndStream, Stream}
+use Rattle.law_order.proofs.Vocabulary.{List, [], ◌∷◌, ◌++◌, Some, None, Ok, Err, sym, ap, ◌∙◌, subst, Option, append-nil, IsPrefix}
+use Rattle.law_moves.proofs.Vocabulary.{prefix_more, prefix_self, prefix_trans, Pipe, Leg, Rooms, Acts, Message, Row, Rules, EndMove, EndPassage, Move, OnLeg, Passage, all_end_moved, all_moved, end_started, started, EndEvent, Event}
+use Rattle.law_moves.proofs.Lemmas.{ActsKeep, Fact, PutKeeps, RowKeeps, StepsKeep, end_moves_keep, moves_keep}
 use Rattle.law_node_streams.proofs.Streams.EndMoves.{all_end_moved_append}
 use Rattle.law_node_streams.proofs.Streams.Ways.{all_moved_append}
-use Rattle.law_node_streams.specs.Grown.{EndGrowing, EndGrows, Growing, Grows}
 use Rattle.law_node_streams.proofs.Grown.Walks.{end_walk, walk}
+use Rattle.law_node_streams.specs.Streams.{EndStream, Stream}
+use Rattle.law_node_streams.specs.Grown.{EndGrowing, EndGrows, Growing, Grows}
 
 -- ---- what came by moves is a front of what came by more
 

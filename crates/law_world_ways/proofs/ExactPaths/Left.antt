@@ -1,49 +1,20 @@
 -- a leg that came up for the node at an end is up for it, or was ended by a change
-use Rattle.std.proofs.Common.{◌≡◌, ◌⊎◌, inl, inr, ◌≢◌, ℕ, List, [], ◌∷◌, ◌++◌, Bool, true, false, true≢false, ◌||◌, Some, IsTrue, refl, sym, ap, ◌∙◌, subst}
-use mathlib.Core.Path.{fun_ext}
-use Rattle.std.proofs.lemmas.Bool.{and_parts, cases_Bool, cases_eq, eq-eqb, or_cases}
-use Rattle.rh_text.specs.declared.ends.Dir.{Dir}
-use Rattle.rh_text.specs.declared.ends.Dir.TheVariants.{U, D}
-use Rattle.rh_text.specs.declared.ends.Side.{Side}
 use Rattle.rh_text.specs.declared.ends.Side.TheVariants as side
-use Rattle.rh_line.specs.declared.leg.Leg.{Leg}
-use Rattle.rh_line.specs.declared.leg.LegKind.{LegKind}
-use Rattle.rh_line.specs.declared.leg.LegKind.TheVariants.{ClientOut, OutServer, ClientIn, InServer}
-use Rattle.rh_rts.specs.declared.command.Cookie.{Cookie}
-use Rattle.rh_record.specs.declared.answer.Who.{Who}
+use Rattle.law_order.proofs.Vocabulary.{◌≡◌, ◌⊎◌, inl, inr, ◌≢◌, ℕ, List, [], ◌∷◌, ◌++◌, Bool, true, false, true≢false, ◌||◌, Some, IsTrue, refl, sym, ap, ◌∙◌, subst, and_parts, cases_Bool, cases_eq, eq-eqb, or_cases, fun_ext}
 use Rattle.rh_record.specs.declared.answer.Who.TheVariants as who
-use Rattle.law_moves.specs.Moving as moving
-use Rattle.rh_shell.specs.Shells.{Shell, same_leg}
 use Rattle.rh_shell.specs.Shells as shell
-use Rattle.rh_nodes.specs.declared.event.Event.{Event}
-use Rattle.rh_nodes.specs.declared.event.Event.TheVariants.{Comes, Ends, Breaks, Passes}
-use Rattle.rh_nodes.specs.declared.legs.Legs.{Legs}
-use Rattle.rh_nodes.specs.declared.wire.Wire.{Wire}
-use Rattle.rh_nodes.specs.Company as company
-use Rattle.rh_nodes.specs.Company.{Company, Rulebook}
-use Rattle.rh_nodes.specs.Giving.{Deeds}
-use Rattle.rh_nodes.specs.Halves.{is_same}
-use Rattle.rh_nodes.specs.Legs as legs
-use Rattle.rh_nodes.specs.Opening.{Makers, reader_before}
-use Rattle.rh_nodes.specs.Readers.{reader_of, with_reader}
-use Rattle.rh_nodes.specs.Settling.{leg_at}
-use Rattle.rh_nodes.specs.Wires as wires
-use Rattle.rh_nodes.specs.Wires.{receiver, sender}
-use Rattle.rh_nodes.specs.World.{World, at}
-use Rattle.law_node_history.specs.Carried.{IsTraced, LegsComeUpOnce, came_up, end_node, events_of, is_of_client, wire_at}
-use Rattle.law_node_history.specs.Changes.{AreAllowed, Change, IsTold, IsFed, IsDrawn, GoesUp, RaisesAlone, GoesDown, OpensIn, OpensOut, OpensSame, Gives, Takes, Closes, RecyclesIn, RecyclesOut, MovesTo, Draws, Reports, MayChange, StandsAt, all_changed, changed, may_have}
-use Rattle.law_node_history.specs.Histories.{History, IsNew, all_noted, heard, noted, nothing, told_to}
-use Rattle.law_node_history.proofs.Leading.{cast_stays}
-use Rattle.law_node_history.proofs.Ledgers.{is_here, not_other, or_false}
-use Rattle.law_node_history.proofs.NodeTraces.{is_comes, may_come, never_up, none_up, silent_up, up_more, up_of, up_there}
-use Rattle.law_node_history.proofs.Numbers.{asked, put_elsewhere, put_here}
-use Rattle.law_node_history.proofs.Recordings.{traced_first}
-use Rattle.law_node_history.proofs.Tracing.{change_is_traced}
+use Rattle.rh_wires.specs.Legs as legs
+use Rattle.rh_wires.specs.Wires as wires
+use Rattle.rh_company.specs.Company as company
+use Rattle.law_moves.proofs.Vocabulary.{Dir, U, D, Side, Cookie, Leg, LegKind, ClientOut, OutServer, ClientIn, InServer, Shell, same_leg}
+use Rattle.law_moves.proofs.Lemmas.{leg_is}
+use Rattle.law_moves.specs.Moving as moving
+use Rattle.law_node_history.proofs.Vocabulary.{Who, Legs, Wire, reader_of, with_reader, receiver, sender, Event, Comes, Ends, Breaks, Passes, Company, Rulebook, Deeds, is_same, Makers, reader_before, leg_at, World, at, IsTraced, LegsComeUpOnce, came_up, end_node, events_of, is_of_client, wire_at, AreAllowed, Change, IsTold, IsFed, IsDrawn, GoesUp, RaisesAlone, GoesDown, OpensIn, OpensOut, OpensSame, Gives, Takes, Closes, RecyclesIn, RecyclesOut, MovesTo, Draws, Reports}
+use Rattle.law_node_history.proofs.Vocabulary.{MayChange, StandsAt, all_changed, changed, may_have, History, IsNew, all_noted, heard, noted, nothing, told_to}
+use Rattle.law_node_history.proofs.Lemmas.{cast_stays, is_here, not_other, or_false, is_comes, may_come, never_up, none_up, silent_up, up_more, up_of, up_there, asked, put_elsewhere, put_here, traced_first, change_is_traced, cases_leg, told_comes, or_assoc, not_both}
 use Rattle.law_node_history.proofs.Wired as wired
-use Rattle.law_node_history.proofs.Wired.{cases_leg}
-use Rattle.law_node_streams.proofs.Streams.Ends.{leg_is}
-use Rattle.law_world_ways.specs.EndsInTime.InTime.{ended_by}
 use Rattle.law_world_ways.proofs.ExactPaths.Fronts.{IsEnded, ended_later, ended_now}
+use Rattle.law_world_ways.specs.EndsInTime.InTime.{ended_by}
 
 -- ---- a wire
 
@@ -98,9 +69,6 @@ number_of who.Client = 0
 number_of who.Server = 0
 number_of (who.In k) = k
 number_of (who.Out k) = k
-
-not_both : {A : Type 0} (b : Bool) → b ≡ true → b ≡ false → A
-not_both b e f = absurd (true≢false (sym e ∙ f))
 
 -- ---- each leg that came up is up, or is left
 
@@ -249,16 +217,6 @@ client_end readers leg e = by leg.kind e
     by OutServer e = absurd (true≢false (sym e))
     by ClientIn e = refl
     by InServer e = absurd (true≢false (sym e))
-
-told_comes : (event : Event) → is_comes (heard event) ≡ false
-told_comes (Comes leg piece) = refl
-told_comes (Ends leg) = refl
-told_comes (Breaks leg) = refl
-told_comes (Passes now) = refl
-
-or_assoc : (a b c : Bool) → (a || (b || c)) ≡ ((a || b) || c)
-or_assoc true b c = refl
-or_assoc false b c = refl
 
 module _ {K C S I O : Type 0} (r : Rulebook C S I O) (m : Makers K I O) (d : Deeds C S)
     (first : Company C S I O) (Left : Leg → Type 0) where

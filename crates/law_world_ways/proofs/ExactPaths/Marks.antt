@@ -1,34 +1,16 @@
 -- an end of a leg is marked only where the node was told that the leg is lost
-use Rattle.std.proofs.Common.{◌≡◌, ℕ, List, [], ◌∷◌, ◌++◌, length, take, drop, cond, Bool, true, false, true≢false, nat_lt, Some, None, refl, sym, ap, ◌∙◌, subst}
-use Rattle.std.specs.Prelude.{◌&&◌, nat_le, slice_set}
 use Rattle.std.specs.List.{All}
-use Rattle.std.specs.declared.option.Option.{Option}
-use Rattle.std.proofs.lemmas.List.Elements.{All-nil, All-push, All-set}
-use Rattle.law_order.proofs.ItemLists.{neither}
-use Rattle.rh_rts.specs.declared.command.Cookie.{Cookie}
-use Rattle.rh_http.specs.declared.refusal.Refusal.{Refusal}
-use Rattle.rh_http.specs.declared.refusal.Refusal.TheVariants.{Unavailable}
-use Rattle.rh_line.specs.declared.cause.Cause.{Cause}
+use Rattle.law_order.proofs.Vocabulary.{◌≡◌, ℕ, List, [], ◌∷◌, ◌++◌, length, take, drop, cond, Bool, true, false, true≢false, nat_lt, Some, None, refl, sym, ap, ◌∙◌, subst, ◌&&◌, nat_le, slice_set, Option, All-nil, All-push, All-set}
 use Rattle.rh_line.specs.declared.cause.Cause.TheVariants as cause
-use Rattle.rh_line.specs.declared.leg.Leg.{Leg}
-use Rattle.rh_shell.specs.declared.course.Course.{Course}
-use Rattle.rh_shell.specs.declared.course.Course.TheVariants.{Going, Closed, Refusing}
-use Rattle.rh_shell.specs.declared.rooms.Rooms.{Rooms}
-use Rattle.rh_shell.specs.declared.stop.Stop.{Stop}
-use Rattle.rh_shell.specs.Drawing.{Drawn, draw}
-use Rattle.rh_shell.specs.Ends.{cause_of}
-use Rattle.rh_shell.specs.Hearing.{Turn, goes, hear}
-use Rattle.rh_shell.specs.NearEnds.{NearEnd, is_ended, is_finished, is_marked, marked, new_end}
-use Rattle.rh_shell.specs.Rules.{Acts, Rules}
-use Rattle.rh_shell.specs.Shells.{Shell, begun, broken_at, broken_by, bytes_at, bytes_by, close, drawn_at, drawn_by, end_at, ended_at, ended_by, first_silent, free_place, is_heard, is_working, lose, lost, may_up, passed, passed_by, place, put_back, refuse, same_leg, state_of, stop_by, stopped, unreached, unreached_by, wants, with_end, with_leg}
-use Rattle.law_moves.specs.Moves.{end_started, started}
-use Rattle.law_moves.specs.Moving.{AreHeld, EndEvent, Event, ComesUp, Hears, Ends, Breaks, Draws, Ticks, Happens, IsClosed, IsGiven, IsHeld, IsRecycled, IsTaken, after_end_event, after_end_events, after_event, after_events}
-use Rattle.law_node_history.specs.Carried.{happened}
-use Rattle.law_node_history.proofs.Wired.{same_itself}
+use Rattle.law_moves.proofs.Vocabulary.{neither, Cookie, Refusal, Unavailable, Cause, Leg, Course, Going, Closed, Refusing, Rooms, Stop, Drawn, draw, cause_of, Turn, goes, hear, NearEnd, is_ended, is_finished, is_marked, marked, new_end, Acts, Rules, Shell, begun, broken_at, broken_by, bytes_at, bytes_by, close, drawn_at, drawn_by, end_at, ended_at, ended_by, first_silent, free_place, is_heard, is_working, lose, lost, may_up, passed, passed_by, place, put_back, refuse}
+use Rattle.law_moves.proofs.Vocabulary.{same_leg, state_of, stop_by, stopped, unreached, unreached_by, wants, with_end, with_leg, end_started, started, AreHeld, EndEvent, Event, ComesUp, Hears, Ends, Breaks, Draws, Ticks, Happens, IsClosed, IsGiven, IsHeld, IsRecycled, IsTaken, after_end_event, after_end_events, after_event, after_events}
+use Rattle.law_moves.proofs.Lemmas.{leg_is}
+use Rattle.law_node_history.proofs.Lemmas.{same_itself}
+use Rattle.law_node_history.proofs.Vocabulary.{happened}
 use Rattle.law_node_causes.proofs.LegChanges.{closed_legs, given_legs, recycled_legs, taken_legs}
 use Rattle.law_node_causes.proofs.OnceUp.{AllFollow, AllFollowAtEnd}
 use Rattle.law_node_streams.proofs.Streams.Draws.{draw_drew}
-use Rattle.law_node_streams.proofs.Streams.Ends.{end_has, end_is, end_leg, end_of, leg_is}
+use Rattle.law_node_streams.proofs.Streams.Ends.{end_has, end_is, end_leg, end_of}
 use Rattle.law_node_streams.proofs.Streams.Pieces.{piece_heard}
 use Rattle.law_world_ways.specs.OnPaths.Lost.{is_loss_of, was_lost}
 

@@ -1,32 +1,23 @@
 -- what a node put on a leg that came up and is in use no more: its handover mark or END
-use Rattle.std.proofs.Common.{◌≡◌, ◌≤◌, ◌<◌, ℕ, List, true, false, sym, ap, ◌∙◌, subst}
-use Rattle.std.specs.List.{AllByRecursion, list_any}
-use Rattle.rh_http.specs.declared.config.ClientConfig.{ClientConfig}
-use Rattle.rh_line.specs.declared.leg.Leg.{Leg}
-use Rattle.rh_shell.specs.Shells.{begun}
-use Rattle.rh_inproxy.specs.declared.state.InProxyConfig.{InProxyConfig}
+use Rattle.law_order.proofs.Vocabulary.{◌≡◌, ◌≤◌, ◌<◌, ℕ, List, true, false, sym, ap, ◌∙◌, subst, AllByRecursion, list_any}
 use Rattle.rh_inproxy.specs.Machine as in_proxy
-use Rattle.rh_inproxy.specs.State.{InProxy}
 use Rattle.rh_inproxy.specs.State as in_state
-use Rattle.rh_outproxy.specs.declared.out_proxy.TheConstants.{ROOMS}
-use Rattle.rh_outproxy.specs.declared.state.OutProxyConfig.{OutProxyConfig}
 use Rattle.rh_outproxy.specs.Machine as out_proxy
-use Rattle.rh_outproxy.specs.OutProxy.{OutProxy, new_proxy}
-use Rattle.rh_client.specs.declared.state.ClientRole.{ClientRole}
 use Rattle.rh_client.specs.Client as client
 use Rattle.rh_client.specs.State as client_state
 use Rattle.rh_server.specs.Servers as server
-use Rattle.rh_server.specs.States.{Server}
-use Rattle.law_moves.specs.Moves.{AreAllowed, AreAllowedAtEnd, EndMove, EndPassage, Move, Passage, all_end_moved, all_moved, end_started, is_at_work, is_in_use, started}
-use Rattle.law_moves.specs.Moving.{EndEvent, Event, after_end_events, after_events}
+use Rattle.law_moves.proofs.Vocabulary.{ClientConfig, Leg, begun, AreAllowed, AreAllowedAtEnd, EndMove, EndPassage, Move, Passage, all_moved, end_started, is_at_work, is_in_use, started, EndEvent, Event, after_end_events, after_events}
+use Rattle.law_role_inproxy.proofs.Vocabulary.{InProxyConfig, InProxy}
 use Rattle.law_role_inproxy.specs.Order as in_order
-use Rattle.law_role_client.specs.Order.{AreAllowedMoves, client_moved, put_log}
-use Rattle.law_role_server.specs.Order.{sent}
-use Rattle.law_node_history.specs.Carried.{came_up, happened}
+use Rattle.law_role_client.proofs.Vocabulary.{ClientRole, AreAllowedMoves, client_moved, put_log}
+use Rattle.law_role_server.proofs.Vocabulary.{Server, sent}
+use Rattle.law_node_history.proofs.Vocabulary.{came_up, happened}
+use Rattle.law_role_outproxy.proofs.Vocabulary.{ROOMS, OutProxyConfig, OutProxy, new_proxy}
 use Rattle.law_role_outproxy.specs.Order as out_order
 use Rattle.law_node_streams.specs.Streams.{EndStream, Stream, is_end_up_on}
 use Rattle.law_node_ends.specs.Passed.{AsksNoEcho, HeadsAre, IsDoneBehindEnd}
 use Rattle.law_node_begins.specs.ProxiesBegin.Pipes.{ci, co, in_pipe, is, os}
+use Rattle.law_peers_routes.proofs.Upwards.Laws.{server_moved as moved_by}
 use Rattle.law_peers_routes.specs.Downwards.{client_reads, proxy_reads, server_reads}
 use Rattle.law_world_ways.specs.OnPaths.Legs.{has_passed}
 
@@ -54,10 +45,6 @@ client_puts law config n events s up unused =
     (ap (λ (r : ClientRole). is_in_use client.rules r (ci n)) s.role ∙ unused)
 
 -- ---- a server
-
-abbrev moved_by : ℕ → List EndMove → EndPassage Server
-moved_by window moves =
-    all_end_moved server.rules server.acts (end_started (server.first window)) moves
 
 -- up to the writing channel
 abbrev pub ServerMarks : Type 0

@@ -1,52 +1,32 @@
 -- a node at which the handover mark or END of a leg came took it behind more events as well,
 -- whichever its streams are
-use Rattle.std.proofs.Common.{◌≡◌, ◌⊎◌, inl, inr, ◌<◌, ◌≤◌, ℕ, Bool, true, ◌||◌, List, [], ◌∷◌, ◌++◌, append_assoc, refl, sym, ap, ap₂, ◌∙◌, subst}
-use Rattle.std.specs.Prelude.{◌&&◌, nat_eq, nat_lt}
-use Rattle.std.proofs.lemmas.Bool.{cases_lt}
-use Rattle.std.specs.declared.option.Option.{Option}
-use mathlib.Core.List.{IsPrefix}
-use Rattle.rh_http.specs.declared.config.ClientConfig.{ClientConfig}
-use Rattle.rh_sig.specs.declared.name.Pipe.{Pipe}
-use Rattle.rh_line.specs.declared.leg.Leg.{Leg}
-use Rattle.rh_line.specs.declared.leg.LegKind.TheVariants.{ClientOut, InServer}
-use Rattle.law_order.specs.Items.{Item, has_end, has_handover, pdus}
-use Rattle.law_order.specs.Logs.{below}
-use Rattle.law_order.specs.Passing.{from_first}
-use Rattle.law_order.specs.Shelves.{Shelved}
-use Rattle.law_order.specs.Taking.{TakerLaw}
-use Rattle.rh_shell.specs.declared.rooms.Rooms.{Rooms}
-use Rattle.law_moves.specs.Moves.{AreAllowed, AreAllowedAtEnd, EndMove, EndPassage, Move, OnLeg, Passage, all_end_moved, all_moved, end_started, started}
-use Rattle.law_moves.specs.Moving.{EndEvent, Event, after_end_events, after_events}
-use Rattle.rh_shell.specs.Rules.{Acts, Rules}
-use Rattle.rh_shell.specs.Shells.{begun, is_of}
-use Rattle.rh_client.specs.declared.state.ClientRole.{ClientRole}
-use Rattle.rh_client.specs.Client as client
-use Rattle.law_role_client.specs.Order as client_order
-use Rattle.law_role_client.specs.Order.{AreAllowedMoves, TakesInOrder, client_moved}
-use Rattle.rh_client.specs.State as client_state
-use Rattle.rh_inproxy.specs.declared.state.InProxyConfig.{InProxyConfig}
+use Rattle.law_order.proofs.Vocabulary.{◌≡◌, ◌⊎◌, inl, inr, ◌<◌, ◌≤◌, ℕ, Bool, true, ◌||◌, List, [], ◌∷◌, ◌++◌, append_assoc, refl, sym, ap, ap₂, ◌∙◌, subst, ◌&&◌, nat_eq, nat_lt, cases_lt, Option, IsPrefix, Item, has_end, has_handover, pdus, below, from_first, Shelved, TakerLaw}
 use Rattle.rh_inproxy.specs.Machine as in_proxy
-use Rattle.law_role_inproxy.specs.Order as in_order
-use Rattle.rh_inproxy.specs.State.{InProxy}
 use Rattle.rh_inproxy.specs.State as in_state
-use Rattle.rh_outproxy.specs.declared.out_proxy.TheConstants.{ROOMS}
-use Rattle.rh_outproxy.specs.declared.state.OutProxyConfig.{OutProxyConfig}
 use Rattle.rh_outproxy.specs.Machine as out_proxy
-use Rattle.law_role_outproxy.specs.Order as out_order
-use Rattle.rh_outproxy.specs.OutProxy.{OutProxy, new_proxy}
-use Rattle.law_role_server.specs.Order as server_order
+use Rattle.rh_client.specs.Client as client
+use Rattle.rh_client.specs.State as client_state
 use Rattle.rh_server.specs.Servers as server
-use Rattle.rh_server.specs.States.{Server}
-use Rattle.law_node_history.specs.Carried.{came_up, happened}
+use Rattle.law_moves.proofs.Vocabulary.{Pipe, ClientConfig, Leg, ClientOut, InServer, Rooms, Acts, Rules, begun, is_of, AreAllowed, AreAllowedAtEnd, EndMove, EndPassage, Move, OnLeg, Passage, all_end_moved, all_moved, end_started, started, EndEvent, Event, after_end_events, after_events}
+use Rattle.law_role_inproxy.proofs.Vocabulary.{InProxyConfig, InProxy}
+use Rattle.law_role_inproxy.specs.Order as in_order
+use Rattle.law_role_client.proofs.Vocabulary.{ClientRole, AreAllowedMoves, TakesInOrder, client_moved}
+use Rattle.law_role_client.specs.Order as client_order
+use Rattle.law_role_server.proofs.Vocabulary.{Server}
+use Rattle.law_role_server.specs.Order as server_order
+use Rattle.law_node_history.proofs.Lemmas.{or_left as or_first, or_true as or_second}
+use Rattle.law_node_history.proofs.Vocabulary.{came_up, happened}
+use Rattle.law_role_outproxy.proofs.Vocabulary.{ROOMS, OutProxyConfig, OutProxy, new_proxy}
+use Rattle.law_role_outproxy.specs.Order as out_order
 use Rattle.law_node_streams.specs.Streams.{EndStream, Stream}
 use Rattle.law_node_streams.specs.Grown.{EndGrowing, Growing}
 use Rattle.law_node_begins.specs.ProxiesBegin.Pipes.{in_pipe, is}
-use Rattle.law_peers_routes.specs.Downwards.{client_reads, proxy_reads}
 use Rattle.law_node_begins.specs.EndsBegin.{server_reads}
-use Rattle.law_world_ways.specs.OnPaths.Legs.{has_passed}
+use Rattle.law_peers_routes.specs.Downwards.{client_reads, proxy_reads}
 use Rattle.law_world_ways.proofs.ExactWays.Passing.{ups_are}
 use Rattle.law_world_ways.proofs.ExactPaths.Later.{both_streams, end_both_streams}
-use Rattle.law_world_ways.proofs.ExactPaths.Shelves.{either, end_more, ended_below, ended_below_more, or_first, or_second, passed_as, passed_more}
+use Rattle.law_world_ways.proofs.ExactPaths.Shelves.{either, end_more, ended_below, ended_below_more, passed_as, passed_more}
+use Rattle.law_world_ways.specs.OnPaths.Legs.{has_passed}
 
 -- ---- logs behind more
 

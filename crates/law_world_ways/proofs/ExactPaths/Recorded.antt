@@ -1,12 +1,9 @@
 -- each world of roles that a recording comes to by changes that end legs in time keeps all
-use Rattle.law_node_history.proofs.Leading.{cast_kept}
-use Rattle.rh_world.specs.declared.any_world.AnyWorld.{AnyWorld}
-use Rattle.rh_world.specs.declared.any_world.AnyWorld.TheVariants.{Before, Direct, Settings, Roles}
-use Rattle.rh_world.specs.declared.config.WorldConfig.{WorldConfig}
-use Rattle.rh_world.specs.Config.{AreInRange}
+use Rattle.law_node_history.proofs.Lemmas.{cast_kept}
 use Rattle.rh_world.specs.Roles as roles
-use Rattle.law_world_order.specs.Flows.{numbers_of}
+use Rattle.law_world_reports.proofs.Vocabulary.{AnyWorld, Before, Direct, Settings, Roles, WorldConfig, AreInRange}
 use Rattle.law_world_order.proofs.Recorded.{ours}
+use Rattle.law_world_order.proofs.Vocabulary.{numbers_of}
 use Rattle.law_world_ways.specs.EndsInTime.InTime.{EndsInTime}
 use Rattle.law_world_ways.specs.EndsInTime.Losses.{IsEndedInTime, RolesEndInTime}
 use Rattle.law_world_ways.specs.OnPaths.Ways.{AreOnTheirWay}

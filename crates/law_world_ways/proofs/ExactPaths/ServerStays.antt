@@ -1,23 +1,9 @@
 -- a server whose work is done writes on the same channel from then on
-use Rattle.std.proofs.Common.{◌≡◌, ◌++◌, ◌&&◌, List, [], ◌∷◌, Bool, true, false, true≢false, not, Ok, Err, refl, sym, ap, ◌∙◌, subst, rules}
-use Rattle.std.specs.Prelude.{ℕ, if◌then◌else◌, nat_lt}
-use Rattle.std.specs.declared.result.Result.{Result}
-use Rattle.std.proofs.lemmas.Bool.{and_parts}
-use mathlib.Core.List.{IsPrefix}
-use Rattle.rh_line.specs.declared.leg.Leg.{Leg}
-use Rattle.rh_line.specs.declared.leg.LegKind.{LegKind}
-use Rattle.rh_line.specs.declared.leg.LegKind.TheVariants.{ClientIn, ClientOut, InServer, OutServer}
-use Rattle.rh_shell.specs.declared.end_role.GiveRefused.{GiveRefused}
-use Rattle.law_moves.specs.Moves.{AreAllowedAtEnd, Closes, EndMove, EndPassage, Gives, HeadCame, IsDrawn, Marks, MayEndMove, Moves, PacketCame, PduCame, Pings, Puts, Recycles, Takes, Up, all_end_moved, end_moved, end_now_at, end_started, given_by, is_at_work, is_in_use, with_first}
-use Rattle.law_moves.specs.Moving.{EndEvent, after_end_events}
-use Rattle.rh_shell.specs.NearEnds.{is_ended}
-use Rattle.rh_server.specs.declared.state.Stage.{Stage}
+use Rattle.law_order.proofs.Vocabulary.{◌≡◌, ◌++◌, ◌&&◌, List, [], ◌∷◌, Bool, true, false, true≢false, not, Ok, Err, refl, sym, ap, ◌∙◌, subst, rules, ℕ, if◌then◌else◌, nat_lt, Result, and_parts, IsPrefix}
 use Rattle.rh_server.specs.declared.state.Stage.TheVariants as stage
-use Rattle.rh_server.specs.Ending.{are_lost, completed, drawn, drawn_by, give, in_is_drawn, settled}
-use Rattle.rh_server.specs.InReplacement.{take}
-use Rattle.rh_server.specs.OutReplacement.{asks, is_under_way, last_number, wanted_by, wished}
 use Rattle.rh_server.specs.Servers as server
-use Rattle.rh_server.specs.States.{Server, in_leg, is_open, is_put, out_leg, phase_of, without_in}
+use Rattle.law_moves.proofs.Vocabulary.{Leg, LegKind, ClientIn, ClientOut, InServer, OutServer, GiveRefused, is_ended, AreAllowedAtEnd, Closes, EndMove, EndPassage, Gives, HeadCame, IsDrawn, Marks, MayEndMove, Moves, PacketCame, PduCame, Pings, Puts, Recycles, Takes, Up, all_end_moved, end_moved, end_now_at, end_started, given_by, is_at_work, is_in_use, with_first, EndEvent, after_end_events}
+use Rattle.law_role_server.proofs.Vocabulary.{Stage, are_lost, completed, drawn, drawn_by, give, in_is_drawn, settled, take, asks, is_under_way, last_number, wanted_by, wished, Server, in_leg, is_open, is_put, out_leg, phase_of, without_in}
 use Rattle.law_node_streams.proofs.Streams.EndMoves.{all_end_moved_append}
 use Rattle.law_node_streams.specs.Grown.{EndGrowing}
 use Rattle.law_peers_routes.specs.Downwards.{server_reads}

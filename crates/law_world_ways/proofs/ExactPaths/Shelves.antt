@@ -1,17 +1,10 @@
 -- what a machine has of a channel tells whether its handover mark or END came
-use Rattle.std.proofs.Common.{◌≡◌, ◌≢◌, ◌⊎◌, inl, inr, ◌<◌, ◌≤◌, ℕ, zero, suc, Bool, true, false, true≢false, ◌||◌, List, ◌++◌, arith, refl, sym, ap, ap₂, ◌∙◌, subst}
-use Rattle.std.proofs.lemmas.Bool.{cases_eq, cases_lt}
-use Rattle.law_order.specs.Items.{Item, has_end, has_handover}
-use Rattle.law_order.specs.Logs.{Log, below}
-use Rattle.law_order.specs.Shelves.{Shelved, Shelves}
-use Rattle.law_order.proofs.ItemLists.{has_end-append, has_handover-append}
+use Rattle.law_order.proofs.Vocabulary.{◌≡◌, ◌≢◌, ◌⊎◌, inl, inr, ◌<◌, ◌≤◌, ℕ, zero, suc, Bool, true, false, true≢false, ◌||◌, List, ◌++◌, arith, refl, sym, ap, ap₂, ◌∙◌, subst, cases_eq, cases_lt, Item, has_end, has_handover, Log, below, Shelved, Shelves}
+use Rattle.law_moves.proofs.Vocabulary.{has_end-append, has_handover-append}
+use Rattle.law_node_history.proofs.Lemmas.{or_left as more_true, or_left as or_first, or_true as or_second}
 use Rattle.law_world_ways.specs.OnPaths.Legs.{has_passed}
 
 -- ---- behind more
-
-more_true : (a b : Bool) → a ≡ true → (a || b) ≡ true
-more_true true b e = refl
-more_true false b e = absurd cc
 
 pub end_more : (a b : List Item) → has_end a ≡ true → has_end (a ++ b) ≡ true
 end_more a b e = has_end-append a b ∙ more_true (has_end a) (has_end b) e
@@ -23,13 +16,6 @@ handover_more a b e =
 pub either : (a b : Bool) → (a || b) ≡ true → (a ≡ true) ⊎ (b ≡ true)
 either true b e = inl refl
 either false b e = inr e
-
-pub or_first : (a b : Bool) → a ≡ true → (a || b) ≡ true
-or_first a b e = more_true a b e
-
-pub or_second : (a b : Bool) → b ≡ true → (a || b) ≡ true
-or_second true b e = refl
-or_second false b e = e
 
 pub passed_more : (a b : List Item) → has_passed a ≡ true → has_passed (a ++ b) ≡ true
 passed_more a b e = by (either (has_handover a) (has_end a) e)

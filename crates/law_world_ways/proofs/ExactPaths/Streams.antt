@@ -1,28 +1,25 @@
 -- the streams of nodes, and where the handover mark or END passed
-use Rattle.std.proofs.Common.{◌≡◌, ◌||◌, ℕ, true}
-use Rattle.law_order.specs.Items.{has_end}
-use Rattle.law_order.specs.Logs.{below}
+use Rattle.law_order.proofs.Vocabulary.{◌≡◌, ◌||◌, ℕ, true, has_end, below}
 use Rattle.rh_inproxy.specs.Machine as in_proxy
-use Rattle.rh_inproxy.specs.State.{InProxy}
 use Rattle.rh_inproxy.specs.State as in_state
-use Rattle.rh_outproxy.specs.declared.out_proxy.TheConstants.{ROOMS}
 use Rattle.rh_outproxy.specs.Machine as out_proxy
-use Rattle.rh_outproxy.specs.OutProxy.{OutProxy, new_proxy}
-use Rattle.rh_client.specs.declared.state.ClientRole.{ClientRole}
 use Rattle.rh_client.specs.Client as client
 use Rattle.rh_client.specs.State as client_state
 use Rattle.rh_server.specs.Servers as server
-use Rattle.rh_server.specs.States.{Server}
-use Rattle.law_moves.specs.Moves.{EndPassage, Passage}
+use Rattle.law_moves.proofs.Vocabulary.{EndPassage, Passage}
+use Rattle.law_role_inproxy.proofs.Vocabulary.{InProxy}
 use Rattle.law_role_inproxy.specs.Order as in_order
+use Rattle.law_role_client.proofs.Vocabulary.{ClientRole}
 use Rattle.law_role_client.specs.Order as client_order
+use Rattle.law_role_server.proofs.Vocabulary.{Server}
 use Rattle.law_role_server.specs.Order as server_order
-use Rattle.law_node_history.specs.Histories.{History}
+use Rattle.law_node_history.proofs.Vocabulary.{History}
+use Rattle.law_role_outproxy.proofs.Vocabulary.{ROOMS, OutProxy, new_proxy}
 use Rattle.law_role_outproxy.specs.Order as out_order
 use Rattle.law_node_streams.specs.Streams.{EndStream, Stream}
 use Rattle.law_node_begins.specs.ProxiesBegin.Pipes.{in_pipe}
 use Rattle.law_peers_routes.specs.Downwards.{client_reads, proxy_reads, server_reads}
-use Rattle.law_world_order.specs.Flows.{Numbers}
+use Rattle.law_world_order.proofs.Vocabulary.{Numbers}
 use Rattle.law_world_ways.specs.OnPaths.Legs.{has_passed}
 
 -- the streams of the nodes

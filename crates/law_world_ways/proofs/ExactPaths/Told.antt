@@ -1,39 +1,18 @@
 -- a node was told that a leg is lost only by a change that ends it
-use Rattle.std.proofs.Common.{◌≡◌, ◌⊎◌, inl, inr, List, [], ◌∷◌, ◌++◌, Bool, true, false, true≢false, ◌||◌, if◌then◌else◌, map, Some, refl, sym, ap, ◌∙◌}
-use Rattle.std.proofs.lemmas.List.Folds.{list_any-append}
-use Rattle.rh_text.specs.declared.ends.Side.{Side}
 use Rattle.rh_text.specs.declared.ends.Side.TheVariants as side
-use Rattle.rh_line.specs.declared.leg.Leg.{Leg}
-use Rattle.rh_line.specs.declared.leg.LegKind.TheVariants.{ClientIn, ClientOut}
-use Rattle.rh_record.specs.declared.answer.Who.{Who}
+use Rattle.law_order.proofs.Vocabulary.{◌≡◌, ◌⊎◌, inl, inr, List, [], ◌∷◌, ◌++◌, Bool, true, false, true≢false, ◌||◌, if◌then◌else◌, map, Some, refl, sym, ap, ◌∙◌, list_any-append}
 use Rattle.rh_record.specs.declared.answer.Who.TheVariants as who
-use Rattle.rh_shell.specs.Shells.{same_leg}
-use Rattle.rh_nodes.specs.declared.event.Event.{Event}
-use Rattle.rh_nodes.specs.declared.event.Event.TheVariants.{Comes, Ends, Breaks, Passes}
-use Rattle.rh_nodes.specs.declared.place.Place.{Place}
-use Rattle.rh_nodes.specs.declared.place.Place.TheVariants.{Absent, Here, Gone}
-use Rattle.rh_nodes.specs.Company.{Rulebook}
-use Rattle.rh_nodes.specs.Giving.{Deeds}
-use Rattle.rh_nodes.specs.Halves.{is_same}
-use Rattle.rh_nodes.specs.Opening.{Makers, reader_before}
-use Rattle.rh_nodes.specs.Settling.{leg_at}
-use Rattle.rh_nodes.specs.Wires.{receiver, sender}
-use Rattle.rh_nodes.specs.World.{World, at}
-use Rattle.rh_nodes.specs.Legs as legs
+use Rattle.rh_wires.specs.Legs as legs
+use Rattle.law_moves.proofs.Vocabulary.{Side, Leg, ClientIn, ClientOut, same_leg, EndEvent, Happens, IsGiven, IsTaken, IsClosed, IsRecycled}
+use Rattle.law_moves.proofs.Lemmas.{leg_is}
 use Rattle.law_moves.specs.Moving as moving
-use Rattle.law_moves.specs.Moving.{EndEvent, Happens, IsGiven, IsTaken, IsClosed, IsRecycled}
-use Rattle.law_node_history.specs.Carried.{events_of, happened}
-use Rattle.law_node_history.specs.Changes.{Change, IsTold, IsFed, IsDrawn, GoesUp, RaisesAlone, GoesDown, OpensIn, OpensOut, OpensSame, Gives, Takes, Closes, RecyclesIn, RecyclesOut, MovesTo, Draws, Reports, changed}
-use Rattle.law_node_history.specs.Histories.{History, act_at, acts_by, all_noted, at_place, heard, in_place, made_by, noted, nothing, out_place, to_node, told_to}
-use Rattle.law_node_history.proofs.Appended.{happened_append}
-use Rattle.law_node_streams.proofs.Streams.Ends.{leg_is}
+use Rattle.law_node_history.proofs.Vocabulary.{Who, receiver, sender, Event, Comes, Ends, Breaks, Passes, Place, Absent, Here, Gone, Rulebook, Deeds, is_same, Makers, reader_before, leg_at, World, at, events_of, happened, Change, IsTold, IsFed, IsDrawn, GoesUp, RaisesAlone, GoesDown, OpensIn, OpensOut, OpensSame, Gives, Takes, Closes, RecyclesIn, RecyclesOut, MovesTo, Draws, Reports, changed, History, act_at, acts_by, all_noted, at_place, heard, in_place, made_by, noted}
+use Rattle.law_node_history.proofs.Vocabulary.{nothing, out_place, to_node, told_to}
+use Rattle.law_node_history.proofs.Lemmas.{happened_append}
+use Rattle.law_world_ways.proofs.ExactPaths.Fronts.{IsEnded, ended_later, ended_now}
+use Rattle.law_world_ways.proofs.ExactPaths.Shelves.{either}
 use Rattle.law_world_ways.specs.EndsInTime.InTime.{ended_by}
 use Rattle.law_world_ways.specs.OnPaths.Lost.{is_loss_of, was_lost}
-use Rattle.law_world_ways.proofs.ExactPaths.Fronts.{IsEnded, ended_later, ended_now}
-
-either : (a b : Bool) → (a || b) ≡ true → (a ≡ true) ⊎ (b ≡ true)
-either true b e = inl refl
-either false b e = inr e
 
 -- ---- what a change tells
 

@@ -1,72 +1,46 @@
 -- the legs up, while all nodes go on: each gives all, or its handover mark or END passed
-use Rattle.std.proofs.Common.{◌≡◌, ◌≢◌, ◌⊎◌, inl, inr, ◌<◌, ◌≤◌, ◌==◌, ◌&&◌, ◌||◌, ℕ, zero, suc, List, [], ◌++◌, Bool, true, false, true≢false, nat_lt, if◌then◌else◌, Some, arith, refl, sym, ap, ◌∙◌, subst}
-use Rattle.std.specs.List.{list_all}
-use Rattle.std.proofs.lemmas.Bool.{cases_Bool, cases_eq, eq-eqb, lt-ltb}
-use Rattle.std.proofs.lemmas.Bool.Decides.{nat_tests}
-use mathlib.Core.List.{IsPrefix}
-use Rattle.rh_text.specs.declared.ends.Dir.TheVariants.{U}
 use Rattle.rh_text.specs.declared.ends.Side.TheVariants as side
-use Rattle.rh_sig.specs.declared.name.Pipe.TheVariants.{CiU, IsU}
+use Rattle.law_order.proofs.Vocabulary.{◌≡◌, ◌≢◌, ◌⊎◌, inl, inr, ◌<◌, ◌≤◌, ◌==◌, ◌&&◌, ◌||◌, ℕ, zero, suc, List, [], ◌++◌, Bool, true, false, true≢false, nat_lt, if◌then◌else◌, Some, arith, refl, sym, ap, ◌∙◌, subst, list_all, cases_Bool, cases_eq, eq-eqb, lt-ltb, nat_tests, IsPrefix, Item, has_end, below, seen, from_first, reader, stops_at, Route}
 use Rattle.rh_record.specs.declared.answer.Who.TheVariants as who
-use Rattle.law_order.specs.Items.{Item, has_end}
-use Rattle.law_order.specs.Logs.{below, seen}
-use Rattle.law_order.specs.Passing.{from_first}
-use Rattle.law_order.specs.Paths.{reader, stops_at}
-use Rattle.law_order.specs.Routes.{Route}
-use Rattle.law_order.proofs.ByNumber.{below_empty}
-use Rattle.law_order.proofs.ItemLists.{nil_front}
-use Rattle.law_order.proofs.OnTheWay.{reader_at}
-use Rattle.law_order.proofs.Prefixes.{prefix_self}
-use Rattle.law_moves.specs.Moves.{is_in_use}
-use Rattle.law_moves.specs.Moving.{EndEvent, Event}
-use Rattle.law_moves.specs.Wires.{of_leg}
-use Rattle.law_role_client.specs.Order.{up_items}
 use Rattle.rh_inproxy.specs.Machine as in_proxy
-use Rattle.law_role_inproxy.specs.Order as in_order
-use Rattle.law_role_inproxy.specs.Order.{item_came, put_items}
-use Rattle.rh_inproxy.specs.State.{InProxy}
-use Rattle.rh_outproxy.specs.OutProxy.{OutProxy}
-use Rattle.law_role_server.specs.Order.{in_items}
 use Rattle.rh_server.specs.Servers as server
-use Rattle.law_moves.specs.ReadBack.Reading.{messages_read}
-use Rattle.rh_nodes.specs.Opening.{Makers}
-use Rattle.rh_nodes.specs.Readers.{reader_of}
-use Rattle.law_node_history.specs.Carried.{came_up, happened, heard_on}
-use Rattle.law_node_history.specs.Changes.{AreAllowed, Change, of_line}
-use Rattle.law_node_history.specs.Histories.{History, IsNew, all_noted, nothing}
-use Rattle.law_node_history.proofs.Appended.{came_append, happened_append}
-use Rattle.law_node_traces.specs.Traced.Numbers.{is_made}
-use Rattle.law_node_traces.specs.Traced.Ours.{AreOurs, deeds, rules}
+use Rattle.law_moves.proofs.Vocabulary.{U, below_empty, nil_front, reader_at, prefix_self, CiU, IsU, is_in_use, EndEvent, Event, of_leg, messages_read}
+use Rattle.law_role_inproxy.proofs.Vocabulary.{InProxy, item_came, put_items}
+use Rattle.law_role_inproxy.specs.Order as in_order
+use Rattle.law_role_client.proofs.Vocabulary.{up_items}
+use Rattle.law_role_server.proofs.Vocabulary.{in_items}
+use Rattle.law_node_history.proofs.Vocabulary.{reader_of, Makers, came_up, happened, heard_on, AreAllowed, Change, of_line, History, IsNew, all_noted, nothing}
+use Rattle.law_node_history.proofs.Lemmas.{came_append, happened_append, not_both, or_left as or_first, or_true as or_second}
+use Rattle.law_role_outproxy.proofs.Vocabulary.{OutProxy}
 use Rattle.law_node_begins.specs.ProxiesBegin.Pipes.{ci, in_pipe, is}
 use Rattle.law_node_begins.specs.EndsBegin.{server_reads}
-use Rattle.law_world_ways.specs.EndsInTime.InTime.{AllEndInTime}
-use Rattle.law_peers_routes.specs.Upwards.{has_leg}
+use Rattle.law_node_traces.proofs.Vocabulary.{is_made, AreOurs, deeds, rules}
 use Rattle.law_peers_routes.proofs.Upwards.JoinedLegs.{client_put, proxy_came, server_came}
-use Rattle.law_world_order.specs.Directions.{up_route_of}
-use Rattle.law_world_order.specs.Flows.{numbers_of}
+use Rattle.law_peers_routes.specs.Upwards.{has_leg}
 use Rattle.law_world_order.proofs.Marked.{up_is_route}
-use Rattle.law_world_ways.specs.OnPaths.Legs.{has_passed, was_up}
-use Rattle.law_world_ways.specs.OnPaths.OnWay.{is_lost, items_on_way}
-use Rattle.law_world_ways.specs.OnPaths.Ways.{AreOnTheirWay, client_node, in_node, server_node, up_far, up_lost}
-use Rattle.law_world_ways.specs.ExactWays.Pdus.{IsBehindEnd, NoneStopsButBehindEnd}
-use Rattle.law_world_ways.proofs.ExactWays.Passing.{in_passes, passed_goes, server_passes}
+use Rattle.law_world_order.proofs.Moments.{OurWorld}
+use Rattle.law_world_order.proofs.Vocabulary.{up_route_of, numbers_of}
+use Rattle.law_world_ways.proofs.ExactWays.Passing.{in_passes, server_passes}
 use Rattle.law_world_ways.proofs.ExactWays.ReadBy.{read_by}
-use Rattle.law_world_ways.specs.ExactPaths.GoingOn.{AllGoOn}
 use Rattle.law_world_ways.proofs.ExactPaths.Streams.{InStream, ServerStream, ci_passed, is_passed}
 use Rattle.law_world_ways.proofs.ExactPaths.Fates.{Facts, goes_or_passed, never_lost}
 use Rattle.law_world_ways.proofs.ExactPaths.Fronts.{front_more}
 use Rattle.law_world_ways.proofs.ExactPaths.Grown.{in_grown, server_grown}
 use Rattle.law_world_ways.proofs.ExactPaths.Receivers.{in_later, in_passed, server_later}
-use Rattle.law_world_ways.proofs.ExactPaths.Shelves.{either, or_first, or_second, passed_more}
+use Rattle.law_world_ways.proofs.ExactPaths.Shelves.{either, passed_more}
+use Rattle.law_world_ways.proofs.ExactPaths.AtFronts.{NodeLaws, WorldLaws}
+use Rattle.law_world_ways.proofs.OnPaths.Used.{passed_goes}
 use Rattle.law_world_ways.proofs.ExactPaths.AtFronts as worlds
-use Rattle.law_world_ways.proofs.ExactPaths.AtFronts.{NodeLaws, OurWorld, WorldLaws}
+use Rattle.law_world_ways.specs.EndsInTime.InTime.{AllEndInTime}
+use Rattle.law_world_ways.specs.OnPaths.Legs.{has_passed, was_up}
+use Rattle.law_world_ways.specs.OnPaths.OnWay.{is_lost, items_on_way}
+use Rattle.law_world_ways.specs.OnPaths.Ways.{AreOnTheirWay, client_node, in_node, server_node, up_far, up_lost}
+use Rattle.law_world_ways.specs.ExactWays.Pdus.{IsBehindEnd, NoneStopsButBehindEnd}
+use Rattle.law_world_ways.specs.ExactPaths.GoingOn.{AllGoOn}
 
 if_there : (b : Bool) (items : List Item) → b ≡ true → (if b then items else []) ≡ items
 if_there true items e = refl
 if_there false items e = absurd (true≢false (sym e))
-
-not_both : {A : Type 0} (b : Bool) → b ≡ true → b ≡ false → A
-not_both b e f = absurd (true≢false (sym e ∙ f))
 
 above_zero : (reads : ℕ → ℕ) (n : ℕ) → has_leg reads n ≡ true → 0 < n
 above_zero reads zero e = absurd (true≢false (sym e))

@@ -1,31 +1,16 @@
 -- a leg that came up is known; of one that did not nothing is kept
-use Rattle.std.proofs.Common.{◌≡◌, inl, inr, ℕ, zero, suc, List, [], ◌∷◌, ◌++◌, length, cond, Bool, true, false, ◌||◌, nat_lt, Some, None, refl, sym, ap, ◌∙◌, subst}
-use Rattle.std.specs.Prelude.{slice_set}
-use Rattle.law_order.proofs.ItemLists.{neither}
-use Rattle.rh_line.specs.declared.leg.Leg.{Leg}
-use Rattle.rh_shell.specs.declared.rooms.Rooms.{Rooms}
-use Rattle.rh_shell.specs.Ends.{cause_of}
-use Rattle.rh_shell.specs.NearEnds.{NearEnd, new_end}
-use Rattle.rh_shell.specs.Rules.{Acts, Rules}
-use Rattle.rh_shell.specs.Shells.{Shell, begun, free_place, same_leg, seated_at, state_of}
-use Rattle.law_moves.specs.Moving.{AreHeld, EndEvent, Event, ComesUp, Hears, Ends, Breaks, Draws, Ticks, Happens, IsClosed, IsGiven, IsRecycled, IsTaken, after_end_event, after_end_events, after_event, after_events}
-use Rattle.law_node_history.specs.Carried.{AreAccepted, AreAcceptedAtEnd, IsAccepted, IsAcceptedAtEnd, came_up, happened, is_up_of}
-use Rattle.law_node_causes.specs.Once.{AreUpOnce, ComesUpOnce, KeepsUp}
+use Rattle.law_order.proofs.Vocabulary.{◌≡◌, inl, inr, ℕ, zero, suc, List, [], ◌∷◌, ◌++◌, length, cond, Bool, true, false, ◌||◌, nat_lt, Some, None, refl, sym, ap, ◌∙◌, subst, slice_set}
+use Rattle.law_moves.proofs.Vocabulary.{neither, Leg, Rooms, cause_of, NearEnd, new_end, Acts, Rules, Shell, begun, free_place, same_leg, seated_at, state_of, AreHeld, EndEvent, Event, ComesUp, Hears, Ends, Breaks, Draws, Ticks, Happens, IsClosed, IsGiven, IsRecycled, IsTaken, after_end_event, after_end_events, after_event, after_events}
+use Rattle.law_moves.proofs.Lemmas.{leg_is}
+use Rattle.law_node_history.proofs.Vocabulary.{AreAccepted, AreAcceptedAtEnd, IsAccepted, IsAcceptedAtEnd, came_up, happened, is_up_of}
 use Rattle.law_node_causes.proofs.LegChanges.{Changes, Comes, Makes, closed_legs, given_legs, makes, recycled_legs, taken_legs}
 use Rattle.law_node_causes.proofs.OnceUp.{AllFollow, AllFollowAtEnd, comes_up, first_held, first_once, run_once, run_once_at_end}
-use Rattle.law_node_streams.proofs.Streams.Ends.{end_is, end_of, leg_is, set_beside}
+use Rattle.law_node_causes.specs.Once.{AreUpOnce, ComesUpOnce, KeepsUp}
+use Rattle.law_node_streams.proofs.Streams.Ends.{end_is, end_of, set_beside, none_in}
+use Rattle.law_node_streams.proofs.Streams.Ways.{or_false as or_none}
 use Rattle.law_world_ways.specs.ExactWays.Keeping.{KnowsLeg}
 
 -- ---- an end of another leg is put
-
-none_in : (leg : Leg) (x : NearEnd) (xs : List NearEnd) → end_of leg (x ∷ xs) ≡ None
-    → (same_leg x.leg leg ≡ false) × (end_of leg xs ≡ None)
-none_in leg x xs none = by (same_leg x.leg leg) none
-  where
-    by : (t : Bool) → cond t (Some x) (end_of leg xs) ≡ None
-        → (t ≡ false) × (end_of leg xs ≡ None)
-    by true n = absurd cc
-    by false n = (refl, n)
 
 set_none : (leg : Leg) (ends : List NearEnd) (i : ℕ) (new : NearEnd)
     → same_leg new.leg leg ≡ false → end_of leg ends ≡ None
@@ -56,15 +41,11 @@ seat_none leg ends i new other none = by (nat_lt i (length ends))
     by true = set_none leg ends i new other none
     by false = push_none leg ends new other none
 
-or_none : (a : Bool) → (a || false) ≡ a
-or_none true = refl
-or_none false = refl
-
-or_more : (a b c : Bool) → ((a || b) || c) ≡ (a || (b || c))
+pub or_more : (a b c : Bool) → ((a || b) || c) ≡ (a || (b || c))
 or_more true b c = refl
 or_more false b c = refl
 
-or_left : (a b : Bool) → b ≡ false → (a || b) ≡ true → a ≡ true
+pub or_left : (a b : Bool) → b ≡ false → (a || b) ≡ true → a ≡ true
 or_left true b e f = refl
 or_left false true e f = absurd cc
 or_left false false e f = absurd cc

@@ -1,57 +1,16 @@
 -- the work of a client is done only where it gave and took all, and no replacement is under way
-use Rattle.std.proofs.Common.{◌≡◌, ◌<◌, ◌≤◌, ℕ, ◌==◌, ◌&&◌, ◌||◌, List, [], ◌∷◌, Bool, true, false, not, nat_lt, Some, None, Ok, Err, arith, rules, refl, sym, ap, ◌∙◌, subst}
-use Rattle.std.specs.Prelude.{IfSome, IsTrue, if◌then◌else◌}
 use Rattle.std.specs.Option.{is_some}
-use Rattle.std.proofs.lemmas.Bool.{and_parts}
-use Rattle.std.proofs.lemmas.Bool.Decides.{nat_tests}
-use Rattle.std.specs.declared.option.Option.{Option}
-use Rattle.std.specs.declared.result.Result.{Result}
-use Rattle.rh_window.specs.declared.recv_window.Ack.{Ack}
-use Rattle.rh_keep.specs.Meters.{fits}
-use Rattle.law_order.specs.Items.{Item, has_end, has_handover}
-use Rattle.law_order.specs.Taking.{TakerLaw}
-use Rattle.law_order.proofs.ByNumber.{by_test}
-use Rattle.rh_rts.specs.declared.command.Cookie.{Cookie}
-use Rattle.rh_sig.specs.declared.named.Named.{Named}
+use Rattle.law_order.proofs.Vocabulary.{◌≡◌, ◌<◌, ◌≤◌, ℕ, ◌==◌, ◌&&◌, ◌||◌, List, [], ◌∷◌, Bool, true, false, not, nat_lt, Some, None, Ok, Err, arith, rules, refl, sym, ap, ◌∙◌, subst, IfSome, IsTrue, if◌then◌else◌, and_parts, nat_tests, Option, Result, Item, has_end, has_handover, TakerLaw}
 use Rattle.rh_sig.specs.declared.named.Named.TheVariants as named
-use Rattle.rh_sig.specs.declared.lengths.TheConstants.{IN_R1_A5_LEN}
-use Rattle.rh_http.specs.declared.config.ClientConfig.{ClientConfig}
-use Rattle.rh_line.specs.Lines.{after_end, after_finish, after_take, channel_of}
-use Rattle.rh_line.specs.declared.leg.Leg.{Leg}
-use Rattle.rh_line.specs.declared.leg.LegKind.{LegKind}
-use Rattle.rh_line.specs.declared.leg.LegKind.TheVariants.{ClientOut, OutServer, ClientIn, InServer}
-use Rattle.rh_line.specs.declared.which.Which.{Which}
-use Rattle.rh_line.specs.declared.which.Which.TheVariants.{Current, Next}
-use Rattle.rh_shell.specs.declared.answers.Count.{Count}
-use Rattle.rh_shell.specs.declared.answers.Phase.{Phase}
 use Rattle.rh_shell.specs.declared.answers.Phase.TheVariants as phase
-use Rattle.rh_shell.specs.declared.end_role.GiveRefused.{GiveRefused}
-use Rattle.rh_shell.specs.NearEnds.{is_ended}
-use Rattle.rh_shell.specs.Rules.{Message, Packet, Pdu}
-use Rattle.rh_client.specs.declared.channels.Opening.{Opening}
-use Rattle.rh_client.specs.declared.channels.Opening.TheVariants.{NotUp, Request, First, Second, Put}
-use Rattle.rh_client.specs.declared.channels.TheConstants.{LAST_NUMBER}
-use Rattle.rh_client.specs.declared.replacement.Replacement.{Replacement}
-use Rattle.rh_client.specs.declared.replacement.Replacement.TheVariants.{NoneUnderWay, In, Out}
 use Rattle.rh_client.specs.declared.replacement.InStage.TheVariants as in_stage
 use Rattle.rh_client.specs.declared.replacement.OutStage.TheVariants as out_stage
-use Rattle.rh_client.specs.declared.replacement.Waits.{Waits}
 use Rattle.rh_client.specs.declared.replacement.Waits.TheVariants as waits
-use Rattle.rh_client.specs.declared.state.ClientRole.{ClientRole}
-use Rattle.rh_client.specs.Acknowledging.{ack_due, ack_named, on_ack_to}
-use Rattle.rh_client.specs.Channels.{is_named, unopened_in}
-use Rattle.rh_client.specs.Replacements.{is_none}
-use Rattle.rh_client.specs.Client.{acts, on_packet, packet_by, pdu, rules as client_rules}
-use Rattle.rh_client.specs.Ending.{close, drawn, end_channel, end_on, give, take}
-use Rattle.rh_client.specs.InReplacement.{answer_by, handed_over, recycle, recycle_by, wants_successor, wish_by, wished}
-use Rattle.rh_client.specs.Opening.{on_conn_c2, up}
-use Rattle.rh_client.specs.OutReplacement.{a10_by, a2_by, a6_by, ended_or, pass_by, passed, succeeded}
-use Rattle.rh_client.specs.Putting.{Pick, ack_by, due_by, or_else, put_ack, put_ack_of, put_by, put_conn_b1, put_current, put_due, put_end, put_in, put_in_r1_a1, put_in_successor, put_next, put_out, put_out_successor, put_pdu, put_ping, put_successor_ping, put_writing, settled_or_wished, settled_pick}
-use Rattle.rh_client.specs.State.{Done, after_in, after_out, begin_out, is_current, is_in_successor, is_open, is_opening, is_out_successor, is_over, is_writing, settled, taken, unexpected}
-use Rattle.rh_client.specs.Time.{ping}
-use Rattle.law_moves.specs.Moves.{Move, Up, HeadCame, PduCame, PacketCame, Puts, IsDrawn, Marks, Pings, Passage, EndMove, EndPassage, Moves, Gives, Takes, Closes, Recycles, AreAllowedAtEnd, MayEndMove, MayMove, all_end_moved, end_moved, end_now_at, given_by, is_in_use, moved, put_by as put_there, taken_by, with_first}
-use Rattle.law_moves.specs.Moving.{EndLeads}
-use Rattle.law_role_client.specs.Order.{AreAllowedMoves, GivesInOrder, TakesInOrder, came_log, client_moved, client_started, has_leg, put_log, taker_of}
+use Rattle.law_moves.proofs.Vocabulary.{Ack, fits, by_test, Cookie, Named, IN_R1_A5_LEN, ClientConfig, after_end, after_finish, after_take, channel_of, Leg, LegKind, ClientOut, OutServer, ClientIn, InServer, Which, Current, Next, Count, Phase, GiveRefused, is_ended, Message, Packet, Pdu, Move, Up, HeadCame, PduCame, PacketCame, Puts, IsDrawn, Marks, Pings, Passage, EndMove, EndPassage, Moves, Gives, Takes, Closes, Recycles, AreAllowedAtEnd, MayEndMove, MayMove, all_end_moved}
+use Rattle.law_moves.proofs.Vocabulary.{end_moved, end_now_at, given_by, is_in_use, moved, put_by as put_there, taken_by, with_first, EndLeads}
+use Rattle.law_role_client.proofs.Vocabulary.{Opening, NotUp, Request, First, Second, Put, LAST_NUMBER, Replacement, NoneUnderWay, In, Out, Waits, ClientRole, ack_due, ack_named, on_ack_to, is_named, unopened_in, is_none, acts, on_packet, packet_by, pdu, rules as client_rules, close, drawn, end_channel, end_on, give, take, answer_by, handed_over, recycle, recycle_by, wants_successor, wish_by, wished, on_conn_c2, up, a10_by, a2_by, a6_by, ended_or, pass_by, passed, succeeded}
+use Rattle.law_role_client.proofs.Vocabulary.{Pick, ack_by, due_by, or_else, put_ack, put_ack_of, put_by, put_conn_b1, put_current, put_due, put_end, put_in, put_in_r1_a1, put_in_successor, put_next, put_out, put_out_successor, put_pdu, put_ping, put_successor_ping, put_writing, settled_or_wished, settled_pick, Done, after_in, after_out, begin_out, is_current, is_in_successor, is_open, is_opening, is_out_successor, is_over, is_writing, settled, taken, unexpected, ping}
+use Rattle.law_role_client.proofs.Vocabulary.{AreAllowedMoves, GivesInOrder, TakesInOrder, came_log, client_moved, client_started, has_leg, put_log, taker_of}
 use Rattle.law_role_client.proofs.TakesInOrder.{takes_in_order}
 use Rattle.law_node_streams.proofs.Streams.EndMoves.{leads_one}
 
@@ -427,13 +386,13 @@ by_given p bytes (role, Err refused) h = h
 recycle_same : (s : ClientRole) (r : Replacement) → Same s (recycle_by s r).0
 recycle_same s r = search rules
 
-abbrev Passed : List Item → Type 0
+abbrev pub Passed : List Item → Type 0
 Passed items = (has_handover items || has_end items) ≡ true
 
-handed : (items : List Item) → has_handover items ≡ true → Passed items
+pub handed : (items : List Item) → has_handover items ≡ true → Passed items
 handed items e = ap (λ (t : Bool). t || has_end items) e
 
-ended_there : (items : List Item) → has_end items ≡ true → Passed items
+pub ended_there : (items : List Item) → has_end items ≡ true → Passed items
 ended_there items e = by (has_handover items) (has_end items) e
   where
     by : (a b : Bool) → b ≡ true → (a || b) ≡ true

@@ -1,25 +1,8 @@
 -- behind END no PDU is put
-use Rattle.std.proofs.Common.{◌≡◌, ◌<◌, ◌≤◌, ℕ, zero, suc, Bool, true, false, nat_le, ◌||◌, List, [], ◌++◌, append_assoc, arith, refl, sym, ap, ◌∙◌, subst}
-use Rattle.std.proofs.lemmas.Bool.Decides.{nat_tests}
-use mathlib.Core.List.{IsPrefix}
-use Rattle.law_order.specs.Items.{IsJoined, Item, has_end, pdus}
-use Rattle.law_order.specs.Logs.{Log, below, through}
-use Rattle.law_order.specs.Paths.{reader}
-use Rattle.law_order.specs.Routes.{IsRoute, Route}
-use Rattle.law_order.proofs.ByNumber.{below_prefix}
-use Rattle.law_order.proofs.ItemLists.{all_ended, has_end-append, nil_front, pdus-append}
-use Rattle.law_order.proofs.OnTheWay.{reader_at}
-use Rattle.law_order.proofs.ShelvesKeep.{below_next}
+use Rattle.law_order.proofs.Vocabulary.{◌≡◌, ◌<◌, ◌≤◌, ℕ, zero, suc, Bool, true, false, nat_le, ◌||◌, List, [], ◌++◌, append_assoc, arith, refl, sym, ap, ◌∙◌, subst, nat_tests, IsPrefix, IsJoined, Item, has_end, pdus, Log, below, through, reader, IsRoute, Route}
+use Rattle.law_moves.proofs.Vocabulary.{below_prefix, all_ended, has_end-append, nil_front, pdus-append, reader_at, below_next, end_stays as end_in}
+use Rattle.law_node_causes.proofs.Sorts.{or_true}
 use Rattle.law_world_ways.specs.ExactWays.Pdus.{IsBehindEnd}
-
--- END in a front is END in all
-end_in : (a b : List Item) → IsPrefix a b → has_end a ≡ true → has_end b ≡ true
-end_in a b p e =
-    ap has_end (sym p.1) ∙ has_end-append a p.0 ∙ ap (λ (t : Bool). t || has_end p.0) e
-
-or_true : (t : Bool) → (t || true) ≡ true
-or_true true = refl
-or_true false = refl
 
 -- one channel more
 one_more : (came sent : Log) (n : ℕ) → IsPrefix (came n) (sent n)

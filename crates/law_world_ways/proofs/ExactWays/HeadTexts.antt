@@ -1,23 +1,11 @@
 -- no head that comes to a proxy asks for an echo
-use Rattle.std.proofs.Common.{◌≡◌, ℕ, List, [], ◌∷◌, Bool, true, false, true≢false, ◌||◌, Some, refl, sym, ap, ◌∙◌, subst}
-use Rattle.std.specs.Prelude.{if◌then◌else◌}
-use Rattle.std.specs.List.{AllByRecursion, list_any}
-use Rattle.std.specs.declared.option.Option.{Option}
-use Rattle.law_order.proofs.ItemLists.{neither}
-use Rattle.rh_sig.specs.declared.name.Pipe.{Pipe}
-use Rattle.rh_line.specs.declared.leg.Leg.{Leg}
-use Rattle.rh_shell.specs.declared.stage.Stage.{Stage}
+use Rattle.law_order.proofs.Vocabulary.{◌≡◌, ℕ, List, [], ◌∷◌, Bool, true, false, true≢false, ◌||◌, Some, refl, sym, ap, ◌∙◌, subst, if◌then◌else◌, AllByRecursion, list_any, Option}
 use Rattle.rh_shell.specs.declared.stage.Stage.TheVariants as stage
-use Rattle.rh_shell.specs.NearEnds.{first_stage}
-use Rattle.rh_shell.specs.Rules.{Rules}
-use Rattle.rh_shell.specs.Shells.{same_leg}
-use Rattle.law_moves.specs.Moves.{AreAllowed, Move, Up, HeadCame, PduCame, PacketCame, Puts, IsDrawn, Marks, Pings, Passage, moved, started}
-use Rattle.law_moves.specs.Moving.{Leads}
-use Rattle.law_moves.proofs.Leading.{leads_none, leads_one, leads_then}
-use Rattle.law_moves.specs.Turns.{AreInTurn, AreInTurnFrom, IsInTurn, Stages, behind_head, none_up, stages_after, with_stage}
-use Rattle.law_node_history.proofs.Wired.{same_itself}
+use Rattle.law_moves.proofs.Vocabulary.{neither, Pipe, Leg, Stage, first_stage, Rules, same_leg, AreAllowed, Move, Up, HeadCame, PduCame, PacketCame, Puts, IsDrawn, Marks, Pings, Passage, moved, started, Leads, AreInTurn, AreInTurnFrom, IsInTurn, Stages, none_up, stages_after, with_stage}
+use Rattle.law_moves.proofs.Lemmas.{leads_none, leads_one, leads_then, leg_is}
+use Rattle.law_moves.specs.Turns.{behind_head}
+use Rattle.law_node_history.proofs.Lemmas.{same_itself}
 use Rattle.law_node_streams.specs.Streams.{HasPipes, IsFirstHead, IsHeadOf, is_head_on}
-use Rattle.law_node_streams.proofs.Streams.Ends.{leg_is}
 use Rattle.law_node_ends.specs.Passed.{AsksNoEcho, HeadsAre}
 use Rattle.law_world_ways.specs.LiveIntakes.{BeginsNoEcho}
 

@@ -1,27 +1,15 @@
 -- a leg that was not lost gives all that was put there, or the one that takes has no use for it
-use Rattle.std.proofs.Common.{◌≡◌, ◌⊎◌, inl, inr, ℕ, Bool, true, false, List, [], ◌++◌, Some, None, refl, sym, ap, ◌∙◌, subst}
-use Rattle.std.specs.Prelude.{◌&&◌, ◌||◌, not}
-use Rattle.std.specs.declared.option.Option.{Option}
-use Rattle.rh_text.specs.declared.ends.Dir.{Dir}
-use Rattle.law_order.specs.Items.{Item}
-use Rattle.law_order.specs.Paths.{stops_at}
-use Rattle.rh_sig.specs.declared.name.Pipe.{Pipe}
-use Rattle.rh_line.specs.declared.leg.Leg.{Leg}
-use Rattle.rh_shell.specs.declared.course.Course.TheVariants.{Going}
-use Rattle.rh_shell.specs.NearEnds.{NearEnd, is_empty, is_ended, is_over, is_useless}
-use Rattle.rh_shell.specs.Rules.{Message, Rules}
-use Rattle.rh_shell.specs.Shells.{Shell, end_at}
-use Rattle.rh_nodes.specs.Wires.{in_flight, is_up, receiver, sender}
-use Rattle.rh_nodes.specs.World.{World}
-use Rattle.law_moves.specs.Moves.{is_in_use}
-use Rattle.law_moves.specs.ReadBack.Reading.{Reading, begin, messages_from, reading}
-use Rattle.law_node_history.specs.Carried.{wire_at}
-use Rattle.law_node_history.specs.Histories.{History}
-use Rattle.law_node_streams.specs.Streams.{is_live}
-use Rattle.law_node_streams.proofs.Streams.Ends.{end_is, end_leg, leg_is}
+use Rattle.law_order.proofs.Vocabulary.{◌≡◌, ◌⊎◌, inl, inr, ℕ, Bool, true, false, List, [], Some, None, refl, sym, ap, ◌∙◌, subst, ◌&&◌, ◌||◌, not, Option, Item, stops_at}
+use Rattle.rh_shell.specs.NearEnds.{is_empty}
+use Rattle.rh_wires.specs.Wires.{is_up}
+use Rattle.law_moves.proofs.Vocabulary.{Dir, Pipe, Leg, Going, NearEnd, is_ended, is_over, is_useless, Message, Rules, Shell, end_at, is_in_use, Reading, begin, messages_from, reading}
+use Rattle.law_moves.proofs.Lemmas.{leg_is}
+use Rattle.law_node_history.proofs.Vocabulary.{in_flight, receiver, sender, World, wire_at, History}
+use Rattle.law_node_streams.proofs.Streams.Ends.{end_is, end_leg}
+use Rattle.law_world_ways.proofs.OnPaths.Used.{way_told, read_told}
 use Rattle.law_world_ways.specs.LiveIntakes.{ReadsLeg}
 use Rattle.law_world_ways.specs.OnPaths.Legs.{is_cut, on_leg, was_told, was_up}
-use Rattle.law_world_ways.specs.OnPaths.OnWay.{is_lost, left_at, left_on, on_way, read_on}
+use Rattle.law_world_ways.specs.OnPaths.OnWay.{is_lost, left_at, left_on, read_on}
 use Rattle.law_world_ways.specs.ExactWays.Keeping.{KeepsEnd}
 
 not_left : (a x : Bool) → (a ≡ true → x ≡ true) → (a && not x) ≡ false
@@ -35,28 +23,16 @@ uncut a x b y z up there =
     ap (λ (t : Bool). t || ((b && not y) && z)) (not_left a x up)
     ∙ ap (λ (t : Bool). t && z) (not_left b y there)
 
-way_told : (pipe : Option Pipe) (cut : Bool) (read : Option Reading) (flight : List ℕ)
-    (left : Option (List ℕ)) (r : Reading) (begun : List ℕ) → cut ≡ false → read ≡ Some r
-    → left ≡ Some begun
-    → on_way pipe cut read flight left ≡ Some (messages_from pipe r (flight ++ begun))
-way_told pipe cut read flight left r begun c d e = rw (c, d, e) refl
-
 left_told : {S : Type 0} (s : Shell S) (leg : Leg) (up lost : Bool) (o : Option (List ℕ))
     → s.course ≡ Going → left_at up lost (end_at s leg) ≡ o → left_on s leg up lost ≡ o
 left_told s leg up lost o going e = rw going e
 
-read_told : {S : Type 0} (rules : Rules S) (s : Shell S) (pipe : Option Pipe) (leg : Leg)
-    (up : Bool) (end : NearEnd) → s.course ≡ Going → end_at s leg ≡ Some end
-    → is_over rules end s.role ≡ false → is_live end.intake.stage ≡ true
-    → read_on rules s pipe leg up ≡ Some (reading end.intake.stage end.intake.held)
-read_told rules s pipe leg up end going at over live = rw (going, at, over, live) refl
-
-read_new : {S : Type 0} (rules : Rules S) (s : Shell S) (pipe : Option Pipe) (leg : Leg)
+pub read_new : {S : Type 0} (rules : Rules S) (s : Shell S) (pipe : Option Pipe) (leg : Leg)
     (up : Bool) → s.course ≡ Going → end_at s leg ≡ None → up ≡ false
     → read_on rules s pipe leg up ≡ Some (begin pipe)
 read_new rules s pipe leg up going at e = rw (going, at, e) refl
 
-unused : {S : Type 0} (rules : Rules S) (s : Shell S) (leg : Leg) (end : NearEnd)
+pub unused : {S : Type 0} (rules : Rules S) (s : Shell S) (leg : Leg) (end : NearEnd)
     → end_at s leg ≡ Some end → is_useless rules end s.role ≡ true
     → is_in_use rules s.role leg ≡ false
 unused rules s leg end at e =

@@ -1,46 +1,30 @@
 -- in a world in which no leg was lost each leg gives all, or its handover mark or END passed
-use Rattle.std.proofs.Common.{◌≡◌, ◌≢◌, ◌⊎◌, inl, inr, ◌≤◌, ℕ, zero, suc, Bool, true, false, true≢false, if◌then◌else◌, List, arith, Some, refl, sym, ap, ◌∙◌, subst}
-use Rattle.std.specs.List.{AllByRecursion}
-use Rattle.std.proofs.lemmas.Bool.Decides.{nat_tests}
-use Rattle.rh_text.specs.declared.ends.Dir.TheVariants.{U, D}
 use Rattle.rh_text.specs.declared.ends.Side.TheVariants as side
-use Rattle.law_order.specs.Items.{has_end}
-use Rattle.law_order.specs.Logs.{below}
-use Rattle.law_order.specs.Paths.{reader, stops_at}
-use Rattle.law_order.specs.Routes.{Route}
-use Rattle.rh_sig.specs.declared.name.Pipe.TheVariants.{CiU, IsU, CoD, OsD}
-use Rattle.rh_http.specs.declared.config.ClientConfig.{ClientConfig}
-use Rattle.rh_line.specs.declared.leg.Leg.{Leg}
+use Rattle.law_order.proofs.Vocabulary.{◌≡◌, ◌≢◌, ◌⊎◌, inl, inr, ◌≤◌, ℕ, true, false, true≢false, List, Some, sym, ap, ◌∙◌, subst, AllByRecursion, has_end, below, reader, stops_at, Route}
 use Rattle.rh_record.specs.declared.answer.Who.TheVariants as who
-use Rattle.rh_shell.specs.Shells.{begun}
-use Rattle.rh_inproxy.specs.declared.state.InProxyConfig.{InProxyConfig}
 use Rattle.rh_inproxy.specs.Machine as in_proxy
 use Rattle.rh_inproxy.specs.State as in_state
-use Rattle.rh_inproxy.specs.State.{InProxy}
-use Rattle.rh_outproxy.specs.declared.out_proxy.TheConstants.{ROOMS}
-use Rattle.rh_outproxy.specs.declared.state.OutProxyConfig.{OutProxyConfig}
 use Rattle.rh_outproxy.specs.Machine as out_proxy
-use Rattle.rh_outproxy.specs.OutProxy.{OutProxy, new_proxy}
-use Rattle.rh_client.specs.declared.state.ClientRole.{ClientRole}
 use Rattle.rh_client.specs.Client as client
 use Rattle.rh_server.specs.Servers as server
-use Rattle.rh_server.specs.States.{Server}
-use Rattle.rh_nodes.specs.Readers.{reader_of}
-use Rattle.rh_nodes.specs.World.{World}
-use Rattle.law_moves.specs.Moves.{EndMove, EndPassage, is_in_use}
-use Rattle.law_moves.specs.Moving.{EndEvent, Event, after_end_events, after_events}
+use Rattle.law_moves.proofs.Vocabulary.{U, D, CiU, IsU, CoD, OsD, ClientConfig, Leg, begun, EndMove, EndPassage, is_in_use, EndEvent, Event, after_end_events, after_events}
+use Rattle.law_role_inproxy.proofs.Vocabulary.{InProxyConfig, InProxy}
+use Rattle.law_role_client.proofs.Vocabulary.{ClientRole, AreAllowedMoves, TakesInOrder, client_moved, has_leg}
 use Rattle.law_role_client.specs.Order as client_order
-use Rattle.law_role_client.specs.Order.{AreAllowedMoves, TakesInOrder, client_moved, has_leg}
-use Rattle.law_node_history.specs.Carried.{AreAccepted, AreAcceptedAtEnd, came_up, happened}
-use Rattle.law_node_history.specs.Histories.{History}
+use Rattle.law_role_server.proofs.Vocabulary.{Server}
+use Rattle.law_node_history.proofs.Vocabulary.{reader_of, World, AreAccepted, AreAcceptedAtEnd, came_up, happened, History}
+use Rattle.law_role_outproxy.proofs.Vocabulary.{ROOMS, OutProxyConfig, OutProxy, new_proxy}
 use Rattle.law_node_streams.specs.Streams.{Stream}
 use Rattle.law_node_ends.specs.Passed.{AsksNoEcho, HeadsAre}
 use Rattle.law_node_begins.specs.EndsBegin.{server_reads}
 use Rattle.law_node_begins.specs.ProxiesBegin.Pipes.{ci, co, in_pipe, is, os}
 use Rattle.law_peers_routes.specs.Downwards.{proxy_reads}
 use Rattle.law_peers_routes.specs.Upwards as goes_up
-use Rattle.law_world_order.specs.Directions.{down_route_of, up_route_of}
-use Rattle.law_world_order.specs.Flows.{Numbers}
+use Rattle.law_world_order.proofs.Vocabulary.{down_route_of, up_route_of, Numbers}
+use Rattle.law_world_ways.proofs.ExactWays.LegGoes.{leg_goes}
+use Rattle.law_world_ways.proofs.ExactWays.Passing.{InLaw, OutLaw, ServerLaw, client_passes, in_passes, out_passes, server_passes}
+use Rattle.law_world_ways.proofs.ExactPaths.DownLegs.{own_reader}
+use Rattle.law_world_ways.proofs.OnPaths.Used.{passed_goes}
 use Rattle.law_world_ways.specs.LiveIntakes.{ReadsLeg}
 use Rattle.law_world_ways.specs.OnPaths.Legs.{has_passed}
 use Rattle.law_world_ways.specs.OnPaths.Lost.{was_lost}
@@ -49,8 +33,6 @@ use Rattle.law_world_ways.specs.OnPaths.Ways.{AreOnTheirWay, client_node, down_f
 use Rattle.law_world_ways.specs.ExactWays.Keeping.{KeepsIfOfUse, KnowsLeg}
 use Rattle.law_world_ways.specs.ExactWays.Pdus.{IsBehindEnd, NoneStopsButBehindEnd}
 use Rattle.law_world_ways.specs.ExactWays.Unlost.{NoneIsLost}
-use Rattle.law_world_ways.proofs.ExactWays.LegGoes.{leg_goes}
-use Rattle.law_world_ways.proofs.ExactWays.Passing.{InLaw, OutLaw, ServerLaw, client_passes, in_passes, out_passes, passed_goes, server_passes}
 
 -- ---- the laws that this stands on
 
@@ -129,13 +111,6 @@ pub record AreRead (numbers : Numbers) (h : History) : Type 0 where
 only : {A : Type 0} → A ⊎ ⊥ → A
 only (inl a) = a
 only (inr bad) = absurd bad
-
--- each channel down is read by the out proxy of its number
-own_reader : (n : ℕ) → reader has_leg n ≡ n
-own_reader zero = refl
-own_reader (suc n) =
-    let has : has_leg (suc n) ≡ true = grind (arith, nat_tests) in
-    ap (λ (b : Bool). if b then suc n else reader has_leg n) has
 
 module _ {K : Type 0} (law : NodeLaws) (numbers : Numbers)
     (v : World K ClientRole Server InProxy OutProxy) (h : History)

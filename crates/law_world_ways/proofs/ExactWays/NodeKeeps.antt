@@ -1,23 +1,18 @@
 -- a node keeps each leg while its role has use for it, or it was told that it was lost
-use Rattle.std.proofs.Common.{◌≡◌, ◌⊎◌, inl, inr, List, [], ◌∷◌, Bool, true, false, ◌||◌, refl, sym, ap, ◌∙◌, subst}
-use Rattle.law_order.proofs.ItemLists.{neither}
-use Rattle.rh_line.specs.declared.leg.Leg.{Leg}
-use Rattle.rh_shell.specs.declared.rooms.Rooms.{Rooms}
-use Rattle.rh_shell.specs.Rules.{Acts, Rules}
-use Rattle.rh_shell.specs.Shells.{Shell, begun}
-use Rattle.law_moves.specs.Moves.{EndMove, EndPassage, Passage, AreAllowedAtEnd, all_end_moved, end_moved, end_started, started}
-use Rattle.law_moves.specs.Moving.{EndEvent, EndFollows, EndLeads, Event, Happens, IsClosed, IsGiven, IsRecycled, IsTaken, Follows, Leads, after_end_event, after_end_events, after_event, after_events}
-use Rattle.law_moves.specs.Wires.{of_leg}
-use Rattle.law_moves.proofs.Leading.{leads_none, leads_then}
-use Rattle.law_node_history.specs.Carried.{AreAccepted, AreAcceptedAtEnd, IsAccepted, IsAcceptedAtEnd, came_up, happened, is_up_of}
-use Rattle.law_node_causes.specs.Once.{ComesUpOnce, KeepsUp}
+use Rattle.law_order.proofs.Vocabulary.{◌≡◌, ◌⊎◌, inl, inr, List, [], ◌∷◌, Bool, true, false, ◌||◌, refl, sym, ap, ◌∙◌, subst}
+use Rattle.law_moves.proofs.Vocabulary.{neither, Leg, Rooms, Acts, Rules, Shell, begun, EndMove, EndPassage, Passage, AreAllowedAtEnd, all_end_moved, end_moved, end_started, started, EndEvent, EndFollows, EndLeads, Event, Happens, IsClosed, IsGiven, IsRecycled, IsTaken, Follows, Leads, after_end_event, after_end_events, after_event, after_events, of_leg}
+use Rattle.law_moves.proofs.Lemmas.{leads_none, leads_then}
+use Rattle.law_node_history.proofs.Vocabulary.{AreAccepted, AreAcceptedAtEnd, IsAccepted, IsAcceptedAtEnd, came_up, happened, is_up_of}
 use Rattle.law_node_causes.proofs.OnceUp.{AllFollow, AllFollowAtEnd}
-use Rattle.law_node_streams.specs.Streams.{StaysUnused, StaysUnusedAtEnd}
+use Rattle.law_node_causes.specs.Once.{ComesUpOnce, KeepsUp}
 use Rattle.law_node_streams.proofs.Streams.EndMoves.{leads_one as end_leads_one}
 use Rattle.law_node_streams.proofs.Streams.Ends.{end_is}
-use Rattle.law_world_ways.specs.OnPaths.Lost.{is_loss_of, was_lost}
+use Rattle.law_node_streams.proofs.Streams.Ways.{or_false as or_none}
+use Rattle.law_node_streams.specs.Streams.{StaysUnused, StaysUnusedAtEnd}
 use Rattle.law_world_ways.proofs.OnPaths.KeptEnds.{Stands, Unused}
-use Rattle.law_world_ways.proofs.OnPaths.KeptLegs.{Known, comes_at, is_lost_at, known_after, known_at_end, known_first, left_stays, left_stays_at_end, or_more, or_none}
+use Rattle.law_world_ways.proofs.OnPaths.KeptLegs.{Known, comes_at, is_lost_at, known_after, known_at_end, known_first, left_stays, left_stays_at_end}
+use Rattle.law_world_ways.proofs.ExactWays.CameUp.{or_more}
+use Rattle.law_world_ways.specs.OnPaths.Lost.{is_loss_of, was_lost}
 use Rattle.law_world_ways.specs.ExactWays.Keeping.{KeepsEnd, KeepsIfOfUse}
 
 module _ {S : Type 0} (rules : Rules S) (Holds : S → Type 0) (once : ComesUpOnce rules Holds)

@@ -1,58 +1,28 @@
 -- behind the last use of a leg, the node that takes took its handover mark or END
-use Rattle.std.proofs.Common.{◌≡◌, ◌≤◌, ◌⊎◌, inl, inr, ℕ, ◌==◌, Bool, true, false, true≢false, not, nat_lt, ◌&&◌, ◌||◌, List, [], ◌∷◌, arith, refl, sym, ap, ◌∙◌, subst}
-use Rattle.std.specs.Prelude.{if◌then◌else◌}
-use Rattle.std.specs.List.{AllByRecursion, list_any}
-use Rattle.std.specs.declared.option.Option.{Option}
-use Rattle.std.proofs.lemmas.Bool.Decides.{nat_tests}
-use Rattle.law_order.specs.Items.{Item, has_end, has_handover}
-use Rattle.law_order.specs.Logs.{below}
-use Rattle.law_order.specs.Paths.{stops_at}
-use Rattle.law_order.proofs.ByNumber.{same_number, test_same}
-use Rattle.law_order.proofs.ItemLists.{has_end-append}
-use Rattle.rh_sig.specs.declared.name.Pipe.{Pipe}
-use Rattle.rh_http.specs.declared.config.ClientConfig.{ClientConfig}
-use Rattle.rh_line.specs.declared.leg.Leg.{Leg}
-use Rattle.rh_line.specs.declared.leg.LegKind.TheVariants.{InServer}
-use Rattle.rh_shell.specs.declared.answers.Phase.{Phase}
+use Rattle.law_order.proofs.Vocabulary.{◌≡◌, ◌≤◌, ◌⊎◌, inl, inr, ℕ, ◌==◌, Bool, true, false, true≢false, not, nat_lt, ◌&&◌, ◌||◌, List, [], ◌∷◌, arith, refl, sym, ap, ◌∙◌, subst, if◌then◌else◌, AllByRecursion, list_any, Option, nat_tests, Item, has_end, has_handover, below}
 use Rattle.rh_shell.specs.declared.answers.Phase.TheVariants as phase
-use Rattle.rh_shell.specs.NearEnds.{is_ended}
-use Rattle.rh_shell.specs.Shells.{begun, is_of, kind_number}
-use Rattle.rh_inproxy.specs.declared.state.InProxyConfig.{InProxyConfig}
 use Rattle.rh_inproxy.specs.Machine as in_proxy
-use Rattle.rh_inproxy.specs.State.{InProxy}
 use Rattle.rh_inproxy.specs.State as in_state
-use Rattle.rh_outproxy.specs.declared.out_proxy.TheConstants.{ROOMS}
-use Rattle.rh_outproxy.specs.declared.state.OutProxyConfig.{OutProxyConfig}
 use Rattle.rh_outproxy.specs.Machine as out_proxy
-use Rattle.rh_outproxy.specs.OutProxy.{OutProxy, new_proxy}
-use Rattle.rh_client.specs.declared.replacement.Replacement.{Replacement}
-use Rattle.rh_client.specs.declared.replacement.Replacement.TheVariants.{NoneUnderWay, In, Out}
-use Rattle.rh_client.specs.declared.state.ClientRole.{ClientRole}
-use Rattle.rh_client.specs.Channels.{is_up}
 use Rattle.rh_client.specs.Client as client
-use Rattle.rh_client.specs.Replacements.{is_finished, is_none, is_out}
-use Rattle.rh_client.specs.State.{is_current}
 use Rattle.rh_server.specs.Servers as server
-use Rattle.rh_server.specs.States.{Server}
-use Rattle.law_moves.specs.Moves.{AreAllowed, AreAllowedAtEnd, EndMove, EndPassage, Move, Moves, Gives, Takes, Closes, Recycles, Up, HeadCame, PduCame, PacketCame, Puts, IsDrawn, Marks, Pings, Passage, all_end_moved, all_moved, end_started, is_in_use, started}
-use Rattle.law_moves.specs.Moving.{EndEvent, Event, after_end_events, after_events}
+use Rattle.law_moves.proofs.Vocabulary.{has_end-append, Pipe, ClientConfig, Leg, InServer, Phase, is_ended, begun, is_of, kind_number, AreAllowed, AreAllowedAtEnd, EndMove, EndPassage, Move, Moves, Gives, Takes, Closes, Recycles, Up, HeadCame, PduCame, PacketCame, Puts, IsDrawn, Marks, Pings, Passage, all_end_moved, all_moved, end_started, is_in_use, started, EndEvent, Event, after_end_events, after_events}
+use Rattle.law_role_inproxy.proofs.Vocabulary.{InProxyConfig, InProxy}
+use Rattle.law_role_inproxy.proofs.Refusing.Items.{swapped as same_test}
 use Rattle.law_role_inproxy.specs.Order as in_order
+use Rattle.law_role_client.proofs.Vocabulary.{Replacement, NoneUnderWay, In, Out, ClientRole, is_up, is_finished, is_none, is_out, is_current, AreAllowedMoves, TakesInOrder, client_moved}
 use Rattle.law_role_client.specs.Order as client_order
-use Rattle.law_role_client.specs.Order.{AreAllowedMoves, TakesInOrder, client_moved}
+use Rattle.law_role_server.proofs.Vocabulary.{Server}
 use Rattle.law_role_server.specs.Order as server_order
-use Rattle.law_node_history.specs.Carried.{came_up, happened}
+use Rattle.law_node_history.proofs.Vocabulary.{came_up, happened}
+use Rattle.law_role_outproxy.proofs.Vocabulary.{ROOMS, OutProxyConfig, OutProxy, new_proxy}
 use Rattle.law_role_outproxy.specs.Order as out_order
 use Rattle.law_node_streams.specs.Streams.{EndStream, Stream, is_end_up_on}
 use Rattle.law_node_ends.specs.Passed.{AsksNoEcho, HeadsAre, IsDoneBehindEnd, IsDoneBehindEnds, ci_leg, is_leg}
 use Rattle.law_node_begins.specs.ProxiesBegin.Pipes.{ci, co, in_pipe, is, os}
 use Rattle.law_peers_routes.specs.Downwards.{proxy_reads}
-use Rattle.law_world_ways.specs.OnPaths.Legs.{has_passed}
 use Rattle.law_world_ways.proofs.ExactWays.ClientOver.{over_done, parts}
-
-pub passed_goes : (lost : Bool) (came : List Item) → has_passed came ≡ true
-    → stops_at lost came ≡ false
-passed_goes true came e = ap not e
-passed_goes false came e = refl
+use Rattle.law_world_ways.specs.OnPaths.Legs.{has_passed}
 
 -- ---- an out proxy
 
@@ -120,18 +90,6 @@ in_passes law config n events stream heads known e =
     by a false c f = inl f
 
 -- ---- a server
-
--- a leg comes up by the same moves
-same_test : (a b : ℕ) → (a == b) ≡ (b == a)
-same_test a b = by (a == b) (b == a) refl refl
-  where
-    by : (x y : Bool) → (a == b) ≡ x → (b == a) ≡ y → x ≡ y
-    by true true e f = refl
-    by false false e f = refl
-    by true false e f =
-        sym (test_same b) ∙ ap (λ (k : ℕ). b == k) (sym (same_number a b e)) ∙ f
-    by false true e f =
-        sym e ∙ ap (λ (k : ℕ). a == k) (same_number b a f) ∙ test_same a
 
 pub ups_are : (n : ℕ) (moves : List EndMove)
     → list_any (is_end_up_on (is n)) moves ≡ server_order.came_up moves n

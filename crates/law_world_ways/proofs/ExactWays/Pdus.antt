@@ -1,14 +1,8 @@
 -- what is on its way in a direction, by its PDUs alone
-use Rattle.std.proofs.Common.{◌≡◌, ◌<◌, ◌≤◌, ℕ, zero, suc, List, ◌++◌, arith, refl, sym, ap, ◌∙◌}
-use Rattle.std.proofs.lemmas.List.{append_cancel_left}
-use Rattle.law_order.specs.Items.{Item, pdus}
-use Rattle.law_order.specs.Logs.{below}
-use Rattle.law_order.specs.Paths.{OnLegs, held_of, part, path, reader}
-use Rattle.law_order.specs.Routes.{IsRoute, Route}
-use Rattle.law_order.proofs.ItemLists.{pdus-append}
-use Rattle.law_order.proofs.OnTheWay.{exact}
-use Rattle.law_world_ways.specs.ExactWays.Pdus.{HasAllPdus}
+use Rattle.law_order.proofs.Vocabulary.{◌≡◌, ◌<◌, ◌≤◌, ℕ, zero, suc, List, ◌++◌, arith, refl, sym, ap, ◌∙◌, append_cancel_left, Item, pdus, below, OnLegs, held_of, part, path, reader, IsRoute, Route}
+use Rattle.law_moves.proofs.Vocabulary.{pdus-append, exact}
 use Rattle.law_world_ways.proofs.ExactWays.Rests.{rests, rests_whole}
+use Rattle.law_world_ways.specs.ExactWays.Pdus.{HasAllPdus}
 
 -- the PDUs of what did not come are those that stand there
 same_rest : (put came rest on : List Item) → put ≡ came ++ rest

@@ -1,11 +1,8 @@
 -- which in proxy reads a channel: the last one up to the channel that has a leg to the server
-use Rattle.std.proofs.Common.{◌≡◌, ◌≢◌, ◌⊎◌, ◌-◌, ◌==◌, ◌&&◌, ◌||◌, inl, inr, ℕ, zero, suc, Bool, true, false, List, arith, refl, sym, ap, ◌∙◌}
-use Rattle.std.specs.Prelude.{if◌then◌else◌}
-use Rattle.std.proofs.lemmas.Bool.{cases_eq, eq-eqb, lt-ltb}
-use Rattle.law_order.specs.Paths.{reader}
-use Rattle.law_order.proofs.ByNumber.{test_other}
-use Rattle.rh_nodes.specs.Readers.{reader_of}
-use Rattle.law_node_traces.specs.Traced.Numbers.{AreRead}
+use Rattle.law_order.proofs.Vocabulary.{◌≡◌, ◌≢◌, ◌⊎◌, ◌-◌, ◌==◌, ◌&&◌, ◌||◌, inl, inr, ℕ, zero, suc, Bool, true, false, List, arith, refl, sym, ap, ◌∙◌, if◌then◌else◌, cases_eq, eq-eqb, lt-ltb, reader}
+use Rattle.law_moves.proofs.Vocabulary.{test_other}
+use Rattle.law_node_history.proofs.Vocabulary.{reader_of}
+use Rattle.law_node_traces.proofs.Vocabulary.{AreRead}
 use Rattle.law_peers_routes.specs.Upwards.{has_leg}
 
 module _ (readers : List ℕ) (made : ℕ → Bool) (are : AreRead readers made) where

@@ -1,10 +1,6 @@
 -- all that was put on the legs of a direction and did not come
-use Rattle.std.proofs.Common.{◌≡◌, ◌<◌, ℕ, zero, suc, List, [], ◌++◌, arith, sym}
-use mathlib.Core.List.{IsPrefix}
-use Rattle.law_order.specs.Items.{Item}
-use Rattle.law_order.specs.Paths.{IsWhole, OnLegs, reader}
-use Rattle.law_order.specs.Routes.{IsRoute, Route}
-use Rattle.law_order.proofs.OnTheWay.{reader_at}
+use Rattle.law_order.proofs.Vocabulary.{◌≡◌, ◌<◌, ℕ, zero, suc, List, [], ◌++◌, arith, sym, IsPrefix, Item, IsWhole, OnLegs, reader, IsRoute, Route}
+use Rattle.law_moves.proofs.Vocabulary.{reader_at}
 
 module _ (r : Route) (l : IsRoute r) where
   near_rest : (n : ℕ) → 0 < n → IsPrefix (r.came (reader r.legs n) n) (r.sent n)

@@ -1,39 +1,11 @@
 -- what is on its way in a direction on whose legs nothing was lost, but behind END
-use Rattle.std.proofs.Common.{◌≡◌, ◌⊎◌, inl, inr, ◌<◌, ◌≤◌, ℕ, Bool, true, false, nat_lt, not, ◌||◌, List, [], ◌++◌, arith, refl, sym, ap, ◌∙◌, subst}
-use Rattle.std.proofs.lemmas.Bool.Decides.{nat_tests}
-use Rattle.std.proofs.lemmas.List.{append_cancel_left}
-use Rattle.law_order.specs.Items.{IsChannel, Item, has_end, has_handover, pdus}
-use Rattle.law_order.specs.Paths.{Arrives, Losses, OnLegs, held_of, path, reader, stops_at}
-use Rattle.law_order.specs.Routes.{IsRoute, Route}
-use Rattle.law_order.proofs.ItemLists.{ended_whole, handed_whole, nil_back, nil_front, pdus-append}
-use Rattle.law_order.proofs.OnTheWay.{part_past}
-use Rattle.law_world_ways.specs.ExactWays.Pdus.{IsBehindEnd, NoneStopsButBehindEnd}
+use Rattle.law_order.proofs.Vocabulary.{◌≡◌, ◌⊎◌, inl, inr, ◌<◌, ◌≤◌, ℕ, Bool, true, false, nat_lt, List, [], ◌++◌, arith, refl, sym, ap, ◌∙◌, nat_tests, IsChannel, Item, pdus, Arrives, Losses, OnLegs, held_of, path, reader, stops_at, IsRoute, Route}
+use Rattle.law_moves.proofs.Vocabulary.{nil_back, nil_front, pdus-append, part_past}
 use Rattle.law_world_ways.proofs.ExactWays.Ended.{none_behind}
 use Rattle.law_world_ways.proofs.ExactWays.Pdus.{all_on_path}
 use Rattle.law_world_ways.proofs.ExactWays.Rests.{rests, rests_whole}
-
--- what did not come has the PDUs that stand there, unless the way stops
-same_pdus : (put came rest on : List Item) (lost : Bool) → put ≡ came ++ rest → IsChannel put
-    → (lost ≡ false → put ≡ came ++ on) → (lost ≡ true → on ≡ [])
-    → stops_at lost came ≡ false → pdus rest ≡ pdus on
-same_pdus put came rest on false is channel arrives none goes =
-    ap pdus (append_cancel_left came rest on (sym is ∙ arrives refl))
-same_pdus put came rest on true is channel arrives none goes =
-    passed (has_handover came) refl (has_end came) refl goes ∙ ap pdus (sym (none refl))
-  where
-    passed : (t : Bool) → has_handover came ≡ t → (u : Bool) → has_end came ≡ u
-        → not (t || u) ≡ false → pdus rest ≡ []
-    passed true e u f goes = ap pdus (handed_whole came rest e (subst IsChannel is channel))
-    passed false e true f goes = ended_whole came rest f (subst IsChannel is channel)
-    passed false e false f goes = absurd (cc)
-
--- where no PDU is left, none stands there
-same_none : (put came rest on : List Item) (lost : Bool) → put ≡ came ++ rest
-    → (lost ≡ false → put ≡ came ++ on) → (lost ≡ true → on ≡ []) → pdus rest ≡ []
-    → pdus rest ≡ pdus on
-same_none put came rest on false is arrives none nothing =
-    ap pdus (append_cancel_left came rest on (sym is ∙ arrives refl))
-same_none put came rest on true is arrives none nothing = nothing ∙ ap pdus (sym (none refl))
+use Rattle.law_world_ways.proofs.OnPaths.OnPath.{same_pdus, same_none}
+use Rattle.law_world_ways.specs.ExactWays.Pdus.{IsBehindEnd, NoneStopsButBehindEnd}
 
 with_rest : (put came rest on : List Item) → put ≡ came ++ rest → pdus rest ≡ pdus on
     → pdus put ≡ pdus came ++ pdus on

@@ -1,50 +1,24 @@
 -- the heads with which bytes begin at the proxies of a world of roles
-use Rattle.std.proofs.Common.{◌≡◌, ◌≤◌, ℕ, List, [], Bool, true, false, nat_le, Ok, Some, None, arith, inl, inr, refl, sym, ap, ◌∙◌, subst}
-use Rattle.std.specs.Prelude.{if◌then◌else◌}
-use Rattle.std.specs.List.{AllByRecursion}
-use Rattle.std.specs.declared.option.Option.{Option}
-use Rattle.std.specs.declared.result.Result.{Result}
-use Rattle.std.proofs.lemmas.Bool.Decides.{nat_tests}
-use mathlib.Core.List.{IsPrefix}
-use Rattle.rh_http.specs.declared.config.ClientConfig.{ClientConfig}
-use Rattle.rh_http.specs.declared.fault.HttpFault.{HttpFault}
-use Rattle.rh_http.specs.Lengths.{greatest_echo}
-use Rattle.rh_http.specs.Texts.{in_request, out_request}
-use Rattle.rh_http.specs.Heads.Verdicts.{Asked, request_verdict}
-use Rattle.rh_text.specs.declared.ends.Side.{Side}
 use Rattle.rh_text.specs.declared.ends.Side.TheVariants as side
-use Rattle.law_order.proofs.ItemLists.{nil_front}
-use Rattle.rh_sig.specs.declared.name.Pipe.{Pipe}
-use Rattle.rh_sig.specs.declared.name.Pipe.TheVariants.{CoU, IsD, OsD}
-use Rattle.rh_line.specs.declared.leg.Leg.{Leg}
-use Rattle.rh_line.specs.declared.leg.LegKind.{LegKind}
-use Rattle.rh_line.specs.declared.leg.LegKind.TheVariants.{ClientOut, OutServer, ClientIn, InServer}
+use Rattle.law_order.proofs.Vocabulary.{◌≡◌, ◌≤◌, ℕ, List, [], Bool, true, false, nat_le, Ok, Some, None, arith, inl, inr, refl, sym, ap, ◌∙◌, subst, if◌then◌else◌, AllByRecursion, Option, Result, nat_tests, IsPrefix}
 use Rattle.rh_record.specs.declared.answer.Who.TheVariants as who
 use Rattle.rh_shell.specs.declared.stage.Stage.TheVariants as stage
-use Rattle.rh_shell.specs.Intakes.{ends_head, is_whole_head}
-use Rattle.law_moves.specs.Moves.{EndMove}
-use Rattle.law_moves.specs.Moving.{EndEvent}
-use Rattle.rh_shell.specs.NearEnds.{first_stage}
-use Rattle.rh_shell.specs.Shells.{same_leg}
-use Rattle.law_moves.specs.Wires.{of_leg}
 use Rattle.rh_client.specs.Client as client
-use Rattle.law_role_client.specs.Legible.{IsConfig, pipe_put}
-use Rattle.law_role_client.specs.Order.{AreAllowedMoves, client_moved}
 use Rattle.rh_client.specs.State as client_state
-use Rattle.rh_inproxy.specs.declared.state.InProxyConfig.{InProxyConfig}
-use Rattle.rh_outproxy.specs.declared.state.OutProxyConfig.{OutProxyConfig}
-use Rattle.rh_nodes.specs.World.{node_by}
-use Rattle.law_node_history.specs.Carried.{end_drawn_on}
-use Rattle.law_moves.specs.ReadBack.Reading.{IsWholeText}
+use Rattle.law_moves.proofs.Vocabulary.{Side, nil_front, Pipe, CoU, IsD, OsD, ClientConfig, HttpFault, greatest_echo, in_request, out_request, Asked, request_verdict, Leg, LegKind, ClientOut, OutServer, ClientIn, InServer, is_whole_head, first_stage, same_leg, EndMove, EndEvent, of_leg, IsWholeText}
+use Rattle.law_moves.proofs.Lemmas.{leg_is}
+use Rattle.law_role_inproxy.proofs.Vocabulary.{InProxyConfig}
+use Rattle.law_role_client.proofs.Vocabulary.{IsConfig, pipe_put, AreAllowedMoves, client_moved}
+use Rattle.law_node_history.proofs.Vocabulary.{node_by, end_drawn_on}
+use Rattle.law_role_outproxy.proofs.Vocabulary.{OutProxyConfig}
 use Rattle.law_node_streams.specs.Streams.{EndStream, IsFirstHead}
-use Rattle.law_node_streams.proofs.Streams.Ends.{leg_is}
+use Rattle.law_node_ends.specs.Passed.{AsksNoEcho}
 use Rattle.law_node_begins.specs.EndsBegin.{Asks, BeginsLegs, IsRequestOf}
 use Rattle.law_node_begins.specs.ProxiesBegin.Pipes.{ci, co, in_pipe, is, out_pipe}
-use Rattle.law_node_ends.specs.Passed.{AsksNoEcho}
-use Rattle.law_world_order.specs.FirstTexts.{IsPort}
 use Rattle.law_world_order.proofs.FirstTexts.Asking.{head_is, whole_requests}
-use Rattle.law_world_order.proofs.FirstTexts.Requests.{request_asks}
+use Rattle.law_world_order.proofs.FirstTexts.Requests.{request_asks, none_whole}
 use Rattle.law_world_order.proofs.FirstTexts.Taken.{asked_for, in_asks}
+use Rattle.law_world_order.proofs.Vocabulary.{IsPort}
 use Rattle.law_world_ways.specs.LiveIntakes.{BeginsNoEcho}
 
 -- ---- requests
@@ -82,10 +56,6 @@ out_no_echo config text port (inr same) =
     (ap (request_verdict false) same ∙ request_asks false config 120 port refl)
 
 -- ---- no bytes begin with no head
-
-none_whole : is_whole_head [] ≡ true → ⊥
-unfolding ends_head
-none_whole e = absurd cc
 
 none_first : (text heard : List ℕ) → heard ≡ [] → IsFirstHead text heard → ⊥
 none_first text heard none first =

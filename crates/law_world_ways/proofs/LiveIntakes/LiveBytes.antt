@@ -1,32 +1,14 @@
 -- an end whose bytes are read reads on, byte by byte, where heads bring frames
-use Rattle.std.proofs.Common.{◌≡◌, inl, inr, ℕ, suc, ◌+◌, ◌≤◌, List, [], ◌∷◌, ◌++◌, append_assoc, length, length-append, take, cond, Bool, true, false, nat_lt, Some, None, Ok, Err, arith, refl, sym, ap, ◌∙◌, subst}
-use Rattle.std.specs.declared.option.Option.{Option}
-use Rattle.std.specs.declared.result.Result.{Result}
-use Rattle.std.proofs.lemmas.Bool.{cases_lt}
-use Rattle.std.proofs.lemmas.List.{append-nil, take_all, take-append-le}
-use Rattle.law_order.proofs.ItemLists.{neither}
-use Rattle.rh_pdu.specs.declared.fault.HeadFault.{HeadFault}
-use Rattle.rh_pdu.specs.Header.{header_length, frag_of, head_fault}
-use Rattle.rh_sig.specs.declared.name.Pipe.{Pipe}
-use Rattle.rh_line.specs.declared.leg.Leg.{Leg}
-use Rattle.rh_line.specs.declared.cause.Cause.{Cause}
+use Rattle.std.proofs.Common.{length-append}
+use Rattle.law_order.proofs.Vocabulary.{◌≡◌, inl, inr, ℕ, suc, ◌+◌, ◌≤◌, List, [], ◌∷◌, ◌++◌, append_assoc, length, take, cond, Bool, true, false, nat_lt, Some, None, Ok, Err, arith, refl, sym, ap, ◌∙◌, subst, Option, Result, cases_lt, append-nil, take_all, take-append-le}
 use Rattle.rh_line.specs.declared.cause.Cause.TheVariants as cause
-use Rattle.rh_shell.specs.declared.answers.Behind.{Behind}
+use Rattle.rh_shell.specs.Intakes.{Over, behind}
 use Rattle.rh_shell.specs.declared.answers.Behind.TheVariants as passed
-use Rattle.rh_shell.specs.declared.answers.Count.{Count}
-use Rattle.rh_shell.specs.declared.answers.HeadRefused.{HeadRefused}
-use Rattle.rh_shell.specs.declared.answers.HeadTaken.{HeadTaken}
-use Rattle.rh_shell.specs.declared.stage.Stage.{Stage}
 use Rattle.rh_shell.specs.declared.stage.Stage.TheVariants as stage
-use Rattle.rh_shell.specs.declared.stop.Stop.{Stop}
-use Rattle.rh_shell.specs.Hearing.{Turn, goes, stops, stop, stop_head, head_row, stage_of, begun_body, behind_head, behind_frame, take_frame, is_greeting, is_stopped, heading, touched, with_intake, take as taken, hear_byte, hear, heard}
-use Rattle.rh_shell.specs.Intakes.{Intake, Came, Nothing, Head, Greeting, Frame, Over, on_byte, byte_by, text_by, frame_by, frame_byte, holds, behind, is_whole_head, is_whole_greeting, is_full, length_told, counted}
-use Rattle.rh_shell.specs.NearEnds.{NearEnd, first_stage, is_over}
-use Rattle.rh_shell.specs.Rules.{Rules}
-use Rattle.law_moves.specs.Carrying.{is_deaf}
-use Rattle.law_moves.specs.ReadBack.Reading.{IsWholeText, begin}
-use Rattle.law_node_streams.specs.Streams.{IsFirstHead, is_live}
+use Rattle.law_moves.proofs.Vocabulary.{neither, HeadFault, header_length, frag_of, head_fault, Pipe, Leg, Cause, Behind, Count, HeadRefused, HeadTaken, Stage, Stop, Turn, goes, stops, stop, stop_head, head_row, stage_of, begun_body, behind_head, behind_frame, take_frame, is_greeting, is_stopped, heading, touched, with_intake, take as taken, hear_byte, hear, heard, Intake, Came, Nothing, Head, Greeting, Frame, on_byte, byte_by, text_by, frame_by, frame_byte, holds}
+use Rattle.law_moves.proofs.Vocabulary.{is_whole_head, is_whole_greeting, is_full, length_told, counted, NearEnd, first_stage, is_over, Rules, is_deaf, IsWholeText, begin}
 use Rattle.law_node_streams.proofs.Streams.Heads.{Waited, first_more}
+use Rattle.law_node_streams.specs.Streams.{IsFirstHead, is_live}
 
 -- ---- while a head is waited for
 

@@ -1,26 +1,16 @@
 -- what a node that goes on keeps is read: where a head is waited for it holds all that it heard, as
 -- its stream says
-use Rattle.std.proofs.Common.{◌≡◌, List, [], ◌∷◌, ◌++◌, append_assoc, true, false, Some, refl, sym, ap, ◌∙◌, subst}
-use Rattle.std.specs.declared.option.Option.{Option}
-use Rattle.rh_sig.specs.declared.name.Pipe.{Pipe}
-use Rattle.rh_line.specs.declared.leg.Leg.{Leg}
-use Rattle.rh_shell.specs.declared.course.Course.TheVariants.{Going}
-use Rattle.rh_shell.specs.declared.rooms.Rooms.{Rooms}
-use Rattle.rh_shell.specs.declared.stage.Stage.{Stage}
-use Rattle.rh_shell.specs.NearEnds.{NearEnd, is_over}
-use Rattle.rh_shell.specs.Rules.{Rules, Acts}
-use Rattle.rh_shell.specs.Shells.{Shell, begun, end_at}
-use Rattle.law_moves.specs.Moving as moving
-use Rattle.law_moves.specs.Moving.{Event, EndEvent, after_event, after_events, after_end_event, after_end_events}
-use Rattle.law_moves.specs.ReadBack.Reading.{begin, reading, reading_after}
-use Rattle.law_node_history.specs.Carried.{AreAccepted, AreAcceptedAtEnd, ComesUpOnce, ComesUpOnceAtEnd, happened, heard_on}
-use Rattle.law_node_history.proofs.Appended.{happened_append}
-use Rattle.law_node_streams.specs.Streams.{EndStream, HasPipes, HearsInTurn, NeverRefuses, StaysUnused, StaysUnusedAtEnd, Stream, is_live}
+use Rattle.law_order.proofs.Vocabulary.{◌≡◌, List, [], ◌∷◌, ◌++◌, true, false, Some, refl, sym, ap, ◌∙◌, subst, Option}
+use Rattle.law_moves.proofs.Vocabulary.{Pipe, Leg, Going, Rooms, Stage, NearEnd, is_over, Rules, Acts, Shell, begun, end_at, Event, EndEvent, after_event, after_events, after_end_event, after_end_events, begin, reading, reading_after}
+use Rattle.law_node_history.proofs.Lemmas.{happened_append}
+use Rattle.law_node_history.proofs.Vocabulary.{AreAccepted, AreAcceptedAtEnd, ComesUpOnce, ComesUpOnceAtEnd, happened, heard_on}
 use Rattle.law_node_streams.proofs.Streams.Heads.{waited}
+use Rattle.law_node_streams.proofs.Grown.Ends.{turn_front as turns_front}
+use Rattle.law_node_streams.specs.Streams.{EndStream, HasPipes, HearsInTurn, NeverRefuses, StaysUnused, StaysUnusedAtEnd, Stream, is_live}
 use Rattle.law_world_order.proofs.Flowing.{EndStreams, NodeStreams}
-use Rattle.law_world_ways.specs.LiveIntakes.{ReadsLeg}
 use Rattle.law_world_ways.proofs.LiveIntakes.LiveBytes.{BringsFrames}
 use Rattle.law_world_ways.proofs.LiveIntakes.LiveEnds.{EndWaits, Heards, Waits, WaitsAt, end_events_read, events_read}
+use Rattle.law_world_ways.specs.LiveIntakes.{ReadsLeg}
 
 -- ---- by what is read
 
@@ -49,12 +39,6 @@ end_accepted_front : {S : Type 0} (rules : Rules S) (acts : Acts S) (s : Shell S
 end_accepted_front rules acts s [] back all = tt
 end_accepted_front rules acts s (event ∷ front) back all =
     (all.0, end_accepted_front rules acts (after_end_event rules acts s event) front back all.1)
-
-turns_front : (front back : List Event) → HearsInTurn (front ++ back) → HearsInTurn front
-turns_front front back turns before behind leg piece split =
-    turns before (behind ++ back) leg piece
-    (ap (λ (x : List Event). x ++ back) split
-    ∙ append_assoc before (moving.Hears leg piece ∷ behind) back)
 
 -- ---- whatever happens at a node
 

@@ -1,32 +1,18 @@
 -- what the roles make of heads: frames come behind each that is taken, but for those that ask for
 -- an echo
-use Rattle.std.proofs.Common.{◌≡◌, ℕ, List, true, false, true≢false, nat_le, Ok, Err, refl, sym, ap, ◌∙◌}
-use Rattle.std.specs.Prelude.{◌==◌}
-use Rattle.std.specs.declared.option.Option.{Option}
-use Rattle.std.specs.declared.result.Result.{Result}
-use Rattle.law_order.proofs.ByNumber.{by_test}
-use Rattle.rh_sig.specs.declared.name.Pipe.{Pipe}
-use Rattle.rh_http.specs.declared.fault.HttpFault.{HttpFault}
-use Rattle.rh_http.specs.declared.response.Response.{Response}
-use Rattle.rh_http.specs.Lengths.{greatest_echo}
-use Rattle.rh_http.specs.Heads.Verdicts.{Asked, request_verdict, response_verdict}
-use Rattle.rh_line.specs.declared.leg.Leg.{Leg}
-use Rattle.rh_line.specs.declared.leg.LegKind.{LegKind}
-use Rattle.rh_line.specs.declared.leg.LegKind.TheVariants.{ClientOut, OutServer, ClientIn, InServer}
-use Rattle.rh_shell.specs.declared.answers.Behind.TheVariants.{Frames}
-use Rattle.rh_shell.specs.declared.answers.HeadRefused.{HeadRefused}
-use Rattle.rh_shell.specs.declared.answers.HeadTaken.{HeadTaken}
+use Rattle.law_order.proofs.Vocabulary.{◌≡◌, ℕ, List, true, false, true≢false, nat_le, Ok, Err, refl, sym, ap, ◌∙◌, ◌==◌, Option, Result}
 use Rattle.rh_inproxy.specs.Machine as in_proxy
 use Rattle.rh_inproxy.specs.Opening as in_opening
-use Rattle.rh_inproxy.specs.State.{InProxy}
 use Rattle.rh_outproxy.specs.Machine as out_proxy
 use Rattle.rh_outproxy.specs.Opening as out_opening
-use Rattle.rh_outproxy.specs.OutProxy.{OutProxy}
 use Rattle.rh_client.specs.Client as client
 use Rattle.rh_client.specs.Opening as client_opening
 use Rattle.rh_server.specs.Servers as server
-use Rattle.law_world_ways.specs.LiveIntakes.{BeginsNoEcho}
+use Rattle.law_moves.proofs.Vocabulary.{by_test, Pipe, HttpFault, Response, greatest_echo, Asked, request_verdict, response_verdict, Leg, LegKind, ClientOut, OutServer, ClientIn, InServer, Frames, HeadRefused, HeadTaken}
+use Rattle.law_role_inproxy.proofs.Vocabulary.{InProxy}
+use Rattle.law_role_outproxy.proofs.Vocabulary.{OutProxy}
 use Rattle.law_world_ways.proofs.LiveIntakes.LiveBytes.{BringsFrames}
+use Rattle.law_world_ways.specs.LiveIntakes.{BeginsNoEcho}
 
 -- what is taken is what was made of it
 behind_of : (a b : HeadTaken) → ◌≡◌ {A = Result HeadTaken HeadRefused} (Ok a) (Ok b)

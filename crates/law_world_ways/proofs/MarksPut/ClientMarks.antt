@@ -1,36 +1,22 @@
 -- a client put IN_R1/A5 or END/A1 on each ci leg that came up and is in use no more
-use Rattle.std.proofs.Common.{◌≡◌, ℕ, ◌≤◌, ◌<◌, ◌==◌, ◌&&◌, ◌||◌, List, [], ◌∷◌, Bool, true, false, true≢false, not, nat_lt, arith, refl, sym, ap, ◌∙◌, subst}
-use Rattle.std.specs.List.{list_any}
-use Rattle.std.proofs.lemmas.Bool.Decides.{nat_tests}
-use Rattle.law_order.specs.Items.{Item, has_end, has_handover}
-use Rattle.rh_http.specs.declared.config.ClientConfig.{ClientConfig}
-use Rattle.rh_line.specs.declared.leg.Leg.{Leg}
-use Rattle.rh_shell.specs.declared.answers.Phase.{Phase}
+use Rattle.law_order.proofs.Vocabulary.{◌≡◌, ℕ, ◌≤◌, ◌<◌, ◌==◌, ◌&&◌, ◌||◌, List, [], ◌∷◌, Bool, true, false, true≢false, not, nat_lt, arith, refl, sym, ap, ◌∙◌, subst, list_any, nat_tests, Item, has_end}
 use Rattle.rh_shell.specs.declared.answers.Phase.TheVariants as phase
-use Rattle.rh_shell.specs.NearEnds.{is_ended}
-use Rattle.rh_shell.specs.Rules.{Acts, Rules}
-use Rattle.rh_client.specs.declared.replacement.Replacement.{Replacement}
-use Rattle.rh_client.specs.declared.replacement.Replacement.TheVariants.{NoneUnderWay, In, Out}
 use Rattle.rh_client.specs.declared.replacement.InStage.TheVariants as in_stage
-use Rattle.rh_client.specs.declared.replacement.Waits.{Waits}
 use Rattle.rh_client.specs.declared.replacement.Waits.TheVariants as waits
-use Rattle.rh_client.specs.declared.state.ClientRole.{ClientRole}
-use Rattle.rh_client.specs.Channels.{is_up}
-use Rattle.rh_client.specs.Client.{acts, rules}
-use Rattle.rh_client.specs.Replacements.{has_out, is_in}
-use Rattle.rh_client.specs.State.{ci, is_open}
-use Rattle.law_moves.specs.Moves.{OnLeg, Up, EndMove, EndPassage, Moves, AreAllowedAtEnd, MayEndMove, all_end_moved, end_moved}
-use Rattle.law_role_client.specs.Order.{AreAllowedMoves, GivesInOrder, client_moved, client_started, put_log}
+use Rattle.law_moves.proofs.Vocabulary.{ClientConfig, Leg, Phase, is_ended, Acts, Rules, OnLeg, Up, EndMove, EndPassage, Moves, AreAllowedAtEnd, MayEndMove, all_end_moved, end_moved}
+use Rattle.law_moves.proofs.Lemmas.{leg_is}
+use Rattle.law_role_client.proofs.Vocabulary.{Replacement, NoneUnderWay, In, Out, Waits, ClientRole, is_up, acts, rules, has_out, is_in, ci, is_open, AreAllowedMoves, GivesInOrder, client_moved, client_started, put_log}
 use Rattle.law_role_client.proofs.Counted.Allowed.{allowed_moves_keep}
 use Rattle.law_role_client.proofs.Counted.Moves.{client_keeps}
-use Rattle.law_role_client.proofs.Counted.Replacements as views
 use Rattle.law_role_client.proofs.Counted.Views.{EventsKeep, Free, InIsAnswered, InIsAsked, OutIsAnswered, OutIsAsked, OutIsFinished, OutIsSwitched, View, Way, has_in, is_in_first, is_in_way, is_out_way, waits_of, way_of}
+use Rattle.law_role_client.proofs.Counted.Rows.{not_false as not_not}
+use Rattle.law_role_client.proofs.Counted.Replacements as views
+use Rattle.law_node_causes.proofs.ClientLegs.{first_is}
 use Rattle.law_node_causes.specs.Numbers.{ClientIsNumbered}
 use Rattle.law_node_causes.specs.Once.{ComesUpOnce, KeepsUp}
-use Rattle.law_node_causes.proofs.ClientLegs.{first_is}
 use Rattle.law_node_streams.specs.Streams.{is_end_up_on}
-use Rattle.law_node_streams.proofs.Streams.Ends.{leg_is}
 use Rattle.law_node_ends.specs.Passed.{IsDoneBehindEnd}
+use Rattle.law_world_ways.proofs.ExactWays.ClientOver.{ended_there as ended, Passed as IsMarked, handed}
 
 -- ---- where its work is done END/A1 was put on the writing channel, and no replacement goes on
 
@@ -169,23 +155,6 @@ within : (n now next : ℕ) (u v w : Bool) → w ≡ false → was n now next u 
 within n now next u v w e h = grind (arith, nat_tests, e, h)
 
 -- ---- the law
-
-abbrev IsMarked : List Item → Type 0
-IsMarked items = (has_handover items || has_end items) ≡ true
-
-handed : (items : List Item) → has_handover items ≡ true → IsMarked items
-handed items e = ap (λ (t : Bool). t || has_end items) e
-
-ended : (items : List Item) → has_end items ≡ true → IsMarked items
-ended items e = by (has_handover items) (has_end items) e
-  where
-    by : (a b : Bool) → b ≡ true → (a || b) ≡ true
-    by true b f = refl
-    by false b f = f
-
-not_not : (b : Bool) → not b ≡ false → b ≡ true
-not_not true e = refl
-not_not false e = absurd cc
 
 module _ (once : ComesUpOnce rules ClientIsNumbered) (calls : KeepsUp rules acts ClientIsNumbered)
     (config : ClientConfig) (moves : List EndMove) (allowed : AreAllowedMoves config moves) where

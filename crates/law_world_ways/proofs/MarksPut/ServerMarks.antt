@@ -1,16 +1,7 @@
 -- on an os leg up to the writing channel's that is in use no more, OUT_R1/A9 or END/B1 was put
-use Rattle.std.proofs.Common.{◌≡◌, inl, inr, ℕ, ◌<◌, ◌≤◌, List, Bool, true, false, true≢false, nat_lt, ◌&&◌, ◌||◌, not, arith, refl, sym, ap, ◌∙◌, subst}
-use Rattle.std.proofs.lemmas.Bool.Decides.{nat_tests}
-use Rattle.std.specs.List.{list_any}
-use Rattle.law_order.specs.Giving.{GiverLaw}
-use Rattle.law_order.specs.Items.{has_end, has_handover}
-use Rattle.rh_shell.specs.NearEnds.{is_ended}
-use Rattle.rh_server.specs.States.{Server, is_some, is_put, out_place, phase_of}
-use Rattle.rh_server.specs.Acknowledging.{out_server as os}
-use Rattle.rh_server.specs.Servers.{acts, first}
-use Rattle.rh_server.specs.Servers.{rules as server_rules}
-use Rattle.law_moves.specs.Moves.{EndMove, EndPassage, AreAllowedAtEnd, all_end_moved, end_started, is_at_work, is_in_use}
-use Rattle.law_role_server.specs.Order.{giver_of, sent}
+use Rattle.law_order.proofs.Vocabulary.{◌≡◌, inl, inr, ℕ, ◌<◌, ◌≤◌, List, Bool, true, false, true≢false, nat_lt, ◌&&◌, ◌||◌, not, arith, refl, sym, ap, ◌∙◌, subst, nat_tests, list_any, GiverLaw, has_end, has_handover}
+use Rattle.law_moves.proofs.Vocabulary.{is_ended, EndMove, EndPassage, AreAllowedAtEnd, all_end_moved, end_started, is_at_work, is_in_use}
+use Rattle.law_role_server.proofs.Vocabulary.{Server, is_some, is_put, out_place, phase_of, out_server as os, acts, first, rules as server_rules, giver_of, sent}
 use Rattle.law_role_server_rows.proofs.Refusing.Writing.{HasLeg, has_place}
 use Rattle.law_node_streams.specs.Streams.{is_end_up_on}
 use Rattle.law_node_ends.specs.Passed.{IsDoneBehindEnd}

@@ -1,38 +1,16 @@
 -- a server's work is done only where END was put on its writing channel
-use Rattle.std.proofs.Common.{◌≡◌, ℕ, ◌==◌, List, Bool, true, true≢false, ◌&&◌, ◌||◌, not, Some, None, Ok, Err, refl, sym, ap, ◌∙◌, rules}
-use Rattle.std.proofs.lemmas.Bool.{and_parts}
-use Rattle.std.specs.Prelude.{IfSome}
-use Rattle.std.specs.declared.option.Option.{Option}
-use Rattle.law_order.proofs.ByNumber.{by_test}
-use Rattle.rh_rts.specs.declared.command.Cookie.{Cookie}
-use Rattle.rh_sig.specs.declared.named.Named.{Named}
+use Rattle.law_order.proofs.Vocabulary.{◌≡◌, ℕ, ◌==◌, List, Bool, true, true≢false, ◌&&◌, ◌||◌, not, Some, None, Ok, Err, refl, sym, ap, ◌∙◌, rules, and_parts, IfSome, Option}
 use Rattle.rh_sig.specs.declared.named.Named.TheVariants as named
-use Rattle.rh_line.specs.declared.leg.Leg.{Leg}
-use Rattle.rh_line.specs.declared.leg.LegKind.{LegKind}
-use Rattle.rh_line.specs.declared.leg.LegKind.TheVariants.{ClientOut, OutServer, ClientIn, InServer}
-use Rattle.rh_shell.specs.declared.answers.Count.{Count}
-use Rattle.rh_shell.specs.Rules.{Message, Packet, Pdu}
-use Rattle.rh_shell.specs.NearEnds.{is_ended}
-use Rattle.rh_server.specs.declared.state.EndMark.{EndMark}
-use Rattle.rh_server.specs.declared.state.InLeg.{InLeg}
-use Rattle.rh_server.specs.declared.state.Stage.{Stage}
+use Rattle.rh_server.specs.Servers.{pdu_by}
 use Rattle.rh_server.specs.declared.state.Stage.TheVariants as stage
 use Rattle.rh_server.specs.declared.out_line.Kind.TheVariants as kind
-use Rattle.rh_server.specs.OutLines.{waits}
-use Rattle.rh_server.specs.States.{Server, phase_of, is_open, is_put, same_cookie, in_leg, out_place, without_in, without_out}
-use Rattle.rh_server.specs.Opening.{Done, took, unexpected, is_first, opens, with_first_out, conn_a2_at, on_conn_a2, with_first_in, conn_b2_at, on_conn_b2, up}
-use Rattle.rh_server.specs.Acknowledging.{on_ack, on_ack_to, on_ping_traffic}
-use Rattle.rh_server.specs.InReplacement.{take, on_in_r1_a2, on_in_r1_a6, on_in_r2_a2}
-use Rattle.rh_server.specs.OutReplacement.{wished, recycle, on_out_r1_a4, on_out_r1_a8}
-use Rattle.rh_server.specs.Ending.{give, are_lost, completed, is_complete, settled, in_is_drawn, drawn_by, with_ack_dropped, lost_in, mark_by, on_end_a2}
-use Rattle.rh_server.specs.Putting.{Pick, or_else, put_in, put_out_greeting, put_waiting, put_pdu_or_end, next_out, settled_pick, put_open, put_out_at, put_by as put_by_kind}
-use Rattle.rh_server.specs.Servers.{pdu_by, packet_by, on_is, on_os, first, acts}
-use Rattle.rh_server.specs.Servers.{rules as server_rules}
-use Rattle.law_moves.proofs.Passages.Logs.{RowKeeps, PutKeeps, StepsKeep, ActsKeep, end_moves_keep}
-use Rattle.law_moves.specs.Moves.{OnLeg, EndMove, all_end_moved, end_started}
+use Rattle.law_moves.proofs.Vocabulary.{by_test, Cookie, Named, Leg, LegKind, ClientOut, OutServer, ClientIn, InServer, Count, Message, Packet, Pdu, is_ended, OnLeg, EndMove, all_end_moved, end_started}
+use Rattle.law_moves.proofs.Lemmas.{RowKeeps, PutKeeps, StepsKeep, ActsKeep, end_moves_keep}
+use Rattle.law_role_server.proofs.Vocabulary.{EndMark, InLeg, Stage, waits, Server, phase_of, is_open, is_put, same_cookie, in_leg, out_place, without_in, without_out, Done, took, unexpected, is_first, opens, with_first_out, conn_a2_at, on_conn_a2, with_first_in, conn_b2_at, on_conn_b2, up, on_ack, on_ack_to, on_ping_traffic, take, on_in_r1_a2, on_in_r1_a6, on_in_r2_a2, wished, recycle, on_out_r1_a4, on_out_r1_a8, give, are_lost, completed, is_complete, settled, in_is_drawn}
+use Rattle.law_role_server.proofs.Vocabulary.{drawn_by, with_ack_dropped, lost_in, mark_by, on_end_a2, Pick, or_else, put_in, put_out_greeting, put_waiting, put_pdu_or_end, next_out, settled_pick, put_open, put_out_at, put_by as put_by_kind, packet_by, on_is, on_os, first, acts, rules as server_rules}
 use Rattle.law_role_server_rows.proofs.Refusing.Told.{Seen}
-use Rattle.law_role_server_rows.proofs.Refusing.Steps as seen
 use Rattle.law_role_server_rows.proofs.Refusing.Steps.{in_same}
+use Rattle.law_role_server_rows.proofs.Refusing.Steps as seen
 
 -- what the fact is about
 record Work : Type 0 where

@@ -1,37 +1,12 @@
 -- an os leg that came up to a server is kept, until its channel is behind the writing one
-use Rattle.std.proofs.Common.{◌≡◌, ◌⊎◌, inl, inr, ℕ, ◌+◌, ◌<◌, ◌==◌, List, [], ◌∷◌, ◌++◌, Bool, true, false, true≢false, nat_le, ◌&&◌, ◌||◌, not, Some, None, Ok, Err, arith, refl, sym, ◌∙◌, subst, rules}
-use Rattle.std.proofs.lemmas.Bool.{false≢true, and_parts}
-use Rattle.std.proofs.lemmas.Bool.Decides.{nat_tests}
-use Rattle.std.specs.Prelude.{slice_get, remove, IfSome, IsTrue}
-use Rattle.std.specs.List.{list_any}
-use Rattle.std.specs.declared.option.Option.{Option}
-use Rattle.law_order.proofs.ByNumber.{by_test, same_number, other_number}
-use Rattle.rh_rts.specs.declared.command.Cookie.{Cookie}
-use Rattle.rh_sig.specs.declared.named.Named.{Named}
+use Rattle.law_order.proofs.Vocabulary.{◌≡◌, ◌⊎◌, inl, inr, ℕ, ◌+◌, ◌<◌, ◌==◌, List, [], ◌∷◌, ◌++◌, Bool, true, false, true≢false, nat_le, ◌&&◌, ◌||◌, not, Some, None, Ok, Err, arith, refl, sym, ◌∙◌, subst, rules, false≢true, and_parts, nat_tests, slice_get, remove, IfSome, IsTrue, list_any, Option}
 use Rattle.rh_sig.specs.declared.named.Named.TheVariants as named
-use Rattle.rh_line.specs.Queue.{front_length}
-use Rattle.rh_line.specs.declared.leg.Leg.{Leg}
-use Rattle.rh_line.specs.declared.leg.LegKind.{LegKind}
-use Rattle.rh_line.specs.declared.leg.LegKind.TheVariants.{ClientOut, OutServer, ClientIn, InServer}
-use Rattle.rh_shell.specs.declared.due.Due.{Due}
-use Rattle.rh_shell.specs.Rules.{Message, Packet, Pdu}
-use Rattle.rh_shell.specs.Shells.{same_leg}
-use Rattle.rh_shell.specs.Waiting.{Waiting, taken}
+use Rattle.rh_server.specs.Servers.{pdu_by}
 use Rattle.rh_server.specs.declared.state.Greeting.TheVariants as greetings
-use Rattle.rh_server.specs.declared.state.OutLeg.{OutLeg}
-use Rattle.rh_server.specs.OutLines.{Gate, lets, length_of}
-use Rattle.rh_server.specs.OutLegs.{counted, went}
-use Rattle.rh_server.specs.States.{Server, is_open, is_due, in_leg, out_place, removed_at, without_in, without_out}
-use Rattle.rh_server.specs.Opening.{Done, has_room, may_up, may_up_by, out_leg_up, up, up_by}
-use Rattle.rh_server.specs.Acknowledging.{out_server as os}
-use Rattle.rh_server.specs.InReplacement.{take}
-use Rattle.rh_server.specs.OutReplacement.{recycle, handed}
-use Rattle.rh_server.specs.Ending.{give, settled, in_is_drawn, drawn_by, with_ack_dropped, lost_in, mark_by, only_marks_by}
-use Rattle.rh_server.specs.Putting.{Pick, or_else, put_in, out_greeting_at, put_out_greeting, gate_at, counts, counts_at, was_put, waiting_by, waiting_at, put_waiting, may_go_at, went_at, pdu_by as put_pdu_by, put_pdu, is_end_due, may_end_at, put_end, put_pdu_or_end, next_out, settled_pick, put_open, put_out_at, put_by as put_by_kind}
-use Rattle.rh_server.specs.Servers.{pdu_by, packet_by, acts}
-use Rattle.rh_server.specs.Servers.{rules as server_rules}
-use Rattle.law_moves.proofs.Passages.Logs.{RowKeeps, PutKeeps, ActsKeep}
-use Rattle.law_moves.specs.Moves.{OnLeg, Up, HeadCame, PduCame, PacketCame, Puts, IsDrawn, Marks, Pings, EndMove, Moves, Gives, Takes, Closes, Recycles, EndPassage, MayEndMove, AreAllowedAtEnd, end_moved, all_end_moved}
+use Rattle.law_moves.proofs.Vocabulary.{by_test, same_number, other_number, Cookie, Named, front_length, Leg, LegKind, ClientOut, OutServer, ClientIn, InServer, Due, Message, Packet, Pdu, same_leg, Waiting, taken, OnLeg, Up, HeadCame, PduCame, PacketCame, Puts, IsDrawn, Marks, Pings, EndMove, Moves, Gives, Takes, Closes, Recycles, EndPassage, MayEndMove, AreAllowedAtEnd, end_moved, all_end_moved}
+use Rattle.law_moves.proofs.Lemmas.{RowKeeps, PutKeeps, ActsKeep}
+use Rattle.law_role_server.proofs.Vocabulary.{OutLeg, Gate, lets, length_of, counted, went, Server, is_open, is_due, in_leg, out_place, removed_at, without_in, without_out, Done, has_room, may_up, may_up_by, out_leg_up, up, up_by, out_server as os, take, recycle, handed, give, settled, in_is_drawn, drawn_by, with_ack_dropped, lost_in, mark_by, only_marks_by, Pick, or_else, put_in, out_greeting_at, put_out_greeting, gate_at, counts, counts_at, was_put, waiting_by, waiting_at}
+use Rattle.law_role_server.proofs.Vocabulary.{put_waiting, may_go_at, went_at, pdu_by as put_pdu_by, put_pdu, is_end_due, may_end_at, put_end, put_pdu_or_end, next_out, settled_pick, put_open, put_out_at, put_by as put_by_kind, packet_by, acts, rules as server_rules}
 use Rattle.law_role_server_rows.proofs.Refusing.Allowed.{MayKeep, allowed_keep}
 use Rattle.law_role_server_rows.proofs.Refusing.Told.{number_at}
 use Rattle.law_role_server_rows.proofs.Refusing.Steps.{PickSame, in_same, lost_same, pdu_same, give_same, take_same}

@@ -1,29 +1,12 @@
 -- what the nodes at the two ends of a leg did there
-use Rattle.std.proofs.Common.{◌≡◌, ℕ, Bool, true, false, List, [], ◌++◌, Some, sym, ap, ◌∙◌}
-use Rattle.std.specs.declared.option.Option.{Option}
-use Rattle.std.proofs.lemmas.List.{append-nil}
-use mathlib.Core.List.{IsPrefix}
-use Rattle.law_order.proofs.ItemLists.{nil_front}
-use Rattle.rh_sig.specs.declared.name.Pipe.{Pipe}
-use Rattle.rh_line.specs.declared.leg.Leg.{Leg}
-use Rattle.rh_shell.specs.declared.course.Course.TheVariants.{Going}
-use Rattle.rh_shell.specs.declared.rooms.Rooms.{Rooms}
-use Rattle.law_moves.specs.Carrying.{spelled}
-use Rattle.law_moves.specs.Moving.{EndEvent, Event, after_end_events, after_events}
-use Rattle.rh_shell.specs.NearEnds.{NearEnd, is_over}
-use Rattle.rh_shell.specs.Rules.{Acts, Rules, Message}
-use Rattle.rh_shell.specs.Shells.{Shell, begun, end_at}
-use Rattle.law_moves.specs.Wires.{of_leg}
-use Rattle.law_moves.specs.ReadBack.Reading.{Reading, messages_read}
-use Rattle.rh_nodes.specs.declared.place.Place.{Place}
-use Rattle.rh_nodes.specs.declared.place.Place.TheVariants.{Absent, Here, Gone}
-use Rattle.law_node_history.specs.Carried.{IsHeard, came_up, drawn_on, end_drawn_on, happened, heard_on}
-use Rattle.law_node_history.specs.Histories.{IsRun}
+use Rattle.law_order.proofs.Vocabulary.{◌≡◌, ℕ, Bool, true, false, List, [], ◌++◌, Some, sym, ap, ◌∙◌, Option, append-nil, IsPrefix}
+use Rattle.law_moves.proofs.Vocabulary.{nil_front, Pipe, Leg, Going, Rooms, NearEnd, is_over, Acts, Rules, Message, Shell, begun, end_at, spelled, EndEvent, Event, after_end_events, after_events, of_leg, Reading, messages_read}
+use Rattle.law_node_history.proofs.Vocabulary.{Place, Absent, Here, Gone, IsHeard, came_up, drawn_on, end_drawn_on, happened, heard_on, IsRun}
 use Rattle.law_node_streams.specs.Streams.{EndStream, IsReadTo, Stream, is_live}
+use Rattle.law_world_ways.proofs.OnPaths.Ends.{gone_unread}
 use Rattle.law_world_ways.specs.OnPaths.Forgotten.{DrawsOut, EndDrawsOut, IsDrawnOut}
 use Rattle.law_world_ways.specs.OnPaths.Lost.{was_lost}
 use Rattle.law_world_ways.specs.OnPaths.OnWay.{read_on}
-use Rattle.law_world_ways.proofs.OnPaths.Ends.{gone_unread}
 
 -- the node that puts: what it put spells what it drew and what is begun, or what it drew where it
 -- forgot the leg; and it put nothing on a leg that did not come up

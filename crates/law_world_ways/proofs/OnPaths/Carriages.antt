@@ -1,32 +1,13 @@
 -- what a leg carried, and what its end that takes heard of that
-use Rattle.std.proofs.Common.{◌≡◌, ◌⊎◌, inl, inr, ℕ, Bool, true, false, List, [], ◌++◌, refl, sym, ap, ◌∙◌}
-use Rattle.std.specs.Prelude.{◌&&◌, ◌||◌, not}
-use Rattle.std.specs.List.{AllByRecursion}
-use Rattle.std.specs.declared.option.Option.{Option}
-use Rattle.rh_text.specs.declared.ends.Dir.{Dir}
-use Rattle.law_order.specs.Items.{Item}
-use Rattle.law_order.specs.Logs.{seen}
-use Rattle.law_order.proofs.ItemLists.{nil_front}
-use Rattle.rh_sig.specs.declared.name.Pipe.{Pipe}
-use Rattle.rh_line.specs.declared.leg.Leg.{Leg}
+use Rattle.law_order.proofs.Vocabulary.{◌≡◌, ◌⊎◌, inl, inr, ℕ, Bool, true, false, List, [], ◌++◌, refl, sym, ap, ◌∙◌, ◌&&◌, ◌||◌, not, AllByRecursion, Option, Item, seen}
 use Rattle.rh_shell.specs.NearEnds.{is_empty}
-use Rattle.rh_shell.specs.Rules.{Rules, Message}
-use Rattle.rh_shell.specs.Shells.{Shell}
-use Rattle.rh_nodes.specs.Company.{Company, Rulebook}
-use Rattle.rh_nodes.specs.Giving.{Deeds}
-use Rattle.rh_nodes.specs.Opening.{Makers}
-use Rattle.rh_nodes.specs.Wires.{in_flight, receiver, sender}
-use Rattle.rh_nodes.specs.World.{World, at}
-use Rattle.law_moves.specs.Legible.Legible.{ReadsBack}
-use Rattle.law_moves.specs.ReadBack.Reading.{Begins, messages_read, read_of}
-use Rattle.law_node_history.specs.Carriages.{Carriage, IsCarried, IsDone}
-use Rattle.law_node_history.specs.Carried.{AreCarried, carriage, drawn_by, ledger, wire_at}
-use Rattle.law_node_history.specs.Histories.{History}
-use Rattle.law_world_ways.specs.OnPaths.Legs.{is_cut, on_leg, was_told, was_up}
-use Rattle.law_world_ways.specs.OnPaths.OnWay.{is_lost, items_on_way, left_on, read_on}
+use Rattle.law_moves.proofs.Vocabulary.{Dir, nil_front, Pipe, Leg, Rules, Message, Shell, ReadsBack, Begins, messages_read, read_of}
+use Rattle.law_node_history.proofs.Vocabulary.{in_flight, receiver, sender, Company, Rulebook, Deeds, Makers, World, at, Carriage, IsCarried, IsDone, AreCarried, carriage, drawn_by, ledger, wire_at, History}
 use Rattle.law_world_ways.proofs.OnPaths.AtEnds.{Puts, Takes}
 use Rattle.law_world_ways.proofs.OnPaths.Ends.{left_spells, read_stands}
 use Rattle.law_world_ways.proofs.OnPaths.Legs.{AllRead, IsJoined, leg_arrives}
+use Rattle.law_world_ways.specs.OnPaths.Legs.{is_cut, on_leg, was_told, was_up}
+use Rattle.law_world_ways.specs.OnPaths.OnWay.{is_lost, items_on_way, left_on, read_on}
 
 not_cut : (c : Carriage) → IsCarried c
     → (c.did_take && not c.takes) || ((c.did_put && not c.puts) && is_empty c.flight) ≡ false

@@ -1,43 +1,30 @@
 -- what stands on the legs downwards
-use Rattle.std.proofs.Common.{◌≡◌, ◌<◌, ℕ, zero, suc, Bool, true, false, if◌then◌else◌, ◌++◌, Some, arith, refl, sym, ap, subst}
-use Rattle.std.proofs.lemmas.Bool.Decides.{nat_tests}
-use Rattle.rh_text.specs.declared.ends.Dir.TheVariants.{D}
-use Rattle.law_order.specs.Paths.{Arrives, reader}
-use Rattle.law_order.specs.Routes.{IsRoute}
-use Rattle.rh_sig.specs.declared.name.Pipe.TheVariants.{CoD, OsD}
+use Rattle.law_order.proofs.Vocabulary.{◌≡◌, ◌<◌, ℕ, zero, suc, Bool, true, false, if◌then◌else◌, ◌++◌, Some, arith, refl, sym, ap, subst, nat_tests, Arrives, reader, IsRoute}
 use Rattle.rh_record.specs.declared.answer.Who.TheVariants as who
-use Rattle.rh_shell.specs.Shells.{Shell, begun}
-use Rattle.rh_inproxy.specs.State.{InProxy}
-use Rattle.rh_outproxy.specs.declared.out_proxy.TheConstants.{ROOMS}
 use Rattle.rh_outproxy.specs.Machine as out_proxy
-use Rattle.rh_outproxy.specs.OutProxy.{OutProxy, new_proxy}
-use Rattle.rh_client.specs.declared.state.ClientRole.{ClientRole}
 use Rattle.rh_client.specs.Client as client
 use Rattle.rh_server.specs.Servers as server
-use Rattle.rh_server.specs.States.{Server}
-use Rattle.rh_nodes.specs.Company.{Company}
-use Rattle.rh_nodes.specs.Opening.{Makers}
-use Rattle.rh_nodes.specs.World.{World}
-use Rattle.law_role_client.specs.Order.{down_items, has_leg}
+use Rattle.law_moves.proofs.Vocabulary.{D, CoD, OsD, Shell, begun}
+use Rattle.law_role_inproxy.proofs.Vocabulary.{InProxy}
+use Rattle.law_role_client.proofs.Vocabulary.{ClientRole, down_items, has_leg}
+use Rattle.law_role_server.proofs.Vocabulary.{Server, out_items}
 use Rattle.law_role_server.specs.Legible as server_legible
-use Rattle.law_role_server.specs.Order.{out_items}
-use Rattle.law_node_history.specs.Carried.{AreCarried, AreHeard, drawn_on, end_drawn_on, ledger}
-use Rattle.law_node_history.specs.Histories.{History, IsRun, out_place}
+use Rattle.law_node_history.proofs.Vocabulary.{Company, Makers, World, AreCarried, AreHeard, drawn_on, end_drawn_on, ledger, History, IsRun, out_place}
+use Rattle.law_role_outproxy.proofs.Vocabulary.{ROOMS, OutProxy, new_proxy, from_server, put_items, to_client}
 use Rattle.law_role_outproxy.specs.Legible as proxy_legible
-use Rattle.law_role_outproxy.specs.Order.{from_server, put_items, to_client}
 use Rattle.law_node_streams.proofs.Streams.LegLogs.{leg_reads_back}
 use Rattle.law_node_begins.specs.ProxiesBegin.Pipes.{co, os}
-use Rattle.law_node_traces.specs.Traced.Ours.{AreOurs, deeds, rules}
-use Rattle.law_peers_routes.specs.Downwards.{GoesDown, proxy_reads, route_of, server_reads}
+use Rattle.law_node_traces.proofs.Vocabulary.{AreOurs, deeds, rules}
 use Rattle.law_peers_routes.proofs.Downwards.Sides.{client_came, proxy_came, proxy_put, put_views, sent_views, server_sent}
-use Rattle.law_world_order.specs.Flows.{Numbers, numbers_of}
-use Rattle.law_world_ways.specs.OnPaths.Forgotten.{DrawsOut, EndDrawsOut}
-use Rattle.law_world_ways.specs.OnPaths.OnWay.{is_lost, items_on_way}
-use Rattle.law_world_ways.specs.OnPaths.Ways.{client_node, down_far, down_lost, down_near, down_on, out_node, server_node}
+use Rattle.law_peers_routes.specs.Downwards.{GoesDown, proxy_reads, route_of, server_reads}
+use Rattle.law_world_order.proofs.Vocabulary.{Numbers, numbers_of}
 use Rattle.law_world_ways.proofs.OnPaths.AtEnds.{end_puts, end_takes, proxy_puts, proxy_takes}
 use Rattle.law_world_ways.proofs.OnPaths.Carriages.{arrives, fed_none}
 use Rattle.law_world_ways.proofs.OnPaths.Legs.{AllRead}
 use Rattle.law_world_ways.proofs.OnPaths.OnPath.{where_leg}
+use Rattle.law_world_ways.specs.OnPaths.Forgotten.{DrawsOut, EndDrawsOut}
+use Rattle.law_world_ways.specs.OnPaths.OnWay.{is_lost, items_on_way}
+use Rattle.law_world_ways.specs.OnPaths.Ways.{client_node, down_far, down_lost, down_near, down_on, out_node, server_node}
 
 module _ {K : Type 0} (law : AllRead) (m : Makers K InProxy OutProxy)
     (first : Company ClientRole Server InProxy OutProxy) (cast : K)

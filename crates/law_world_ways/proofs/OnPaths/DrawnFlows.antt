@@ -1,64 +1,37 @@
 -- the streams of all nodes, joined in both directions, by which all that was put on a leg that is
 -- forgotten was drawn
-use Rattle.std.proofs.Common.{◌≡◌, ℕ, zero, suc, List, [], ◌∷◌, true≢false, sym, ap, ◌∙◌, subst}
-use Rattle.std.specs.List.{AllByRecursion}
-use Rattle.std.specs.declared.option.Option.{Option}
-use mathlib.Core.List.{IsPrefix}
-use Rattle.rh_text.specs.declared.ends.Dir.{Dir}
-use Rattle.rh_text.specs.declared.ends.Side.{Side}
-use Rattle.rh_window.specs.Sides.{IsWindow}
-use Rattle.rh_http.specs.declared.config.ClientConfig.{ClientConfig}
-use Rattle.rh_sig.specs.declared.name.Pipe.{Pipe}
-use Rattle.rh_line.specs.declared.leg.Leg.{Leg}
-use Rattle.rh_record.specs.declared.answer.Who.{Who}
-use Rattle.rh_shell.specs.declared.rooms.Rooms.{Rooms}
-use Rattle.law_moves.specs.Moves.{EndMove, EndPassage, Move, Moves, Up, HeadCame, PduCame, PacketCame, Puts, IsDrawn, Marks, Pings, Gives, Takes, Closes, Recycles, Passage, all_end_moved, all_moved, end_started, started}
-use Rattle.law_moves.specs.Moving.{EndEvent, Event, ComesUp, Hears, Ends, Breaks, Draws, Ticks}
-use Rattle.rh_shell.specs.Rules.{Acts, Rules}
-use Rattle.rh_shell.specs.Shells.{Shell, begun}
-use Rattle.law_moves.specs.Legible.Legible.{AreLegible, IsLegible}
-use Rattle.rh_client.specs.declared.state.ClientRole.{ClientRole}
-use Rattle.rh_client.specs.Client as client
-use Rattle.law_role_client.specs.Legible as client_legible
-use Rattle.law_role_client.specs.Legible.{HasCookieAtEnd, HasCookies, HaveCookies}
-use Rattle.law_role_client.specs.Order.{client_moved}
-use Rattle.rh_client.specs.State as client_state
-use Rattle.rh_inproxy.specs.declared.state.InProxyConfig.{InProxyConfig}
-use Rattle.law_role_inproxy.specs.Legible as in_legible
+use Rattle.law_order.proofs.Vocabulary.{◌≡◌, ℕ, zero, suc, List, [], true≢false, sym, ap, ◌∙◌, subst, Option, IsPrefix}
 use Rattle.rh_inproxy.specs.Machine as in_proxy
 use Rattle.rh_inproxy.specs.State as in_state
-use Rattle.rh_inproxy.specs.State.{InProxy}
-use Rattle.rh_outproxy.specs.declared.out_proxy.TheConstants.{ROOMS}
-use Rattle.rh_outproxy.specs.declared.state.OutProxyConfig.{OutProxyConfig}
-use Rattle.law_role_outproxy.specs.Legible as out_legible
 use Rattle.rh_outproxy.specs.Machine as out_proxy
-use Rattle.rh_outproxy.specs.OutProxy.{OutProxy, new_proxy}
-use Rattle.law_role_server.specs.Legible as server_legible
+use Rattle.rh_client.specs.Client as client
+use Rattle.rh_client.specs.State as client_state
 use Rattle.rh_server.specs.Servers as server
-use Rattle.rh_server.specs.States.{Server}
-use Rattle.rh_nodes.specs.declared.place.Place.{Place}
-use Rattle.rh_nodes.specs.Opening.{Makers}
-use Rattle.rh_nodes.specs.Wires.{receiver, sender}
-use Rattle.rh_nodes.specs.World.{World}
-use Rattle.law_node_history.specs.Carried.{AllAccepted, AreAccepted, AreAcceptedAtEnd, ComesUpOnce, ComesUpOnceAtEnd, IsTraced, LegsComeUpOnce, came_up, drawn_by, end_node, events_of, happened, heard_on}
-use Rattle.law_node_history.specs.Histories.{History, IsRun}
-use Rattle.law_node_history.proofs.Leading.{cast_kept}
-use Rattle.law_node_streams.specs.Streams.{ComesUpWith, HearsInTurn, IsCookie, RisesWith}
-use Rattle.law_node_traces.specs.Traced.Cookies.{ByChanges}
-use Rattle.law_node_traces.specs.Traced.Numbers.{HasWholeCookie, HaveWholeCookies}
-use Rattle.law_node_traces.specs.Traced.Ours.{AreOurs, deeds, rules}
-use Rattle.law_node_traces.specs.Traced.Recordings.{IsKnown, history_at}
+use Rattle.law_moves.proofs.Vocabulary.{Dir, Side, Pipe, ClientConfig, Leg, Rooms, Acts, Rules, Shell, begun, EndPassage, Passage, EndEvent, Event, AreLegible, IsLegible}
+use Rattle.law_role_inproxy.proofs.Vocabulary.{InProxyConfig, InProxy}
+use Rattle.law_role_inproxy.specs.Legible as in_legible
+use Rattle.law_role_client.proofs.Vocabulary.{ClientRole}
+use Rattle.law_role_client.specs.Legible as client_legible
+use Rattle.law_role_server.proofs.Vocabulary.{Server}
+use Rattle.law_role_server.specs.Legible as server_legible
+use Rattle.law_node_history.proofs.Vocabulary.{Who, receiver, sender, Place, Makers, World, AllAccepted, AreAccepted, AreAcceptedAtEnd, ComesUpOnce, ComesUpOnceAtEnd, IsTraced, LegsComeUpOnce, came_up, drawn_by, end_node, events_of, happened, heard_on, History, IsRun}
+use Rattle.law_node_history.proofs.Lemmas.{cast_kept}
+use Rattle.law_role_outproxy.proofs.Vocabulary.{ROOMS, OutProxyConfig, OutProxy, new_proxy}
+use Rattle.law_role_outproxy.specs.Legible as out_legible
+use Rattle.law_node_streams.specs.Streams.{HearsInTurn}
 use Rattle.law_node_begins.specs.ProxiesBegin.Pipes.{in_pipe}
+use Rattle.law_node_traces.proofs.Vocabulary.{ByChanges, HaveWholeCookies, AreOurs, deeds, rules, IsKnown, history_at}
 use Rattle.law_peers_routes.specs.Downwards.{client_reads, proxy_reads, server_reads}
-use Rattle.law_world_order.specs.Directions.{Directions}
-use Rattle.law_world_order.specs.Flows.{AllFine, AllLegible, AreBegun, Flows, IsFlowing, numbers_of}
-use Rattle.law_world_order.specs.Premises.{AreInRange}
 use Rattle.law_world_order.proofs.Flowing.{Streaming}
 use Rattle.law_world_order.proofs.Heard.{heard_fine}
 use Rattle.law_world_order.proofs.Legs.{Reads}
 use Rattle.law_world_order.proofs.Starting.{Beginning, starts}
-use Rattle.law_world_ways.specs.OnPaths.Forgotten.{DrawnDirections}
+use Rattle.law_world_order.proofs.Pasts.Legal.{have_cookies}
+use Rattle.law_world_order.proofs.Legal.{Legalities}
+use Rattle.law_world_order.proofs.Moments.{sized as whole_cookies, OurWorld}
+use Rattle.law_world_order.proofs.Vocabulary.{Directions, AllFine, AllLegible, AreBegun, Flows, IsFlowing, numbers_of, AreInRange}
 use Rattle.law_world_ways.proofs.OnPaths.Forgotten.{Drawn, EndDrawn}
+use Rattle.law_world_ways.specs.OnPaths.Forgotten.{DrawnDirections}
 
 -- ---- the laws that this stands on
 
@@ -85,24 +58,6 @@ pub record AllDraw : Type 0 where
   pub outs : (config : OutProxyConfig)
       → NodeDraws out_proxy.rules (new_proxy config) ROOMS (proxy_reads config)
 
--- what a role puts may go on its pipe
-pub record Legalities : Type 0 where
-  pub client : (config : ClientConfig) (moves : List EndMove) → client_legible.IsConfig config
-      → HasCookies config → HaveCookies moves
-      → AreLegible client_legible.pipe_put (client_moved config moves).passage.put
-  pub server : (window : ℕ) (moves : List EndMove) → IsWindow window
-      → IsLegible server_legible.pipe_put
-      (all_end_moved server.rules server.acts (end_started (server.first window)) moves).passage
-  pub ins : (config : InProxyConfig) (moves : List Move) → in_state.IsConfig config
-      → in_legible.HasSizes config → IsLegible in_legible.pipe_put
-      (all_moved in_proxy.rules (started (in_state.first config)) moves)
-  pub outs : (config : OutProxyConfig) (moves : List Move) → out_legible.IsConfig config
-      → IsLegible out_legible.pipe_put
-      (all_moved out_proxy.rules (started (new_proxy config)) moves)
-
-abbrev pub OurWorld : Type 0 → Type 0
-OurWorld K = World K ClientRole Server InProxy OutProxy
-
 pub record DrawLaws (K : Type 0) : Type 0 where
   pub draws : AllDraw
   pub streaming : Streaming
@@ -117,40 +72,6 @@ pub record DrawLaws (K : Type 0) : Type 0 where
       → IsTraced rules m deeds w.company v h → (node : Who) (leg : Leg)
       → ((end : Side) → end_node v.readers leg end ≡ node → ⊥)
       → heard_on leg (events_of h node) ≡ []
-
--- ---- cookies of 16 bytes
-
-whole_cookies : (events : List Event) → HaveWholeCookies events
-    → AllByRecursion (ComesUpWith IsCookie) events
-whole_cookies [] all = tt
-whole_cookies (event ∷ events) all = (one event all.0, whole_cookies events all.1)
-  where
-    one : (event : Event) → HasWholeCookie event → ComesUpWith IsCookie event
-    one (ComesUp leg cookie) is = is
-    one (Hears leg piece) is = tt
-    one (Ends leg) is = tt
-    one (Breaks leg) is = tt
-    one (Draws leg room) is = tt
-    one (Ticks now) is = tt
-
-have_cookies : (moves : List EndMove) → AllByRecursion (RisesWith IsCookie) moves
-    → HaveCookies moves
-have_cookies [] all = tt
-have_cookies (move ∷ moves) all = (one move all.0, have_cookies moves all.1)
-  where
-    one : (move : EndMove) → RisesWith IsCookie move → HasCookieAtEnd move
-    one (Moves (Up leg cookie)) is = is
-    one (Moves (HeadCame leg text)) is = tt
-    one (Moves (PduCame leg count pdu)) is = tt
-    one (Moves (PacketCame leg count named)) is = tt
-    one (Moves (Puts leg)) is = tt
-    one (Moves (IsDrawn leg)) is = tt
-    one (Moves (Marks leg)) is = tt
-    one (Moves (Pings leg)) is = tt
-    one (Gives pdu) is = tt
-    one Takes is = tt
-    one Closes is = tt
-    one Recycles is = tt
 
 -- ---- a moment of a world
 

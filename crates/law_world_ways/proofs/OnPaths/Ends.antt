@@ -1,24 +1,11 @@
 -- what is told of a leg at a node's end
-use Rattle.std.proofs.Common.{◌≡◌, ℕ, Bool, true, false, List, [], ◌++◌, Some, None, refl, sym, ap, ◌∙◌}
-use Rattle.std.specs.Prelude.{◌&&◌, ◌||◌, not, if◌then◌else◌}
-use Rattle.std.specs.declared.option.Option.{Option}
-use Rattle.std.proofs.lemmas.List.{append-nil}
-use Rattle.rh_sig.specs.declared.name.Pipe.{Pipe}
-use Rattle.rh_http.proofs.Heads.Finds.{some_is}
-use Rattle.rh_line.specs.declared.leg.Leg.{Leg}
-use Rattle.rh_shell.specs.declared.answers.Phase.{Phase}
+use Rattle.law_order.proofs.Vocabulary.{◌≡◌, ℕ, Bool, true, false, List, [], ◌++◌, Some, None, refl, sym, ap, ◌∙◌, ◌&&◌, ◌||◌, not, if◌then◌else◌, Option, append-nil}
 use Rattle.rh_shell.specs.declared.answers.Phase.TheVariants as phase
-use Rattle.rh_shell.specs.declared.course.Course.{Course}
-use Rattle.rh_shell.specs.declared.course.Course.TheVariants.{Going, Closed, Refusing}
-use Rattle.rh_shell.specs.NearEnds.{NearEnd, is_ended, is_marked, is_over}
-use Rattle.rh_shell.specs.Rules.{Rules, Message}
-use Rattle.rh_shell.specs.Shells.{Shell, end_at, is_working, is_working_by, state_by}
-use Rattle.law_moves.specs.Carrying.{spelled}
-use Rattle.law_moves.specs.ReadBack.Reading.{Reading, begin, messages_read, reading, reading_after}
+use Rattle.law_moves.proofs.Vocabulary.{Pipe, some_is, Leg, Phase, Course, Going, Closed, Refusing, NearEnd, is_ended, is_marked, is_over, Rules, Message, Shell, end_at, is_working, is_working_by, state_by, spelled, Reading, begin, messages_read, reading, reading_after}
 use Rattle.law_node_streams.specs.Streams.{IsReadTo, is_live}
+use Rattle.law_world_ways.proofs.OnPaths.Legs.{StandsAt}
 use Rattle.law_world_ways.specs.OnPaths.Forgotten.{IsDrawnOut}
 use Rattle.law_world_ways.specs.OnPaths.OnWay.{left_at, left_by, left_on, read_at, read_by, read_on}
-use Rattle.law_world_ways.proofs.OnPaths.Legs.{StandsAt}
 
 module _ {S : Type 0} (s : Shell S) (leg : Leg) (up : Bool) where
   -- what was put spells what was drawn and is begun

@@ -1,35 +1,20 @@
 -- by streams that grow with the events: all that was put on a leg that is forgotten was drawn
-use Rattle.std.proofs.Common.{◌≡◌, ◌⊎◌, inl, inr, ℕ, List, [], ◌∷◌, ◌++◌, append_assoc, true, false, ◌||◌, Some, None, refl, sym, ap, ◌∙◌, subst}
-use Rattle.std.specs.declared.option.Option.{Option}
-use Rattle.std.proofs.lemmas.List.{append-nil, append_cancel_left}
-use Rattle.std.proofs.lemmas.List.Folds.{list_any-append}
-use mathlib.Core.List.{IsPrefix}
-use Rattle.law_order.proofs.ItemLists.{neither, nil_front}
-use Rattle.rh_sig.specs.declared.name.Pipe.{Pipe}
-use Rattle.rh_line.specs.declared.leg.Leg.{Leg}
-use Rattle.rh_shell.specs.declared.course.Course.TheVariants.{Going}
-use Rattle.rh_shell.specs.declared.rooms.Rooms.{Rooms}
-use Rattle.law_moves.specs.Carrying.{spelled}
-use Rattle.law_moves.specs.Moves.{AreAllowed, AreAllowedAtEnd, EndMove, EndPassage, Move, Passage, all_end_moved, all_moved, end_moved, end_started, moved, started}
-use Rattle.law_moves.specs.Moving.{EndEvent, EndLeads, Event, Leads, after_end_event, after_end_events, after_event, after_events}
-use Rattle.rh_shell.specs.NearEnds.{NearEnd}
-use Rattle.rh_shell.specs.Rules.{Acts, Rules}
-use Rattle.rh_shell.specs.Shells.{Shell, begun, end_at}
-use Rattle.law_moves.specs.Wires.{of_leg}
-use Rattle.law_node_history.specs.Carried.{AreAccepted, AreAcceptedAtEnd, IsAccepted, IsAcceptedAtEnd, came_up, drawn_on, end_drawn_on, happened, is_up_of}
-use Rattle.law_node_history.proofs.Appended.{came_append, drawn_append, end_drawn_append, happened_append}
-use Rattle.law_node_history.proofs.Runs.{end_events_append, events_append}
-use Rattle.law_node_streams.specs.Streams.{EndStream, StaysUnused, StaysUnusedAtEnd, Stream}
+use Rattle.law_order.proofs.Vocabulary.{◌≡◌, ◌⊎◌, inl, inr, ℕ, List, [], ◌∷◌, ◌++◌, append_assoc, true, false, ◌||◌, refl, sym, ap, ◌∙◌, subst, Option, append-nil, append_cancel_left, list_any-append, IsPrefix}
+use Rattle.law_moves.proofs.Vocabulary.{neither, nil_front, Pipe, Leg, Going, Rooms, Acts, Rules, Shell, begun, end_at, spelled, AreAllowed, AreAllowedAtEnd, EndMove, EndPassage, Move, Passage, all_end_moved, all_moved, end_moved, end_started, moved, started, EndEvent, EndLeads, Event, Leads, after_end_event, after_end_events, after_event, after_events, of_leg}
+use Rattle.law_node_history.proofs.Lemmas.{came_append, drawn_append, end_drawn_append, happened_append, end_events_append, events_append}
+use Rattle.law_node_history.proofs.Vocabulary.{AreAccepted, AreAcceptedAtEnd, IsAccepted, IsAcceptedAtEnd, came_up, drawn_on, end_drawn_on, happened, is_up_of}
+use Rattle.law_node_causes.proofs.OnceUp.{AllFollow, AllFollowAtEnd}
+use Rattle.law_node_causes.specs.Once.{ComesUpOnce, KeepsUp}
 use Rattle.law_node_streams.proofs.Streams.EndMoves.{all_end_moved_append}
 use Rattle.law_node_streams.proofs.Streams.Ends.{end_is}
-use Rattle.law_node_streams.proofs.Streams.Ways.{all_moved_append}
+use Rattle.law_node_streams.proofs.Streams.Ways.{all_moved_append, or_false as or_none}
+use Rattle.law_node_streams.specs.Streams.{EndStream, StaysUnused, StaysUnusedAtEnd, Stream}
 use Rattle.law_node_streams.specs.Grown.{EndGrowing, EndGrows, Growing, Grows}
-use Rattle.law_node_causes.specs.Once.{ComesUpOnce, KeepsUp}
-use Rattle.law_node_causes.proofs.OnceUp.{AllFollow, AllFollowAtEnd}
+use Rattle.law_world_order.proofs.Flowing.{no_end as absent}
+use Rattle.law_world_ways.proofs.OnPaths.KeptEnds.{IsLeft, Stands, Unused}
+use Rattle.law_world_ways.proofs.OnPaths.KeptLegs.{Known, is_lost_at, known_after, known_at_end, known_first, left_stays, left_stays_at_end}
 use Rattle.law_world_ways.specs.OnPaths.Forgotten.{DrawsOut, EndDrawsOut}
 use Rattle.law_world_ways.specs.OnPaths.Lost.{is_loss_of, was_lost}
-use Rattle.law_world_ways.proofs.OnPaths.KeptEnds.{IsLeft, Stands, Unused}
-use Rattle.law_world_ways.proofs.OnPaths.KeptLegs.{Known, is_lost_at, known_after, known_at_end, known_first, left_stays, left_stays_at_end, or_none}
 
 -- ---- lists
 
@@ -43,10 +28,6 @@ same_between old now all p q is =
     let none : p.0 ≡ [] =
     nil_front p.0 q.0 (append_cancel_left old (p.0 ++ q.0) [] both) in
     is ∙ sym (append-nil old) ∙ ap (λ (x : List ℕ). old ++ x) (sym none) ∙ p.1
-
--- there is none
-absent : (end : NearEnd) → ◌≡◌ {A = Option NearEnd} None (Some end) → ⊥
-absent end e = absurd (cc)
 
 lost_append : (leg : Leg) (es fs : List Event)
     → was_lost leg (es ++ fs) ≡ (was_lost leg es || was_lost leg fs)

@@ -1,34 +1,22 @@
 -- no leg stops the way where each is in use, or its mark or END passed
-use Rattle.std.proofs.Common.{◌≡◌, ◌⊎◌, inl, inr, true, false, List, Some}
-use Rattle.std.specs.declared.option.Option.{Option}
-use Rattle.rh_text.specs.declared.ends.Dir.{Dir}
-use Rattle.rh_text.specs.declared.ends.Dir.TheVariants.{U, D}
-use Rattle.law_order.specs.Items.{Item}
-use Rattle.law_order.specs.Paths.{reader, stops_at}
-use Rattle.law_order.specs.Routes.{Route}
-use Rattle.rh_sig.specs.declared.name.Pipe.{Pipe}
-use Rattle.rh_sig.specs.declared.name.Pipe.TheVariants.{CiU, IsU, CoD, OsD}
-use Rattle.rh_line.specs.declared.leg.Leg.{Leg}
-use Rattle.rh_shell.specs.Rules.{Rules}
-use Rattle.rh_shell.specs.Shells.{Shell}
+use Rattle.law_order.proofs.Vocabulary.{◌≡◌, ◌⊎◌, inl, inr, true, false, List, Some, Option, Item, reader, stops_at, Route}
 use Rattle.rh_inproxy.specs.Machine as in_proxy
-use Rattle.rh_inproxy.specs.State.{InProxy}
 use Rattle.rh_outproxy.specs.Machine as out_proxy
-use Rattle.rh_outproxy.specs.OutProxy.{OutProxy}
-use Rattle.rh_client.specs.declared.state.ClientRole.{ClientRole}
 use Rattle.rh_client.specs.Client as client
 use Rattle.rh_server.specs.Servers as server
-use Rattle.rh_server.specs.States.{Server}
-use Rattle.rh_nodes.specs.Readers.{reader_of}
-use Rattle.rh_nodes.specs.World.{World}
-use Rattle.law_node_history.specs.Histories.{History}
+use Rattle.law_moves.proofs.Vocabulary.{Dir, U, D, Pipe, CiU, IsU, CoD, OsD, Leg, Rules, Shell}
+use Rattle.law_role_inproxy.proofs.Vocabulary.{InProxy}
+use Rattle.law_role_client.proofs.Vocabulary.{ClientRole}
+use Rattle.law_role_server.proofs.Vocabulary.{Server}
+use Rattle.law_node_history.proofs.Vocabulary.{reader_of, World, History}
+use Rattle.law_role_outproxy.proofs.Vocabulary.{OutProxy}
 use Rattle.law_node_begins.specs.ProxiesBegin.Pipes.{ci, co, is, os}
-use Rattle.law_world_order.specs.Flows.{Numbers}
+use Rattle.law_world_order.proofs.Vocabulary.{Numbers}
+use Rattle.law_world_ways.proofs.OnPaths.Used.{passed_goes, used_goes}
 use Rattle.law_world_ways.specs.OnPaths.Laws.{NoneStops}
 use Rattle.law_world_ways.specs.OnPaths.Legs.{IsInUse, has_passed, on_leg}
 use Rattle.law_world_ways.specs.OnPaths.OnWay.{is_lost}
 use Rattle.law_world_ways.specs.OnPaths.Ways.{AreInUseDown, AreInUseUp, client_node, down_lost, in_node, out_node, server_node, up_lost}
-use Rattle.law_world_ways.proofs.OnPaths.Used.{passed_goes, used_goes}
 
 goes_on : {K C S I O P T : Type 0} (v : World K C S I O) (h : History) (leg : Leg) (dir : Dir)
     (pipe : Option Pipe) (puts : Shell P) (rules : Rules T) (takes : Shell T) (came : List Item)

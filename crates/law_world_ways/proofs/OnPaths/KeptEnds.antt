@@ -1,46 +1,17 @@
 -- a leg that a node keeps is kept behind an event that does not tell of its loss, or it was
 -- finished
-use Rattle.std.proofs.Common.{◌≡◌, ◌⊎◌, inl, inr, ℕ, zero, suc, ◌+◌, List, [], ◌∷◌, ◌++◌, length, take, drop, cond, Bool, true, false, nat_lt, Some, None, arith, refl, sym, ap, ◌∙◌, subst}
-use Rattle.std.specs.Prelude.{◌&&◌, ◌||◌, not, nat_le, slice_get, slice_set}
-use Rattle.std.specs.declared.option.Option.{Option}
-use Rattle.std.proofs.lemmas.Bool.{and_parts, true≢false}
-use Rattle.rh_rts.specs.declared.command.Cookie.{Cookie}
-use Rattle.rh_http.specs.declared.refusal.Refusal.{Refusal}
-use Rattle.rh_http.specs.declared.refusal.Refusal.TheVariants.{Unavailable}
-use Rattle.rh_line.specs.declared.cause.Cause.{Cause}
+use Rattle.law_order.proofs.Vocabulary.{◌≡◌, ◌⊎◌, inl, inr, ℕ, zero, suc, ◌+◌, List, [], ◌∷◌, ◌++◌, length, take, drop, cond, Bool, true, false, nat_lt, Some, None, refl, sym, ap, ◌∙◌, subst, ◌&&◌, ◌||◌, not, nat_le, slice_get, slice_set, Option, and_parts, true≢false}
 use Rattle.rh_line.specs.declared.cause.Cause.TheVariants as cause
-use Rattle.rh_line.specs.declared.leg.Leg.{Leg}
-use Rattle.rh_shell.specs.declared.course.Course.{Course}
-use Rattle.rh_shell.specs.declared.course.Course.TheVariants.{Going, Closed, Refusing}
-use Rattle.rh_shell.specs.declared.stop.Stop.{Stop}
-use Rattle.rh_shell.specs.Drawing.{Drawn, draw}
-use Rattle.rh_shell.specs.Hearing.{Turn, goes, hear}
-use Rattle.rh_shell.specs.NearEnds.{NearEnd, is_empty, is_ended, is_finished, is_marked, is_useless, marked, new_end}
-use Rattle.rh_shell.specs.Rules.{Rules}
-use Rattle.rh_shell.specs.Shells.{Shell, bytes_at, bytes_by, broken_at, broken_by, close, drawn_at, drawn_by, end_at, ended_at, ended_by, first_silent, first_where, free_place, is_free, is_heard, is_of, is_working, lose, lost, may_up, passed, passed_by, place, put_back, refuse, same_leg, seated_at, stop_by, stopped, unreached, unreached_by, wants, with_end, with_leg}
-use Rattle.law_moves.specs.Moves.{is_in_use, started}
-use Rattle.law_moves.specs.Moving.{AreHeld, Event, ComesUp, Hears, Ends, Breaks, Draws, Ticks, IsHeld, after_event}
+use Rattle.rh_shell.specs.NearEnds.{is_empty}
+use Rattle.law_moves.proofs.Vocabulary.{Cookie, Refusal, Unavailable, Cause, Leg, Course, Going, Closed, Refusing, Stop, Drawn, draw, Turn, goes, hear, NearEnd, is_ended, is_finished, is_marked, is_useless, marked, new_end, Rules, Shell, bytes_at, bytes_by, broken_at, broken_by, close, drawn_at, drawn_by, end_at, ended_at, ended_by, first_silent, free_place, is_free, is_heard, is_of, is_working, lose, lost, may_up, passed, passed_by, place, put_back, refuse, same_leg}
+use Rattle.law_moves.proofs.Vocabulary.{seated_at, stop_by, stopped, unreached, unreached_by, wants, with_end, with_leg, is_in_use, started, AreHeld, Event, ComesUp, Hears, Ends, Breaks, Draws, Ticks, IsHeld, after_event}
+use Rattle.law_moves.proofs.Lemmas.{here_is as found_passes, empty_is as none_begun, leg_is}
 use Rattle.law_node_streams.proofs.Streams.Draws.{draw_drew}
-use Rattle.law_node_streams.proofs.Streams.Ends.{end_has, end_is, end_leg, end_of, leg_is, set_beside, set_here}
+use Rattle.law_node_streams.proofs.Streams.Ends.{end_has, end_is, end_leg, end_of, set_beside, set_here}
 use Rattle.law_node_streams.proofs.Streams.Pieces.{piece_heard}
 use Rattle.law_world_ways.specs.OnPaths.Lost.{is_loss_of}
 
 -- ---- an end among others
-
--- the one at the first place that passes a test passes it
-found_passes : (test : NearEnd → Bool) (ends : List NearEnd) (end : NearEnd)
-    → slice_get ends (first_where test ends) ≡ Some end → test end ≡ true
-unfolding first_where
-found_passes test [] end at = absurd cc
-found_passes test (x ∷ xs) end at =
-    elim (test x) as (λ t. test x ≡ t
-    → slice_get (x ∷ xs) (cond t 0 (1 + first_where test xs)) ≡ Some end → test end ≡ true) [
-      | true ↦ λ e. λ a. let is : x ≡ end = cc in ap test (sym is) ∙ e
-      | false ↦ λ e. λ a.
-          found_passes test xs end
-          (ap (slice_get (x ∷ xs)) {x = suc (first_where test xs)}
-          {y = 1 + first_where test xs} (omega arith) ∙ a)
-    ] refl at
 
 -- an end of another leg takes a place: the first end of the leg stays, or stood there
 set_forgets : (leg : Leg) (ends : List NearEnd) (i : ℕ) (new end : NearEnd)
@@ -94,10 +65,6 @@ finished_if true useless empty m e = absurd cc
 finished_if false true true m e = (refl, refl)
 finished_if false true false m e = absurd cc
 finished_if false false empty m e = absurd cc
-
-none_begun : (begun : List ℕ) → is_empty begun ≡ true → begun ≡ []
-none_begun [] e = refl
-none_begun (b ∷ bs) e = absurd cc
 
 not_used : (done ended : Bool) → (done || ended) ≡ true → (not ended && not done) ≡ false
 not_used true true e = refl

@@ -1,47 +1,24 @@
 -- what is known of a leg at a node, event by event: it stands, or it was left by its role
-use Rattle.std.proofs.Common.{◌≡◌, ◌⊎◌, inl, inr, ℕ, zero, suc, ◌<◌, List, [], ◌∷◌, ◌++◌, length, cond, Bool, true, false, ◌||◌, nat_lt, Some, None, Ok, Err, arith, refl, sym, ap, ◌∙◌, subst}
-use Rattle.std.specs.Prelude.{◌&&◌, slice_set}
-use Rattle.std.specs.declared.option.Option.{Option}
-use Rattle.std.proofs.lemmas.Bool.{and_parts, true≢false}
-use Rattle.std.proofs.lemmas.Bool.Decides.{nat_tests}
-use Rattle.law_order.proofs.ItemLists.{neither}
-use Rattle.rh_rts.specs.declared.command.Cookie.{Cookie}
-use Rattle.rh_line.specs.declared.cause.Cause.{Cause}
-use Rattle.rh_line.specs.declared.leg.Leg.{Leg}
-use Rattle.rh_line.specs.declared.state.State.{State}
+use Rattle.law_order.proofs.Vocabulary.{◌≡◌, ◌⊎◌, inl, inr, ℕ, zero, suc, ◌<◌, List, [], ◌∷◌, ◌++◌, length, cond, Bool, true, false, ◌||◌, nat_lt, Some, None, Ok, Err, arith, refl, sym, ap, ◌∙◌, subst, ◌&&◌, slice_set, Option, and_parts, true≢false, nat_tests}
 use Rattle.rh_line.specs.declared.state.State.TheVariants as state
-use Rattle.rh_shell.specs.declared.course.Course.TheVariants.{Going}
-use Rattle.rh_shell.specs.declared.rooms.Rooms.{Rooms}
-use Rattle.rh_shell.specs.Ends.{cause_of, close_where, give_where, recycle_where, take_where}
-use Rattle.rh_shell.specs.NearEnds.{NearEnd, new_end}
-use Rattle.rh_shell.specs.Rules.{Acts, Message, Packet, Pdu, Row, Rules}
-use Rattle.rh_shell.specs.Shells.{Shell, begun, free_place, has_room, is_working, may_up, place, same_leg, seated_at, state_of, with_leg}
-use Rattle.law_moves.specs.Moves.{Move, Up, HeadCame, PduCame, PacketCame, Puts, IsDrawn, Marks, Pings, Passage, EndMove, EndPassage, Moves, Gives, Takes, Closes, Recycles, AreAllowedAtEnd, MayEndMove, MayMove, all_end_moved, end_moved, end_started, is_in_use, moved, put_by, started, taken_by}
-use Rattle.law_moves.specs.Moving.{AreHeld, EndEvent, EndLeads, Event, ComesUp, Hears, Ends, Breaks, Draws, Ticks, Happens, IsClosed, IsGiven, IsRecycled, IsTaken, Leads, after_end_event, after_event}
-use Rattle.law_moves.specs.Wires.{of_leg}
-use Rattle.law_moves.proofs.Leading.{leads_keep, leads_one, leads_then}
-use Rattle.law_node_history.specs.Carried.{IsAccepted, IsAcceptedAtEnd, came_up, happened, is_up_of}
-use Rattle.law_node_history.proofs.Wired.{same_itself}
-use Rattle.law_node_causes.specs.Once.{AreUpOnce, ComesUpOnce, KeepsUp}
+use Rattle.law_moves.proofs.Vocabulary.{neither, Cookie, Cause, Leg, State, Going, Rooms, cause_of, close_where, give_where, recycle_where, take_where, NearEnd, new_end, Acts, Message, Packet, Pdu, Row, Rules, Shell, begun, free_place, has_room, is_working, may_up, place, same_leg, seated_at, state_of, with_leg, Move, Up, HeadCame, PduCame, PacketCame, Puts, IsDrawn, Marks, Pings, Passage, EndMove, EndPassage, Moves, Gives, Takes, Closes, Recycles, AreAllowedAtEnd, MayEndMove}
+use Rattle.law_moves.proofs.Vocabulary.{MayMove, all_end_moved, end_moved, end_started, is_in_use, moved, put_by, started, taken_by, AreHeld, EndEvent, EndLeads, Event, ComesUp, Hears, Ends, Breaks, Draws, Ticks, Happens, IsClosed, IsGiven, IsRecycled, IsTaken, Leads, after_end_event, after_event, of_leg}
+use Rattle.law_moves.proofs.Lemmas.{leads_keep, leads_one, leads_then, leg_is}
+use Rattle.law_node_history.proofs.Lemmas.{same_itself}
+use Rattle.law_node_history.proofs.Vocabulary.{IsAccepted, IsAcceptedAtEnd, came_up, happened, is_up_of}
 use Rattle.law_node_causes.proofs.LegChanges.{closed_legs, given_legs, recycled_legs, taken_legs}
 use Rattle.law_node_causes.proofs.OnceUp.{AllFollow, AllFollowAtEnd, Goes, comes_up, first_held, first_once, run_once, run_once_at_end}
-use Rattle.law_node_streams.specs.Streams.{StaysUnused, StaysUnusedAtEnd, is_end_up_on, is_up_on}
+use Rattle.law_node_causes.specs.Once.{AreUpOnce, ComesUpOnce, KeepsUp}
 use Rattle.law_node_streams.proofs.Streams.EndMoves.{did_close, did_give, did_recycle, did_take, leads_one as end_leads_one}
-use Rattle.law_node_streams.proofs.Streams.Ends.{end_is, end_leg, end_of, leg_is}
+use Rattle.law_node_streams.proofs.Streams.Ends.{end_is, end_leg, end_of, none_in}
 use Rattle.law_node_streams.proofs.Streams.Turns.{more_there}
-use Rattle.law_world_ways.specs.OnPaths.Lost.{is_loss_of, was_lost}
+use Rattle.law_node_streams.proofs.Streams.Ways.{or_false as or_none}
+use Rattle.law_node_streams.specs.Streams.{StaysUnused, StaysUnusedAtEnd, is_end_up_on, is_up_on}
 use Rattle.law_world_ways.proofs.OnPaths.KeptEnds.{Behind, IsAnother, IsLeft, Stands, Unused, behind}
+use Rattle.law_world_ways.proofs.ExactWays.CameUp.{or_left}
+use Rattle.law_world_ways.specs.OnPaths.Lost.{is_loss_of, was_lost}
 
 -- ---- an end is put for a leg that has none
-
-none_in : (leg : Leg) (x : NearEnd) (xs : List NearEnd) → end_of leg (x ∷ xs) ≡ None
-    → (same_leg x.leg leg ≡ false) × (end_of leg xs ≡ None)
-none_in leg x xs none = by (same_leg x.leg leg) none
-  where
-    by : (t : Bool) → cond t (Some x) (end_of leg xs) ≡ None
-        → (t ≡ false) × (end_of leg xs ≡ None)
-    by true n = absurd cc
-    by false n = (refl, n)
 
 set_new : (ends : List NearEnd) (i : ℕ) (new : NearEnd) → end_of new.leg ends ≡ None
     → i < length ends → end_of new.leg (slice_set ends i new) ≡ Some new
@@ -68,19 +45,6 @@ seat_new ends i new none = by (nat_lt i (length ends)) refl
         → end_of new.leg (cond t (slice_set ends i new) (ends ++ new ∷ [])) ≡ Some new
     by true e = set_new ends i new none (grind (arith, nat_tests))
     by false e = push_new ends new none
-
-pub or_none : (a : Bool) → (a || false) ≡ a
-or_none true = refl
-or_none false = refl
-
-pub or_more : (a b c : Bool) → ((a || b) || c) ≡ (a || (b || c))
-or_more true b c = refl
-or_more false b c = refl
-
-or_left : (a b : Bool) → b ≡ false → (a || b) ≡ true → a ≡ true
-or_left true b e f = refl
-or_left false true e f = absurd cc
-or_left false false e f = absurd cc
 
 -- the leg comes up by an event of an end, or is lost by it
 abbrev pub comes_at : Leg → EndEvent → Bool

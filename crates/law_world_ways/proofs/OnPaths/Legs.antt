@@ -1,17 +1,7 @@
 -- what was put on a leg is what came and what stands on it
-use Rattle.std.proofs.Common.{◌≡◌, ℕ, Bool, true, false, List, ◌++◌, append_assoc, Some, None, refl, sym, ap, ◌∙◌, subst}
-use Rattle.std.specs.List.{AllByRecursion}
-use Rattle.std.specs.declared.option.Option.{Option}
-use Rattle.law_order.specs.Items.{Item}
-use Rattle.law_order.specs.Logs.{seen}
-use Rattle.law_order.proofs.ByNumber.{seen-append}
-use Rattle.rh_sig.specs.declared.name.Pipe.{Pipe}
-use Rattle.rh_http.proofs.Heads.Finds.{some_is}
-use Rattle.rh_shell.specs.Rules.{Message}
-use Rattle.law_moves.specs.Carrying.{spelled}
-use Rattle.law_moves.specs.Legible.Legible.{ReadsBack}
-use Rattle.law_moves.specs.ReadBack.Reading.{Begins, Reading, all_read_of, begin, messages_from, messages_read, read_of, reading_after}
-use Rattle.law_moves.proofs.ReadBack.Seen.{seen_read}
+use Rattle.law_order.proofs.Vocabulary.{◌≡◌, ℕ, Bool, true, false, List, ◌++◌, append_assoc, Some, None, refl, sym, ap, ◌∙◌, subst, AllByRecursion, Option, Item, seen}
+use Rattle.law_moves.proofs.Vocabulary.{seen-append, Pipe, some_is, Message, spelled, ReadsBack, Begins, Reading, all_read_of, begin, messages_from, messages_read, read_of, reading_after}
+use Rattle.law_moves.proofs.Lemmas.{seen_read}
 use Rattle.law_world_ways.specs.OnPaths.OnWay.{is_lost, items_on_way, on_way}
 
 -- ---- the law that this stands on

@@ -1,18 +1,10 @@
 -- what is on its way in a direction on whose legs nothing was lost
-use Rattle.std.proofs.Common.{◌≡◌, ◌<◌, ◌≤◌, ℕ, zero, suc, Bool, true, false, nat_lt, not, ◌||◌, if◌then◌else◌, List, [], ◌++◌, arith, refl, sym, ap, ◌∙◌, subst}
-use Rattle.std.proofs.lemmas.Bool.Decides.{nat_tests}
-use Rattle.std.proofs.lemmas.List.{append-nil, append_cancel_left}
-use mathlib.Core.List.{IsPrefix}
-use Rattle.law_order.specs.Items.{IsChannel, Item, has_end, has_handover, pdus}
-use Rattle.law_order.specs.Logs.{below}
-use Rattle.law_order.specs.Paths.{Arrives, IsWhole, Losses, OnLegs, held_of, part, path, reader, stops_at}
-use Rattle.law_order.specs.Routes.{IsRoute, Route}
-use Rattle.law_order.proofs.ItemLists.{ended_whole, handed_whole, nil_back, nil_front}
-use Rattle.law_order.proofs.OnTheWay.{part_past, reader_at}
+use Rattle.law_order.proofs.Vocabulary.{◌≡◌, ◌<◌, ◌≤◌, ℕ, zero, suc, Bool, true, false, nat_lt, not, ◌||◌, if◌then◌else◌, List, [], ◌++◌, arith, refl, sym, ap, ◌∙◌, subst, nat_tests, append-nil, append_cancel_left, IsPrefix, IsChannel, Item, has_end, has_handover, pdus, below, Arrives, IsWhole, Losses, OnLegs, held_of, part, path, reader, stops_at, IsRoute, Route}
+use Rattle.law_moves.proofs.Vocabulary.{ended_whole, handed_whole, nil_back, nil_front, part_past, reader_at}
 use Rattle.law_world_ways.specs.OnPaths.Laws.{NoneStops}
 
 -- what was put on a channel and did not come has the PDUs that stand there, unless the way stops
-same_pdus : (put came rest on : List Item) (lost : Bool) → put ≡ came ++ rest → IsChannel put
+pub same_pdus : (put came rest on : List Item) (lost : Bool) → put ≡ came ++ rest → IsChannel put
     → (lost ≡ false → put ≡ came ++ on) → (lost ≡ true → on ≡ [])
     → stops_at lost came ≡ false → pdus rest ≡ pdus on
 same_pdus put came rest on false is channel arrives none goes =
@@ -27,7 +19,7 @@ same_pdus put came rest on true is channel arrives none goes =
     passed false e false f goes = absurd (cc)
 
 -- where no PDU is left, none stands there
-same_none : (put came rest on : List Item) (lost : Bool) → put ≡ came ++ rest
+pub same_none : (put came rest on : List Item) (lost : Bool) → put ≡ came ++ rest
     → (lost ≡ false → put ≡ came ++ on) → (lost ≡ true → on ≡ []) → pdus rest ≡ []
     → pdus rest ≡ pdus on
 same_none put came rest on false is arrives none nothing =

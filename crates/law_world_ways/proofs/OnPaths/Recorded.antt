@@ -1,18 +1,12 @@
 -- what is on its way in each world that a recording comes to
-use Rattle.std.proofs.Common.{◌≡◌, List}
-use Rattle.rh_record.specs.declared.line.Line.{Line}
-use Rattle.law_node_history.specs.Changes.{Leads}
-use Rattle.rh_world.specs.declared.any_world.AnyWorld.{AnyWorld}
-use Rattle.rh_world.specs.declared.any_world.AnyWorld.TheVariants.{Before, Direct, Settings, Roles}
-use Rattle.rh_world.specs.declared.config.WorldConfig.{WorldConfig}
-use Rattle.rh_world.specs.Any.{after}
-use Rattle.rh_world.specs.Config.{AreInRange}
+use Rattle.law_order.proofs.Vocabulary.{◌≡◌, List}
+use Rattle.law_node_history.proofs.Vocabulary.{Line, Leads}
 use Rattle.rh_world.specs.Roles as roles
 use Rattle.law_node_traces.proofs.Traced.ByChanges.{lines_by_changes}
+use Rattle.law_world_reports.proofs.Vocabulary.{AnyWorld, Before, Direct, Settings, Roles, WorldConfig, after, AreInRange}
 use Rattle.law_world_reports.proofs.Bounded.Reached.{IsReached, IsRecorded, behind_lines}
-use Rattle.law_world_order.specs.Directions.{BothMark}
-use Rattle.law_world_order.specs.Flows.{numbers_of}
 use Rattle.law_world_order.proofs.Recorded.{ours}
+use Rattle.law_world_order.proofs.Vocabulary.{BothMark, numbers_of}
 use Rattle.law_world_ways.specs.OnPaths.Recordings.{IsBehind, KeepsWays, RolesKeepWays, history_behind}
 use Rattle.law_world_ways.specs.OnPaths.Ways.{AreOnTheirWay}
 

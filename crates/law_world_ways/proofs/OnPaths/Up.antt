@@ -1,54 +1,35 @@
 -- what stands on the legs upwards
-use Rattle.std.proofs.Common.{◌≡◌, ◌≢◌, ◌⊎◌, inl, inr, ℕ, Bool, true, false, List, [], ◌++◌, Some, refl, sym, ap, ◌∙◌}
-use Rattle.std.proofs.lemmas.Bool.{cases_eq}
-use Rattle.rh_text.specs.declared.ends.Dir.TheVariants.{U}
-use Rattle.law_order.specs.Items.{Item}
-use Rattle.law_order.specs.Logs.{seen}
-use Rattle.law_order.specs.Paths.{Arrives, reader}
-use Rattle.law_order.specs.Routes.{IsRoute, Route}
-use Rattle.law_order.proofs.ItemLists.{nil_front}
-use Rattle.rh_sig.specs.declared.name.Pipe.TheVariants.{CiU, IsU}
+use Rattle.law_order.proofs.Vocabulary.{◌≡◌, ◌≢◌, ◌⊎◌, inl, inr, ℕ, Bool, true, false, List, [], ◌++◌, Some, refl, sym, ap, ◌∙◌, cases_eq, Item, seen, Arrives, reader, IsRoute, Route}
 use Rattle.rh_record.specs.declared.answer.Who.TheVariants as who
-use Rattle.rh_shell.specs.Shells.{Shell}
 use Rattle.rh_inproxy.specs.Machine as in_proxy
 use Rattle.rh_inproxy.specs.State as in_state
-use Rattle.rh_inproxy.specs.State.{InProxy}
-use Rattle.rh_outproxy.specs.OutProxy.{OutProxy}
-use Rattle.rh_client.specs.declared.state.ClientRole.{ClientRole}
 use Rattle.rh_client.specs.Client as client
 use Rattle.rh_client.specs.State as client_state
 use Rattle.rh_server.specs.Servers as server
-use Rattle.rh_server.specs.States.{Server}
-use Rattle.rh_nodes.specs.Company.{Company}
-use Rattle.rh_nodes.specs.Opening.{Makers}
-use Rattle.rh_nodes.specs.Readers.{reader_of}
-use Rattle.rh_nodes.specs.World.{World}
-use Rattle.law_moves.specs.Wires.{of_leg}
-use Rattle.law_moves.specs.ReadBack.Reading.{messages_read}
+use Rattle.law_moves.proofs.Vocabulary.{U, nil_front, CiU, IsU, Shell, of_leg, messages_read}
+use Rattle.law_role_inproxy.proofs.Vocabulary.{InProxy, item_came, item_put, put_items}
 use Rattle.law_role_inproxy.specs.Legible as proxy_legible
-use Rattle.law_role_inproxy.specs.Order.{item_came, item_put, put_items}
+use Rattle.law_role_client.proofs.Vocabulary.{ClientRole, up_items}
 use Rattle.law_role_client.specs.Legible as client_legible
-use Rattle.law_role_client.specs.Order.{up_items}
-use Rattle.law_role_server.specs.Order.{got, in_items}
-use Rattle.law_node_history.specs.Carried.{AreCarried, AreHeard, came_up, drawn_on, end_drawn_on, heard_on, ledger}
-use Rattle.law_node_history.specs.Histories.{History, IsRun, in_place}
+use Rattle.law_role_server.proofs.Vocabulary.{Server, got, in_items}
+use Rattle.law_node_history.proofs.Vocabulary.{reader_of, Company, Makers, World, AreCarried, AreHeard, came_up, drawn_on, end_drawn_on, heard_on, ledger, History, IsRun, in_place}
+use Rattle.law_role_outproxy.proofs.Vocabulary.{OutProxy}
 use Rattle.law_node_streams.proofs.Streams.LegLogs.{leg_reads_back}
 use Rattle.law_node_begins.specs.EndsBegin.{client_reads}
 use Rattle.law_node_begins.specs.ProxiesBegin.Pipes.{ci, in_pipe, is}
-use Rattle.law_node_traces.specs.Traced.Numbers.{AreRead, is_made}
-use Rattle.law_node_traces.specs.Traced.Ours.{AreOurs, deeds, rules}
-use Rattle.law_peers_routes.specs.Upwards.{GoesUp, has_leg, up_route}
+use Rattle.law_node_traces.proofs.Vocabulary.{AreRead, is_made, AreOurs, deeds, rules}
 use Rattle.law_peers_routes.proofs.Upwards.JoinedLegs.{client_put, in_views, proxy_came, proxy_put, server_came, up_views}
 use Rattle.law_peers_routes.proofs.Upwards.Laws.{AreBegun}
-use Rattle.law_world_order.specs.Flows.{Numbers, numbers_of}
-use Rattle.law_world_ways.specs.OnPaths.Forgotten.{DrawsOut, EndDrawsOut}
-use Rattle.law_world_ways.specs.OnPaths.OnWay.{is_lost, items_on_way}
-use Rattle.law_world_ways.specs.OnPaths.Ways.{client_node, in_node, server_node, up_far, up_lost, up_near, up_on}
+use Rattle.law_peers_routes.specs.Upwards.{GoesUp, has_leg, up_route}
+use Rattle.law_world_order.proofs.Vocabulary.{Numbers, numbers_of}
 use Rattle.law_world_ways.proofs.OnPaths.ReadBy.{read_by}
 use Rattle.law_world_ways.proofs.OnPaths.AtEnds.{end_puts, end_takes, proxy_front, proxy_puts, proxy_takes}
 use Rattle.law_world_ways.proofs.OnPaths.Carriages.{arrives, fed_none}
 use Rattle.law_world_ways.proofs.OnPaths.Legs.{AllRead}
 use Rattle.law_world_ways.proofs.OnPaths.OnPath.{where_leg}
+use Rattle.law_world_ways.specs.OnPaths.Forgotten.{DrawsOut, EndDrawsOut}
+use Rattle.law_world_ways.specs.OnPaths.OnWay.{is_lost, items_on_way}
+use Rattle.law_world_ways.specs.OnPaths.Ways.{client_node, in_node, server_node, up_far, up_lost, up_near, up_on}
 
 module _ {K : Type 0} (law : AllRead) (m : Makers K InProxy OutProxy)
     (first : Company ClientRole Server InProxy OutProxy) (cast : K)

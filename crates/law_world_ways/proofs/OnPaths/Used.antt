@@ -1,22 +1,9 @@
 -- a leg that is in use at both its ends
-use Rattle.std.proofs.Common.{◌≡◌, ap, ℕ, Bool, true, false, List, ◌++◌, Some, None, refl}
-use Rattle.std.specs.Prelude.{◌&&◌, ◌||◌, not}
-use Rattle.std.specs.declared.option.Option.{Option}
-use Rattle.rh_text.specs.declared.ends.Dir.{Dir}
-use Rattle.law_order.specs.Items.{Item}
-use Rattle.law_order.specs.Paths.{stops_at}
-use Rattle.rh_sig.specs.declared.name.Pipe.{Pipe}
-use Rattle.rh_line.specs.declared.leg.Leg.{Leg}
-use Rattle.rh_shell.specs.declared.course.Course.{Course}
-use Rattle.rh_shell.specs.declared.course.Course.TheVariants.{Going, Closed, Refusing}
-use Rattle.rh_shell.specs.NearEnds.{NearEnd, is_empty, is_over}
-use Rattle.rh_shell.specs.Rules.{Message, Rules}
-use Rattle.rh_shell.specs.Shells.{Shell, end_at, is_going}
-use Rattle.rh_nodes.specs.Wires.{in_flight, is_up, receiver, sender}
-use Rattle.rh_nodes.specs.World.{World}
-use Rattle.law_moves.specs.ReadBack.Reading.{Reading, messages_from, reading}
-use Rattle.law_node_history.specs.Carried.{wire_at}
-use Rattle.law_node_history.specs.Histories.{History}
+use Rattle.law_order.proofs.Vocabulary.{◌≡◌, ap, ℕ, Bool, true, false, List, ◌++◌, Some, None, refl, ◌&&◌, ◌||◌, not, Option, Item, stops_at}
+use Rattle.rh_shell.specs.NearEnds.{is_empty}
+use Rattle.rh_wires.specs.Wires.{is_up}
+use Rattle.law_moves.proofs.Vocabulary.{Dir, Pipe, Leg, Course, Going, Closed, Refusing, NearEnd, is_over, Message, Rules, Shell, end_at, is_going, Reading, messages_from, reading}
+use Rattle.law_node_history.proofs.Vocabulary.{in_flight, receiver, sender, World, wire_at, History}
 use Rattle.law_node_streams.specs.Streams.{is_live}
 use Rattle.law_world_ways.specs.OnPaths.Legs.{IsInUse, has_passed, is_cut, on_leg, was_told, was_up}
 use Rattle.law_world_ways.specs.OnPaths.OnWay.{is_lost, left_on, on_way, read_by, read_on}

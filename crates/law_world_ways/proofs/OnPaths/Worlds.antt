@@ -1,54 +1,30 @@
 -- what is on its way at a moment of a world of roles
-use Rattle.std.proofs.Common.{◌≡◌, ℕ, Bool, true, false, if◌then◌else◌, List, [], ◌++◌, Some, None, refl, ap, ◌∙◌, subst}
-use Rattle.std.specs.declared.option.Option.{Option}
-use mathlib.Core.List.{IsPrefix}
-use Rattle.law_order.specs.Items.{IsChannel, Item}
-use Rattle.law_order.specs.Paths.{Arrives, IsWhole, Losses, OnLegs, path, reach}
-use Rattle.law_order.specs.Routes.{IsRoute, Route}
-use Rattle.rh_shell.specs.declared.course.Course.{Course}
-use Rattle.law_moves.specs.Moving.{after_end_events}
-use Rattle.rh_shell.specs.Rules.{Message}
-use Rattle.rh_shell.specs.Shells.{Shell, begun}
-use Rattle.rh_client.specs.declared.state.ClientRole.{ClientRole}
-use Rattle.rh_client.specs.Client as client
-use Rattle.law_role_client.specs.Order.{down_items, has_leg}
+use Rattle.law_order.proofs.Vocabulary.{◌≡◌, ℕ, Bool, true, false, if◌then◌else◌, List, [], ◌++◌, Some, None, refl, ap, ◌∙◌, subst, Option, IsPrefix, IsChannel, Item, Arrives, IsWhole, Losses, OnLegs, path, reach, IsRoute, Route}
 use Rattle.rh_inproxy.specs.Machine as in_proxy
-use Rattle.law_role_inproxy.specs.Order.{item_came}
-use Rattle.rh_inproxy.specs.State.{InProxy}
-use Rattle.rh_outproxy.specs.declared.out_proxy.TheConstants.{ROOMS}
 use Rattle.rh_outproxy.specs.Machine as out_proxy
-use Rattle.law_role_outproxy.specs.Order.{from_server}
-use Rattle.rh_outproxy.specs.OutProxy.{OutProxy, new_proxy}
-use Rattle.law_role_server.specs.Order.{in_items}
+use Rattle.rh_client.specs.Client as client
 use Rattle.rh_server.specs.Servers as server
-use Rattle.rh_server.specs.States.{Server}
-use Rattle.rh_nodes.specs.Opening.{Makers}
-use Rattle.rh_nodes.specs.Readers.{reader_of}
-use Rattle.rh_nodes.specs.World.{World}
-use Rattle.law_node_history.specs.Carried.{AreCarried, IsTraced, ledger}
-use Rattle.law_node_history.specs.Changes.{Leads}
-use Rattle.law_node_traces.specs.Traced.Cookies.{ByChanges}
-use Rattle.law_node_history.specs.Histories.{History, IsNew, IsRun, in_place, out_place}
-use Rattle.law_node_history.proofs.Leading.{cast_kept}
-use Rattle.law_node_traces.specs.Traced.Numbers.{is_made}
-use Rattle.law_node_traces.specs.Traced.Ours.{AreOurs, deeds, rules}
-use Rattle.law_node_traces.specs.Traced.Recordings.{IsKnown, history_at}
-use Rattle.law_peers_routes.specs.Upwards as goes_up
+use Rattle.law_moves.proofs.Vocabulary.{Course, Message, Shell, begun, after_end_events}
+use Rattle.law_role_inproxy.proofs.Vocabulary.{InProxy, item_came}
+use Rattle.law_role_client.proofs.Vocabulary.{ClientRole, down_items, has_leg}
+use Rattle.law_role_server.proofs.Vocabulary.{Server, in_items}
+use Rattle.law_node_history.proofs.Vocabulary.{reader_of, Makers, World, AreCarried, IsTraced, ledger, Leads, History, IsNew, IsRun, in_place, out_place}
+use Rattle.law_node_history.proofs.Lemmas.{cast_kept}
+use Rattle.law_role_outproxy.proofs.Vocabulary.{ROOMS, OutProxy, new_proxy, from_server}
+use Rattle.law_node_traces.proofs.Vocabulary.{ByChanges, is_made, AreOurs, deeds, rules, IsKnown, history_at}
 use Rattle.law_peers_routes.proofs.Upwards.Laws.{BeginLaws, are_begun}
-use Rattle.law_world_order.specs.Directions.{Directions, down_route_of, up_route_of}
-use Rattle.law_world_order.specs.Flows.{Numbers, numbers_of}
+use Rattle.law_peers_routes.specs.Upwards as goes_up
 use Rattle.law_world_order.proofs.Marked.{RouteLaws, down_is_route, up_is_route}
-use Rattle.law_world_ways.specs.OnPaths.Forgotten.{DrawnDirections}
-use Rattle.law_world_ways.specs.OnPaths.OnWay.{is_lost, items_on_way}
-use Rattle.law_world_ways.specs.OnPaths.Laws.{IsOnItsWay}
-use Rattle.law_world_ways.specs.OnPaths.Ways.{AreNodes, AreOnTheirWay, down_far, down_lost, down_near, down_on, in_node, losses, on_legs, out_node, up_far, up_lost, up_near, up_on}
+use Rattle.law_world_order.proofs.Moments.{OurWorld}
+use Rattle.law_world_order.proofs.Vocabulary.{Directions, down_route_of, up_route_of, Numbers, numbers_of}
 use Rattle.law_world_ways.proofs.OnPaths.Down.{down_arrives}
 use Rattle.law_world_ways.proofs.OnPaths.Legs.{AllRead}
 use Rattle.law_world_ways.proofs.OnPaths.OnPath.{all_on_path}
 use Rattle.law_world_ways.proofs.OnPaths.Up.{up_arrives}
-
-abbrev OurWorld : Type 0 → Type 0
-OurWorld K = World K ClientRole Server InProxy OutProxy
+use Rattle.law_world_ways.specs.OnPaths.Forgotten.{DrawnDirections}
+use Rattle.law_world_ways.specs.OnPaths.OnWay.{is_lost, items_on_way}
+use Rattle.law_world_ways.specs.OnPaths.Laws.{IsOnItsWay}
+use Rattle.law_world_ways.specs.OnPaths.Ways.{AreNodes, AreOnTheirWay, down_far, down_lost, down_near, down_on, in_node, losses, on_legs, out_node, up_far, up_lost, up_near, up_on}
 
 -- ---- the laws that this stands on
 

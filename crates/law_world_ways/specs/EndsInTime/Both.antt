@@ -2,7 +2,7 @@
 use Rattle.std.specs.Prelude.{◌≡◌}
 use Rattle.rh_text.specs.declared.ends.Side.TheVariants.{Client, Server}
 use Rattle.rh_line.specs.declared.leg.Leg.{Leg}
-use Rattle.rh_nodes.specs.Legs as legs
+use Rattle.rh_wires.specs.Legs as legs
 use Rattle.rh_nodes.specs.World.{World}
 
 -- each leg is up for both of its ends, or for neither

@@ -3,13 +3,13 @@ use Rattle.std.specs.Prelude.{◌≡◌, ◌++◌, IfSome, List, ◌∷◌, Some
 use Rattle.std.specs.declared.option.Option.{Option}
 use Rattle.rh_text.specs.declared.ends.Dir.{Dir}
 use Rattle.rh_line.specs.declared.leg.Leg.{Leg}
-use Rattle.rh_nodes.specs.declared.event.Event.TheVariants.{Ends, Breaks}
-use Rattle.rh_nodes.specs.Company.{Rulebook}
+use Rattle.rh_wires.specs.Legs as legs
+use Rattle.rh_wires.specs.Wires.{sender}
+use Rattle.rh_company.specs.declared.event.Event.TheVariants.{Ends, Breaks}
+use Rattle.rh_company.specs.Company.{Rulebook}
 use Rattle.rh_nodes.specs.Giving.{Deeds}
-use Rattle.rh_nodes.specs.Legs as legs
 use Rattle.rh_nodes.specs.Opening.{Makers}
 use Rattle.rh_nodes.specs.Settling.{is_finished}
-use Rattle.rh_nodes.specs.Wires.{sender}
 use Rattle.rh_nodes.specs.World.{World}
 use Rattle.law_node_history.specs.Changes.{ByLines, Change, GoesDown, IsTold, all_changed}
 

@@ -2,8 +2,8 @@
 use Rattle.std.specs.Prelude.{◌≡◌, List, [], ◌∷◌, Bool, true, false}
 use Rattle.rh_record.specs.declared.line.Line.{Line}
 use Rattle.rh_record.specs.declared.line.Line.TheVariants.{BreakLeg, EndLeg}
+use Rattle.rh_company.specs.Company.{Rulebook}
 use Rattle.rh_nodes.specs.Breaking.{break_leg, end_leg}
-use Rattle.rh_nodes.specs.Company.{Rulebook}
 use Rattle.rh_nodes.specs.World.{World}
 use Rattle.rh_world.specs.declared.any_world.AnyWorld.{AnyWorld}
 use Rattle.rh_world.specs.declared.any_world.AnyWorld.TheVariants.{Before, Direct, Settings, Roles}

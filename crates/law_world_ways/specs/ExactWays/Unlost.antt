@@ -8,7 +8,7 @@ use Rattle.rh_inproxy.specs.State.{InProxy}
 use Rattle.rh_outproxy.specs.OutProxy.{OutProxy}
 use Rattle.rh_client.specs.declared.state.ClientRole.{ClientRole}
 use Rattle.rh_server.specs.States.{Server}
-use Rattle.rh_nodes.specs.Wires.{is_up}
+use Rattle.rh_wires.specs.Wires.{is_up}
 use Rattle.rh_nodes.specs.World.{World}
 use Rattle.law_node_history.specs.Carried.{events_of, wire_at}
 use Rattle.law_node_history.specs.Histories.{History}

@@ -10,7 +10,7 @@ use Rattle.rh_shell.specs.declared.course.Course.TheVariants.{Going}
 use Rattle.rh_shell.specs.NearEnds.{NearEnd, is_empty, is_over}
 use Rattle.rh_shell.specs.Rules.{Message, Rules}
 use Rattle.rh_shell.specs.Shells.{Shell, end_at}
-use Rattle.rh_nodes.specs.Wires.{in_flight, is_up, receiver, sender}
+use Rattle.rh_wires.specs.Wires.{in_flight, is_up, receiver, sender}
 use Rattle.rh_nodes.specs.World.{World, at}
 use Rattle.law_node_history.specs.Carried.{came_up, events_of, wire_at}
 use Rattle.law_node_history.specs.Histories.{History}

@@ -18,7 +18,7 @@ use Rattle.rh_client.specs.declared.state.ClientRole.{ClientRole}
 use Rattle.rh_client.specs.Client as client
 use Rattle.rh_server.specs.Servers as server
 use Rattle.rh_server.specs.States.{Server}
-use Rattle.rh_nodes.specs.Readers.{reader_of}
+use Rattle.rh_wires.specs.Readers.{reader_of}
 use Rattle.rh_nodes.specs.World.{World}
 use Rattle.law_moves.specs.Moving.{after_events, after_end_events}
 use Rattle.law_role_inproxy.specs.Order.{item_came}
@@ -28,7 +28,6 @@ use Rattle.law_node_history.specs.Histories.{History, IsRun, in_place, out_place
 use Rattle.law_role_outproxy.specs.Order.{from_server}
 use Rattle.law_node_streams.specs.Streams.{all_given, all_taken}
 use Rattle.law_node_begins.specs.ProxiesBegin.Pipes.{ci, co, is, os}
-use Rattle.law_node_traces.specs.Traced.Numbers.{is_made}
 use Rattle.law_peers_routes.specs.Upwards as goes_up
 use Rattle.law_world_order.specs.Directions.{Directions, down_route_of, up_route_of}
 use Rattle.law_world_order.specs.Flows.{Numbers}

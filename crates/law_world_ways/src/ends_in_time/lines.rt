@@ -2,9 +2,9 @@
 
 ghost use Rattle.std.specs.Prelude.{◌≡◌, true};
 ghost use Rattle.rh_record.specs.declared.line.Line.{Line};
-ghost use Rattle.rh_nodes.specs.Company.{Rulebook};
+ghost use Rattle.rh_wires.specs.Legs as legs;
+ghost use Rattle.rh_company.specs.Company.{Rulebook};
 ghost use Rattle.rh_nodes.specs.Giving.{Deeds};
-ghost use Rattle.rh_nodes.specs.Legs as legs;
 ghost use Rattle.rh_nodes.specs.Opening.{Makers};
 ghost use Rattle.rh_nodes.specs.Steps.{step, step_line};
 ghost use Rattle.rh_nodes.specs.World.{World};

@@ -7,7 +7,7 @@ ghost use Rattle.rh_sig.specs.declared.name.Pipe.{Pipe};
 ghost use Rattle.rh_line.specs.declared.leg.Leg.{Leg};
 ghost use Rattle.rh_shell.specs.Rules.{Rules};
 ghost use Rattle.rh_shell.specs.Shells.{Shell, is_going};
-ghost use Rattle.rh_nodes.specs.Wires.{in_flight};
+ghost use Rattle.rh_wires.specs.Wires.{in_flight};
 ghost use Rattle.rh_nodes.specs.World.{World};
 ghost use Rattle.law_moves.specs.ReadBack.Reading.{messages_from, reading};
 ghost use Rattle.law_node_history.specs.Carried.{wire_at};

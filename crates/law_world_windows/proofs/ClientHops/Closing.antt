@@ -1,69 +1,40 @@
 -- whatever a change of a world is, it closes no node for a window or an acknowledgement of a hop
 -- between a client and its proxies
-use Rattle.std.proofs.Common.{◌≡◌, ℕ, List, [], ◌∷◌, ◌++◌, refl, sym, ◌∙◌, subst}
-use Rattle.std.specs.Prelude.{Some, None}
-use mathlib.Core.List.{IsPrefix}
-use Rattle.rh_text.specs.declared.ends.Dir.{Dir}
-use Rattle.rh_text.specs.declared.ends.Dir.TheVariants.{U, D}
-use Rattle.rh_line.specs.declared.cause.Cause.{Cause}
+use Rattle.law_order.proofs.Vocabulary.{◌≡◌, ℕ, List, [], ◌∷◌, ◌++◌, refl, sym, ◌∙◌, subst, Some, None, IsPrefix}
 use Rattle.rh_line.specs.declared.cause.Cause.TheVariants as cause
-use Rattle.rh_line.specs.declared.leg.Leg.{Leg}
-use Rattle.rh_line.specs.declared.leg.LegKind.{LegKind}
-use Rattle.rh_line.specs.declared.leg.LegKind.TheVariants.{ClientOut, OutServer, ClientIn, InServer}
-use Rattle.rh_record.specs.declared.answer.Who.{Who}
 use Rattle.rh_record.specs.declared.answer.Who.TheVariants as who
 use Rattle.rh_shell.specs.declared.answers.Refused.TheVariants as refused
-use Rattle.law_moves.specs.Moves.{EndMove}
-use Rattle.rh_shell.specs.Rules.{Message, Rules}
-use Rattle.law_moves.specs.Legible.Legible.{IsFineMessage}
-use Rattle.rh_shell.specs.Shells.{Shell}
-use Rattle.law_moves.specs.Wires.{of_leg}
-use Rattle.rh_nodes.specs.declared.event.Event.{Event}
-use Rattle.rh_nodes.specs.declared.event.Event.TheVariants.{Comes}
-use Rattle.rh_nodes.specs.declared.place.Place.{Place}
-use Rattle.rh_nodes.specs.declared.place.Place.TheVariants.{Absent, Here, Gone}
-use Rattle.rh_nodes.specs.Company as company
-use Rattle.rh_nodes.specs.Legs as legs
-use Rattle.rh_nodes.specs.Opening.{Makers}
-use Rattle.rh_nodes.specs.Places as places
-use Rattle.rh_nodes.specs.Readers.{reader_of}
-use Rattle.rh_nodes.specs.Settling.{leg_at}
-use Rattle.rh_nodes.specs.Wires.{receiver}
-use Rattle.rh_nodes.specs.World.{World, at}
-use Rattle.rh_client.specs.declared.state.ClientRole.{ClientRole}
-use Rattle.rh_client.specs.Client as client
-use Rattle.rh_client.specs.State.{ci, co}
 use Rattle.rh_inproxy.specs.Machine as in_proxy
-use Rattle.rh_inproxy.specs.State.{InProxy}
 use Rattle.rh_outproxy.specs.Machine as out_proxy
-use Rattle.rh_outproxy.specs.OutProxy.{OutProxy}
-use Rattle.rh_server.specs.States.{Server}
+use Rattle.rh_client.specs.Client as client
+use Rattle.rh_wires.specs.Legs as legs
+use Rattle.rh_company.specs.Company as company
+use Rattle.rh_company.specs.Places as places
+use Rattle.law_moves.proofs.Vocabulary.{Dir, U, D, Cause, Leg, LegKind, ClientOut, OutServer, ClientIn, InServer, Message, Rules, Shell, EndMove, IsFineMessage, of_leg, all_read_of}
+use Rattle.law_role_inproxy.proofs.Vocabulary.{InProxy}
+use Rattle.law_role_client.proofs.Vocabulary.{ClientRole, ci, co}
+use Rattle.law_role_server.proofs.Vocabulary.{Server}
+use Rattle.law_node_history.proofs.Vocabulary.{Who, reader_of, receiver, Event, Comes, Place, Absent, Here, Gone, Makers, leg_at, World, at, happened, Change, IsFed, MayChange, ClosesNode, History, in_place, out_place}
+use Rattle.law_node_history.proofs.Lemmas.{answered}
 use Rattle.law_node_causes.specs.Closings.{ClosesWith, MayClose}
-use Rattle.law_node_history.specs.Carried.{happened}
-use Rattle.law_node_history.specs.Changes.{Change, IsFed, MayChange}
-use Rattle.law_node_history.specs.Closes.{ClosesNode}
-use Rattle.law_node_history.specs.Histories.{History, in_place, out_place}
-use Rattle.law_node_history.proofs.Numbers.{answered}
-use Rattle.law_moves.specs.ReadBack.Reading.{all_read_of}
-use Rattle.law_node_traces.specs.Traced.Cookies.{ByChanges}
-use Rattle.law_node_traces.specs.Traced.Ours.{AreOurs, deeds, rules}
-use Rattle.law_node_traces.specs.Traced.Recordings.{history_at}
-use Rattle.law_world_order.specs.Flows.{IsFlowing, numbers_of}
-use Rattle.law_world_order.specs.Premises.{AreDistinct, AreInRange}
-use Rattle.law_world_honest.proofs.Honesty.Closing.{EachComes, by_fed}
-use Rattle.law_world_honest.proofs.Honesty.Fed.{told_what, told_who}
-use Rattle.law_world_windows.specs.Hops.{os_leg}
-use Rattle.law_world_windows.specs.Refusing.{RefusesMessage}
-use Rattle.law_world_windows.proofs.Moment.{Laws, NodeLaws, known}
-use Rattle.law_world_windows.proofs.Stopping.{Readings}
+use Rattle.law_role_outproxy.proofs.Vocabulary.{OutProxy}
 use Rattle.law_peers_moments.specs.Moments.{AreJoined, Passages}
-use Rattle.law_world_windows.specs.ClientHops.{HasOneWindow}
-use Rattle.law_world_windows.proofs.ClientHops.Honest.{RoleLaws, are_honest, distinct_behind}
+use Rattle.law_node_traces.proofs.Vocabulary.{ByChanges, AreOurs, deeds, rules, history_at}
 use Rattle.law_world_order.proofs.Joined.{AreAlone, put_is_fine}
 use Rattle.law_world_order.proofs.Legs.{Reads}
+use Rattle.law_world_order.proofs.Vocabulary.{IsFlowing, numbers_of, AreDistinct, AreInRange}
+use Rattle.law_world_honest.proofs.Honesty.Closing.{EachComes, by_fed}
+use Rattle.law_world_honest.proofs.Honesty.Fed.{told_what, told_who}
+use Rattle.law_world_windows.proofs.Moment.{Laws, NodeLaws, known}
+use Rattle.law_world_windows.proofs.Stopping.{Readings}
+use Rattle.law_world_windows.proofs.ClientHops.Honest.{RoleLaws, are_honest, distinct_behind}
 use Rattle.law_world_windows.proofs.ClientHops.Moments.{client_next, flows, in_next, joined, out_next, passages, story, world}
 use Rattle.law_world_windows.proofs.ClientHops.Refusing.{client_range, client_window, in_range, in_window, out_range, out_range_none, out_window}
 use Rattle.law_world_windows.proofs.ClientHops.Routes.{AreHonest}
+use Rattle.law_world_windows.proofs.Closing.{in_number, out_number}
+use Rattle.law_world_windows.specs.Hops.{os_leg}
+use Rattle.law_world_windows.specs.Refusing.{RefusesMessage}
+use Rattle.law_world_windows.specs.ClientHops.{HasOneWindow}
 
 -- ---- the laws that this stands on
 
@@ -80,12 +51,6 @@ pub record NodesLaws : Type 0 where
   pub client : NodeLaws client.rules
   pub ins : NodeLaws in_proxy.rules
   pub outs : NodeLaws out_proxy.rules
-
-in_number : (a b : ℕ) → who.In a ≡ who.In b → a ≡ b
-in_number a b e = cc
-
-out_number : (a b : ℕ) → who.Out a ≡ who.Out b → a ≡ b
-out_number a b e = cc
 
 module _ {K : Type 0} (roles : RoleLaws) (nodes : NodesLaws) (reads : Reads) (readings : Readings)
     (m : Makers K InProxy OutProxy) (w : World K ClientRole Server InProxy OutProxy)

@@ -1,53 +1,28 @@
 -- at each moment of a world of roles each sees to its part, and channels begin apart
-use Rattle.std.proofs.Common.{◌≡◌, ℕ, ◌≤◌, Bool, true, false, if◌then◌else◌, List, [], ◌∷◌, ◌++◌, inl, inr, arith, subst}
-use Rattle.rh_text.specs.declared.ends.Dir.{Dir}
-use Rattle.rh_text.specs.declared.ends.Dir.TheVariants.{U}
 use Rattle.rh_text.specs.declared.ends.Side.TheVariants as side
-use Rattle.rh_window.specs.Sides.{IsWindow}
-use Rattle.rh_rts.specs.declared.command.Cookie.{Cookie}
-use Rattle.rh_http.specs.declared.config.ClientConfig.{ClientConfig}
-use Rattle.rh_line.specs.declared.leg.Leg.{Leg}
-use Rattle.rh_line.specs.declared.leg.LegKind.TheVariants.{ClientIn, ClientOut}
+use Rattle.law_order.proofs.Vocabulary.{◌≡◌, ℕ, ◌≤◌, Bool, true, false, if◌then◌else◌, List, [], ◌∷◌, ◌++◌, inl, inr, arith, subst}
 use Rattle.rh_record.specs.declared.answer.Who.TheVariants as who
-use Rattle.rh_shell.specs.Shells.{Shell}
-use Rattle.rh_inproxy.specs.declared.state.InProxyConfig.{InProxyConfig}
 use Rattle.rh_inproxy.specs.Machine as in_proxy
-use Rattle.rh_inproxy.specs.State.{InProxy}
 use Rattle.rh_inproxy.specs.State as in_state
-use Rattle.rh_outproxy.specs.declared.state.OutProxyConfig.{OutProxyConfig}
 use Rattle.rh_outproxy.specs.Machine as out_proxy
-use Rattle.rh_outproxy.specs.OutProxy.{OutProxy, new_proxy}
-use Rattle.rh_client.specs.declared.state.ClientRole.{ClientRole}
-use Rattle.rh_client.specs.State.{ci, co}
 use Rattle.rh_server.specs.Servers as server
-use Rattle.rh_server.specs.States.{Server}
-use Rattle.rh_nodes.specs.Opening.{Makers}
-use Rattle.rh_nodes.specs.Readers.{reader_of}
-use Rattle.rh_nodes.specs.World.{World, at}
-use Rattle.rh_nodes.specs.Wires.{receiver}
-use Rattle.rh_nodes.specs.Halves.{is_same}
-use Rattle.rh_nodes.specs.Legs as legs
-use Rattle.law_moves.specs.Moves.{AreAllowed, AreAllowedAtEnd, EndMove, EndPassage, Move, Passage, all_end_moved, all_moved, end_started, started}
-use Rattle.law_moves.specs.Moving.{Event, Hears, after_end_events}
-use Rattle.law_moves.specs.Wires.{of_leg}
-use Rattle.law_moves.specs.Passages.Passing.{count_of}
-use Rattle.law_moves.specs.Passages.Rising.{AreUpFirst, CameUpWith, HasComeUp}
-use Rattle.law_role_client.specs.Order.{AreAllowedMoves, client_moved}
-use Rattle.law_node_history.specs.Carried.{happened}
-use Rattle.law_node_history.specs.Changes.{IsFed}
-use Rattle.law_node_history.specs.Histories.{History, noted, told_to}
-use Rattle.law_node_history.proofs.Appended.{happened_more}
-use Rattle.law_role_outproxy.specs.Sending.{opens}
-use Rattle.law_peers_moments.specs.Moments.{AreJoined, Passages}
+use Rattle.rh_wires.specs.Legs as legs
+use Rattle.law_moves.proofs.Vocabulary.{Dir, U, IsWindow, Cookie, ClientConfig, Leg, ClientIn, ClientOut, Shell, AreAllowed, AreAllowedAtEnd, EndMove, EndPassage, Move, Passage, all_end_moved, all_moved, end_started, started, Event, Hears, after_end_events, of_leg, count_of, AreUpFirst, CameUpWith, HasComeUp}
+use Rattle.law_role_inproxy.proofs.Vocabulary.{InProxyConfig, InProxy}
+use Rattle.law_role_client.proofs.Vocabulary.{ClientRole, ci, co, AreAllowedMoves, client_moved}
+use Rattle.law_role_server.proofs.Vocabulary.{Server}
+use Rattle.law_node_history.proofs.Vocabulary.{reader_of, receiver, Makers, World, at, is_same, happened, IsFed, History, noted, told_to}
+use Rattle.law_node_history.proofs.Lemmas.{happened_more}
+use Rattle.law_role_outproxy.proofs.Vocabulary.{OutProxyConfig, OutProxy, new_proxy, opens}
 use Rattle.law_peers_moments.proofs.Read.{front_count}
-use Rattle.law_node_traces.specs.Traced.Ours.{AreOurs, deeds, rules}
-use Rattle.law_world_order.specs.Flows.{IsFlowing, numbers_of}
-use Rattle.law_world_order.specs.Premises.{AreDistinct, AreInRange}
+use Rattle.law_peers_moments.specs.Moments.{AreJoined, Passages}
+use Rattle.law_node_traces.proofs.Vocabulary.{AreOurs, deeds, rules}
 use Rattle.law_world_order.proofs.Joined.{all}
 use Rattle.law_world_order.proofs.Legs.{Reads}
-use Rattle.law_world_windows.specs.ClientHops.{HasOneWindow}
+use Rattle.law_world_order.proofs.Vocabulary.{IsFlowing, numbers_of, AreDistinct, AreInRange}
 use Rattle.law_world_windows.proofs.ClientHops.Roles.{AreApart, ClientBegins, ClientReceives, ClientSends, InProxySees, OutProxySees, ServerSees}
 use Rattle.law_world_windows.proofs.ClientHops.Routes.{AreHonest}
+use Rattle.law_world_windows.specs.ClientHops.{HasOneWindow}
 
 -- ---- the laws that this stands on, over every list of moves
 
@@ -183,7 +158,7 @@ module _ {K : Type 0} (law : RoleLaws) (reads : Reads) (m : Makers K InProxy Out
 
 -- ---- a piece that is fed brings no leg up
 
-up_before : (leg on : Leg) (cookie : Cookie) (piece : List ℕ) (fed : Bool) (events : List Event)
+pub up_before : (leg on : Leg) (cookie : Cookie) (piece : List ℕ) (fed : Bool) (events : List Event)
     → CameUpWith (events ++ (if fed then Hears on piece ∷ [] else [])) leg cookie
     → CameUpWith events leg cookie
 up_before leg on cookie piece true [] (inl is) = absurd cc

@@ -1,58 +1,31 @@
 -- the laws of the roles, as the hops of a client need them
-use Rattle.std.proofs.Common.{◌≡◌, ◌≤◌, ◌⊎◌, ℕ, ◌+◌, Bool, true, false, if◌then◌else◌, List, [], ◌∷◌, length, ◌<◌, Err, inl, inr, refl, sym, ◌∙◌, subst, zero, suc, arith, ap}
-use Rattle.std.specs.List.{AllByRecursion}
-use Rattle.rh_window.specs.declared.fault.WindowExceeded.{WindowExceeded}
-use Rattle.rh_rts.specs.declared.command.Cookie.{Cookie}
-use Rattle.rh_sig.specs.declared.named.Named.{Named}
-use Rattle.rh_sig.specs.declared.named.Named.TheVariants.{AckTo, ConnA1, ConnB2, ConnC1, ConnC2, InR1A2, InR1A3, InR1A4, OutR1A3}
-use Rattle.rh_http.specs.declared.config.ClientConfig.{ClientConfig}
-use Rattle.rh_http.specs.Texts.{out_request}
-use Rattle.rh_line.specs.declared.leg.Leg.{Leg}
-use Rattle.rh_line.specs.declared.leg.LegKind.TheVariants.{ClientIn, ClientOut, InServer, OutServer}
-use Rattle.rh_shell.specs.declared.answers.Count.{Count}
+use Rattle.law_order.proofs.Vocabulary.{◌≡◌, ◌≤◌, ◌⊎◌, ℕ, ◌+◌, Bool, true, false, if◌then◌else◌, List, [], ◌∷◌, length, ◌<◌, Err, inl, inr, refl, sym, ◌∙◌, subst, zero, suc, arith, ap, AllByRecursion}
 use Rattle.rh_shell.specs.declared.answers.Refused.TheVariants as refused
-use Rattle.rh_shell.specs.Rules.{Message, Text, Pdu, Packet}
-use Rattle.rh_shell.specs.Shells.{same_leg}
 use Rattle.rh_inproxy.specs.Machine as in_proxy
-use Rattle.rh_inproxy.specs.State.{InProxy}
-use Rattle.rh_outproxy.specs.OutProxy.{OutProxy}
-use Rattle.rh_client.specs.declared.state.ClientRole.{ClientRole}
 use Rattle.rh_client.specs.Client as client
-use Rattle.rh_client.specs.State.{ci, co}
-use Rattle.rh_server.specs.States.{Server}
-use Rattle.law_moves.specs.Moves.{EndMove, OnLeg, Passage}
-use Rattle.law_moves.specs.Wires.{of_leg}
-use Rattle.law_moves.specs.Passages.Passing.{pdu_bytes, count_of, Has, HasOn, HasOne, HasBegunIn, HasBegunOut}
-use Rattle.law_moves.specs.Passages.Rising.{HasComeUp}
-use Rattle.law_moves.proofs.Passages.Messages.{one_so}
-use Rattle.law_role_client.specs.Order.{client_moved}
+use Rattle.law_moves.proofs.Vocabulary.{WindowExceeded, Cookie, Named, AckTo, ConnA1, ConnB2, ConnC1, ConnC2, InR1A2, InR1A3, InR1A4, OutR1A3, ClientConfig, out_request, Leg, ClientIn, ClientOut, InServer, OutServer, Count, Message, Text, Pdu, Packet, same_leg, EndMove, OnLeg, Passage, of_leg, pdu_bytes, count_of, Has, HasOn, HasOne, HasBegunIn, HasBegunOut, HasComeUp}
+use Rattle.law_moves.proofs.Lemmas.{one_so}
+use Rattle.law_role_inproxy.proofs.Vocabulary.{InProxy}
+use Rattle.law_role_client.proofs.Vocabulary.{ClientRole, ci, co, client_moved}
+use Rattle.law_role_client.proofs.Counted.Behind.{has_one}
 use Rattle.law_role_client.specs.Sending as sends
 use Rattle.law_role_client.specs.Receiving as receives
+use Rattle.law_role_server.proofs.Vocabulary.{Server}
+use Rattle.law_role_outproxy.proofs.Vocabulary.{OutProxy, opens}
 use Rattle.law_role_outproxy.specs.Sending as out_sends
-use Rattle.law_role_outproxy.specs.Sending.{opens}
 use Rattle.law_role_client_rows.specs.Putting.{Begins, IsBegun, OpenedBefore, OpensOutChannels, OutRest, out_length, out_way}
+use Rattle.law_role_windows.proofs.Acknowledging.Found.{has_found}
 use Rattle.law_role_windows.specs.Acknowledging.Acks.{IsPassedOn, IsTrue, IsTrueOn, PassesOn}
 use Rattle.law_role_windows.specs.Acknowledging.Receiving.{EndsBehind, ReceivesOn, RefusesOnly}
 use Rattle.law_role_windows.specs.Acknowledging.Windows.{ByConnB2, ByConnC1, ByConnC2, ByInR1A2, ByInR1A3, ByInR1A4, Tells, TellsFrom, TellsOwn}
-use Rattle.law_role_windows.proofs.Acknowledging.Found.{has_found}
-use Rattle.law_world_windows.specs.Hops.{is_leg, os_leg}
-use Rattle.law_world_windows.proofs.ClientHops.Roles as roles
 use Rattle.law_world_windows.proofs.ClientHops.Roles.{Acks, ClientBegins, ClientReceives, ClientSends, InProxySees, IsFalse, IsToldIn, IsToldOut, OutProxySees, ServerSees, TellsClient, TellsOutProxy, TellsProxy, TellsServer}
+use Rattle.law_world_windows.proofs.ClientHops.Roles as roles
+use Rattle.law_world_windows.specs.Hops.{is_leg, os_leg}
 
 -- ---- packets in a list
 
 same_packet : (a b : Named) → Packet a ≡ Packet b → b ≡ a
 same_packet a b e = cc
-
-has_one : (P : Named → Type 0) (named : Named) (ms : List Message) → P named → Has named ms
-    → HasOne P ms
-has_one P named [] is has = absurd has
-has_one P named (Text bytes ∷ ms) is (inl e) = absurd cc
-has_one P named (Text bytes ∷ ms) is (inr has) = has_one P named ms is has
-has_one P named (Pdu pdu ∷ ms) is (inl e) = absurd cc
-has_one P named (Pdu pdu ∷ ms) is (inr has) = has_one P named ms is has
-has_one P named (Packet other ∷ ms) is (inl e) = inl (subst P (same_packet other named e) is)
-has_one P named (Packet other ∷ ms) is (inr has) = inr (has_one P named ms is has)
 
 one_of : (P Q R : Named → Type 0) → ((named : Named) → P named → Q named ⊎ R named)
     → (ms : List Message) → HasOne P ms → HasOne Q ms ⊎ HasOne R ms

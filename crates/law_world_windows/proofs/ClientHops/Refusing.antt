@@ -1,34 +1,19 @@
 -- what a row on a hop of a client refuses cannot come from the other end (MS-RPCH 3.2, 3.2.1)
-use Rattle.std.proofs.Common.{◌≡◌, ℕ, ◌+◌, ◌≤◌, ◌<◌, List, [], ◌∷◌, ◌++◌, length, Err, arith, inl, inr, sym, ◌∙◌, subst}
-use mathlib.Core.List.{IsPrefix}
-use Rattle.rh_text.specs.declared.ends.Dir.TheVariants.{U, D}
-use Rattle.rh_rts.specs.declared.command.Cookie.{Cookie}
-use Rattle.rh_window.specs.declared.fault.WindowExceeded.{WindowExceeded}
-use Rattle.rh_window.specs.declared.range.TheConstants.{GREATEST_WINDOW}
-use Rattle.rh_pdu.specs.Frames.{IsPdu}
-use Rattle.rh_sig.specs.declared.named.Named.{Named}
-use Rattle.rh_sig.specs.declared.named.Named.TheVariants.{AckTo}
-use Rattle.rh_shell.specs.declared.answers.Count.{Count}
+use Rattle.law_order.proofs.Vocabulary.{◌≡◌, ℕ, ◌+◌, ◌≤◌, ◌<◌, List, [], ◌∷◌, ◌++◌, length, Err, arith, inl, inr, sym, ◌∙◌, subst, IsPrefix}
 use Rattle.rh_shell.specs.declared.answers.Refused.TheVariants as refused
-use Rattle.law_moves.specs.Moves.{EndMove}
-use Rattle.rh_shell.specs.Rules.{Message, Text, Pdu, Packet}
-use Rattle.law_moves.specs.Wires.{of_leg}
-use Rattle.rh_client.specs.Client as client
-use Rattle.rh_client.specs.State.{ci, co}
 use Rattle.rh_inproxy.specs.Machine as in_proxy
 use Rattle.rh_outproxy.specs.Machine as out_proxy
-use Rattle.law_moves.specs.Legible.Legible.{IsFineMessage}
-use Rattle.law_moves.specs.ReadBack.Reading.{all_read_of}
-use Rattle.law_moves.specs.Passages.Passing.{pdu_bytes, Has, BeginsIn, BeginsOut, HasBegunIn, HasBegunOut}
-use Rattle.law_moves.specs.Passages.Rising.{HasComeUp}
-use Rattle.law_moves.proofs.Passages.Messages.{bytes_append, has_last}
-use Rattle.law_world_windows.specs.Hops.{is_leg, os_leg}
-use Rattle.law_world_windows.specs.Refusing.{RefusesMessage}
+use Rattle.rh_client.specs.Client as client
+use Rattle.law_moves.proofs.Vocabulary.{U, D, WindowExceeded, GREATEST_WINDOW, IsPdu, Cookie, Named, AckTo, Count, Message, Text, Pdu, Packet, EndMove, of_leg, IsFineMessage, all_read_of, pdu_bytes, Has, BeginsIn, BeginsOut, HasBegunIn, HasBegunOut, HasComeUp}
+use Rattle.law_moves.proofs.Lemmas.{bytes_append, has_last}
+use Rattle.law_role_client.proofs.Vocabulary.{ci, co}
 use Rattle.law_peers_moments.proofs.Read.{front_bytes, front_has, front_one}
-use Rattle.law_peers_moments.specs.Moments.{AreJoined, Passages}
 use Rattle.law_peers_moments.proofs.Joining.{in_front, in_reads}
+use Rattle.law_peers_moments.specs.Moments.{AreJoined, Passages}
 use Rattle.law_world_windows.proofs.ClientHops.Roles.{Acks, AcksRoom, IsFalse, IsToldIn, IsToldOut, SendsWithin, TellsProxy}
 use Rattle.law_world_windows.proofs.ClientHops.Routes.{AreHonest, client_put, from_client, from_out, out_front, window_is}
+use Rattle.law_world_windows.specs.Hops.{is_leg, os_leg}
+use Rattle.law_world_windows.specs.Refusing.{RefusesMessage}
 
 -- the bytes that came with the next PDU are of what was put
 reached : (came put : List Message) (pdu : List ℕ)

@@ -1,28 +1,14 @@
 -- what each role sees to on the hops between a client and its proxies (MS-RPCH 3.2.1)
-use Rattle.std.specs.Prelude.{◌≡◌, ◌⊎◌, ℕ, ◌+◌, ◌<◌, ◌≤◌, List, length, Err}
-use Rattle.rh_window.specs.declared.fault.WindowExceeded.{WindowExceeded}
-use Rattle.rh_window.specs.declared.range.TheConstants.{GREATEST_WINDOW}
-use Rattle.rh_rts.specs.declared.command.Cookie.{Cookie}
-use Rattle.rh_sig.specs.declared.named.Named.{Named}
-use Rattle.rh_sig.specs.declared.named.Named.TheVariants.{AckTo, ConnB2, ConnC1, ConnC2, InR1A2, InR1A3, InR1A4}
-use Rattle.rh_line.specs.declared.leg.Leg.{Leg}
-use Rattle.rh_line.specs.declared.leg.LegKind.TheVariants.{ClientIn, InServer, OutServer}
-use Rattle.rh_shell.specs.declared.answers.Count.{Count}
+use Rattle.law_order.proofs.Vocabulary.{◌≡◌, ◌⊎◌, ℕ, ◌+◌, ◌<◌, ◌≤◌, List, length, Err}
 use Rattle.rh_shell.specs.declared.answers.Refused.TheVariants as refused
-use Rattle.rh_shell.specs.Rules.{Message}
 use Rattle.rh_inproxy.specs.Machine as in_proxy
-use Rattle.rh_inproxy.specs.State.{InProxy}
 use Rattle.rh_outproxy.specs.Machine as out_proxy
-use Rattle.rh_outproxy.specs.OutProxy.{OutProxy}
-use Rattle.rh_client.specs.declared.state.ClientRole.{ClientRole}
 use Rattle.rh_client.specs.Client as client
-use Rattle.rh_client.specs.State.{ci, co}
-use Rattle.rh_server.specs.States.{Server}
-use Rattle.law_moves.specs.Moves.{EndMove, OnLeg, Passage}
-use Rattle.law_moves.specs.Wires.{of_leg}
-use Rattle.law_moves.specs.Passages.Passing.{pdu_bytes, Has, HasOn, HasOne, HasBegunIn, HasBegunOut}
-use Rattle.law_moves.specs.Passages.Rising.{HasComeUp}
-use Rattle.law_role_outproxy.specs.Sending.{TellsWindow}
+use Rattle.law_moves.proofs.Vocabulary.{WindowExceeded, GREATEST_WINDOW, Cookie, Named, AckTo, ConnB2, ConnC1, ConnC2, InR1A2, InR1A3, InR1A4, Leg, ClientIn, InServer, OutServer, Count, Message, EndMove, OnLeg, Passage, of_leg, pdu_bytes, Has, HasOn, HasOne, HasBegunIn, HasBegunOut, HasComeUp}
+use Rattle.law_role_inproxy.proofs.Vocabulary.{InProxy}
+use Rattle.law_role_client.proofs.Vocabulary.{ClientRole, ci, co}
+use Rattle.law_role_server.proofs.Vocabulary.{Server}
+use Rattle.law_role_outproxy.proofs.Vocabulary.{OutProxy, TellsWindow}
 use Rattle.law_world_windows.specs.Hops.{is_leg, os_leg}
 
 -- ---- packets that tell a window

@@ -1,26 +1,16 @@
 -- the way of an acknowledgement and of a window through the nodes, back to where it was made
 -- (MS-RPCH 3.2.1)
-use Rattle.std.proofs.Common.{◌≡◌, ◌⊎◌, ℕ, List, inl, inr, subst}
-use Rattle.std.proofs.lemmas.Bool.{cases_eq}
-use mathlib.Core.List.{IsPrefix}
-use Rattle.rh_text.specs.declared.ends.Dir.TheVariants.{U, D}
-use Rattle.rh_text.specs.declared.ends.Side.{Side}
 use Rattle.rh_text.specs.declared.ends.Side.TheVariants as side
-use Rattle.rh_rts.specs.declared.command.Cookie.{Cookie}
-use Rattle.rh_sig.specs.declared.named.Named.{Named}
-use Rattle.rh_sig.specs.declared.named.Named.TheVariants.{AckTo}
+use Rattle.law_order.proofs.Vocabulary.{◌≡◌, ◌⊎◌, ℕ, List, inl, inr, subst, cases_eq, IsPrefix}
 use Rattle.rh_record.specs.declared.answer.Who.TheVariants as who
-use Rattle.law_moves.specs.Moves.{EndMove}
-use Rattle.law_moves.specs.Wires.{of_leg}
-use Rattle.rh_client.specs.State.{ci, co}
-use Rattle.rh_server.specs.States.{Server}
-use Rattle.law_moves.specs.ReadBack.Reading.{all_read_of}
-use Rattle.law_moves.specs.Passages.Passing.{Has, HasOne}
-use Rattle.law_world_windows.specs.Hops.{is_leg, os_leg}
-use Rattle.law_peers_moments.specs.Moments.{AreJoined, Passages, end_of}
+use Rattle.law_moves.proofs.Vocabulary.{U, D, Side, Cookie, Named, AckTo, EndMove, of_leg, all_read_of, Has, HasOne}
+use Rattle.law_role_client.proofs.Vocabulary.{ci, co}
+use Rattle.law_role_server.proofs.Vocabulary.{Server}
 use Rattle.law_peers_moments.proofs.Joining.{in_front, nothing_front}
 use Rattle.law_peers_moments.proofs.Read.{front_has, front_one}
+use Rattle.law_peers_moments.specs.Moments.{AreJoined, Passages, end_of}
 use Rattle.law_world_windows.proofs.ClientHops.Roles.{AreApart, ClientBegins, ClientReceives, ClientSends, InProxySees, OutProxySees, ServerSees, TellsClient, TellsOutProxy, TellsServer}
+use Rattle.law_world_windows.specs.Hops.{is_leg, os_leg}
 
 -- each role sees to its part, the client behind these moves; the in proxies have one window
 pub record AreHonest (window : ℕ) (moves : List EndMove) (all : Passages) : Type 0 where

@@ -1,34 +1,19 @@
 -- a node that closes by a byte for what a row refuses: the message that it makes whole is the next
 -- of what was put at the other end
-use Rattle.std.proofs.Common.{◌≡◌, ℕ, List, [], ◌∷◌, ◌++◌, false, Some, None, Err, refl, sym, ap, ◌∙◌, subst, append_assoc}
-use Rattle.std.specs.declared.option.Option.{Option}
-use mathlib.Core.List.{IsPrefix}
+use Rattle.law_order.proofs.Vocabulary.{◌≡◌, ℕ, List, [], ◌∷◌, ◌++◌, false, Some, None, Err, refl, sym, ap, ◌∙◌, subst, append_assoc, Option, IsPrefix}
 use Rattle.rh_sig.specs.declared.fault.SigFault.TheVariants as sig
-use Rattle.rh_sig.specs.declared.name.Pipe.{Pipe}
-use Rattle.rh_line.specs.declared.cause.Cause.{Cause}
-use Rattle.rh_line.specs.declared.leg.Leg.{Leg}
-use Rattle.rh_shell.specs.declared.answers.Refused.{Refused}
-use Rattle.rh_shell.specs.declared.course.Course.{Course}
-use Rattle.rh_shell.specs.declared.course.Course.TheVariants.{Going}
 use Rattle.rh_shell.specs.declared.reading.PacketFault.TheVariants as unread
-use Rattle.rh_shell.specs.declared.rooms.Rooms.{Rooms}
-use Rattle.law_moves.specs.Laws.{ClosedWith}
-use Rattle.law_moves.specs.Moving.{EndEvent, Event, Happens, Hears, after_end_events, after_events}
-use Rattle.rh_shell.specs.NearEnds.{NearEnd}
-use Rattle.rh_shell.specs.Rules.{Acts, Message, Rules}
-use Rattle.rh_shell.specs.Shells.{Shell, begun, bytes, bytes_at, bytes_by, end_at}
-use Rattle.law_moves.specs.Wires.{of_leg}
-use Rattle.law_node_history.specs.Carried.{drawn_on, end_drawn_on, happened, heard_on}
-use Rattle.law_node_history.proofs.Runs.{end_events_append, events_append}
-use Rattle.law_moves.specs.ReadBack.Reading.{messages_read}
-use Rattle.law_moves.specs.ReadBack.Well.{Answers, ReadsWell}
+use Rattle.law_moves.proofs.Vocabulary.{Pipe, Cause, Leg, Refused, Course, Going, Rooms, NearEnd, Acts, Message, Rules, Shell, begun, bytes, bytes_at, bytes_by, end_at, ClosedWith, EndEvent, Event, Happens, Hears, after_end_events, after_events, of_leg, messages_read, Answers, ReadsWell}
+use Rattle.law_moves.proofs.Lemmas.{leg_is}
+use Rattle.law_node_history.proofs.Lemmas.{end_events_append, events_append}
+use Rattle.law_node_history.proofs.Vocabulary.{drawn_on, end_drawn_on, happened, heard_on}
+use Rattle.law_node_streams.proofs.Streams.Ends.{end_is, end_leg}
 use Rattle.law_node_streams.specs.Streams.{EndStream, Seated, Stream}
-use Rattle.law_node_streams.proofs.Streams.Ends.{end_is, end_leg, leg_is}
-use Rattle.law_world_windows.specs.Refusing.{refused_by, RefusesMessage, RefusesNext}
 use Rattle.law_world_windows.proofs.Fed.{heard_behind}
 use Rattle.law_world_windows.proofs.NextRefused.{byte_refused}
 use Rattle.law_world_windows.proofs.OneByte.{AtByte}
 use Rattle.law_world_windows.proofs.Stopping.{Readings}
+use Rattle.law_world_windows.specs.Refusing.{refused_by, RefusesMessage, RefusesNext}
 
 -- behind what came a message is the next of all that was put at the other end, and a row refuses it
 pub record IsNext {S : Type 0} (rules : Rules S) (role : S) (leg : Leg) (r : Refused)

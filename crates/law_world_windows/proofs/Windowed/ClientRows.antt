@@ -1,19 +1,8 @@
 -- the rows of a client refuse on co legs alone
-use Rattle.std.proofs.Common.{ℕ, List, rules}
-use Rattle.std.specs.Prelude.{◌&&◌, ◌||◌, ◌==◌}
-use Rattle.law_order.proofs.ByNumber.{by_test}
-use Rattle.rh_rts.specs.declared.command.Cookie.{Cookie}
-use Rattle.rh_sig.specs.declared.named.Named.{Named}
+use Rattle.law_order.proofs.Vocabulary.{ℕ, List, rules, ◌&&◌, ◌||◌, ◌==◌}
 use Rattle.rh_sig.specs.declared.named.Named.TheVariants as named
-use Rattle.rh_line.specs.declared.leg.LegKind.{LegKind}
-use Rattle.rh_line.specs.declared.leg.LegKind.TheVariants.{ClientOut, OutServer, ClientIn, InServer}
-use Rattle.rh_shell.specs.declared.answers.Count.{Count}
-use Rattle.rh_client.specs.declared.channels.InChannel.{InChannel}
-use Rattle.rh_client.specs.declared.state.ClientRole.{ClientRole}
-use Rattle.rh_client.specs.Client.{on_packet, packet_by, pdu_by, rules as client_rules}
-use Rattle.rh_client.specs.Acknowledging.{ack_row, on_ack_to, on_pdu}
-use Rattle.rh_client.specs.Channels.{is_named}
-use Rattle.rh_client.specs.State.{Done, is_current, is_open, is_out_successor, unexpected}
+use Rattle.law_moves.proofs.Vocabulary.{by_test, Cookie, Named, LegKind, ClientOut, OutServer, ClientIn, InServer, Count}
+use Rattle.law_role_client.proofs.Vocabulary.{InChannel, ClientRole, on_packet, packet_by, pdu_by, rules as client_rules, ack_row, on_ack_to, on_pdu, is_named, Done, is_current, is_open, is_out_successor, unexpected}
 use Rattle.law_world_windows.specs.Windowed.{PacketFits, PduFits, RefusesOn}
 
 out_pdu : (s : ClientRole) (n : ℕ) (pdu : List ℕ) → PduFits ClientOut ClientOut (on_pdu s n pdu).1

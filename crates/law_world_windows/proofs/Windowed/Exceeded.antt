@@ -1,35 +1,14 @@
 -- a node that closes for a window does so where a row refuses for it
-use Rattle.std.proofs.Common.{◌≡◌, inl, inr, ℕ, List, [], ◌∷◌, length, cond, Bool, true, false, Some, None, Ok, Err, refl, subst}
-use Rattle.std.specs.Prelude.{slice_index, ◌==◌, ◌&&◌, ◌||◌}
-use Rattle.std.specs.declared.option.Option.{Option}
-use Rattle.std.specs.declared.result.Result.{Result}
-use Rattle.rh_pdu.specs.Header.{rts}
+use Rattle.law_order.proofs.Vocabulary.{◌≡◌, inl, inr, ℕ, List, [], ◌∷◌, length, cond, Bool, true, false, Some, None, Ok, Err, refl, subst, slice_index, ◌==◌, ◌&&◌, ◌||◌, Option, Result}
 use Rattle.rh_sig.specs.declared.fault.SigFault.TheVariants as sig
-use Rattle.rh_sig.specs.declared.named.Named.{Named}
-use Rattle.rh_http.specs.declared.refusal.Refusal.{Refusal}
-use Rattle.rh_line.specs.declared.leg.Leg.{Leg}
-use Rattle.rh_line.specs.declared.cause.Cause.{Cause}
 use Rattle.rh_line.specs.declared.cause.Cause.TheVariants as cause
-use Rattle.rh_shell.specs.declared.answers.Count.{Count}
-use Rattle.rh_shell.specs.declared.answers.HeadRefused.{HeadRefused}
+use Rattle.rh_shell.specs.Intakes.{Over}
 use Rattle.rh_shell.specs.declared.answers.HeadRefused.TheVariants as head
-use Rattle.rh_shell.specs.declared.answers.HeadTaken.{HeadTaken}
-use Rattle.rh_shell.specs.declared.answers.Refused.{Refused}
 use Rattle.rh_shell.specs.declared.answers.Refused.TheVariants as refused
-use Rattle.rh_shell.specs.declared.course.Course.{Course}
-use Rattle.rh_shell.specs.declared.course.Course.TheVariants.{Going}
-use Rattle.rh_shell.specs.declared.heading.Heading.{Heading}
-use Rattle.rh_shell.specs.declared.reading.PacketFault.{PacketFault}
 use Rattle.rh_shell.specs.declared.reading.PacketFault.TheVariants as unread
 use Rattle.rh_shell.specs.declared.stage.Stage.TheVariants as stage
-use Rattle.rh_shell.specs.declared.stop.Stop.{Stop}
-use Rattle.rh_shell.specs.Hearing.{Turn, goes, stops, stop, head_row, begun_body, behind_head, behind_frame, row_by, close_row, one_more, is_zero, is_upward, is_ping, take_ping, take_packet, take_frame, is_greeting, heading, touched, with_intake, take, hear_byte, hear, heard, is_stopped}
-use Rattle.rh_shell.specs.Intakes.{Came, Nothing, Head, Greeting, Frame, Fault, Over, on_byte}
-use Rattle.rh_shell.specs.NearEnds.{NearEnd, is_over}
-use Rattle.rh_shell.specs.Readings.{packet_of}
-use Rattle.rh_shell.specs.Rules.{Rules, Row}
-use Rattle.rh_shell.specs.Shells.{Shell, bytes_at, bytes_by, end_at, stop_by, stopped, with_end}
-use Rattle.law_moves.specs.Laws.{ClosedWith}
+use Rattle.law_moves.proofs.Vocabulary.{rts, Named, Refusal, Leg, Cause, Count, HeadRefused, HeadTaken, Refused, Course, Going, Heading, PacketFault, Stop, Turn, goes, stops, stop, head_row, begun_body, behind_head, behind_frame, row_by, close_row, one_more, is_zero, is_upward, is_ping, take_ping, take_packet, take_frame, is_greeting, heading, touched, with_intake, take, hear_byte, hear, heard, is_stopped, Came, Nothing, Head, Greeting, Frame, Fault, on_byte, NearEnd, is_over}
+use Rattle.law_moves.proofs.Vocabulary.{packet_of, Rules, Row, Shell, bytes_at, bytes_by, end_at, stop_by, stopped, with_end, ClosedWith}
 use Rattle.law_world_honest.specs.Honesty.Causes.{RowRefuses}
 
 module _ {S : Type 0} (rules : Rules S) where

@@ -1,19 +1,9 @@
 -- the rows of an in proxy refuse for a window on ci legs alone, as out of range on is legs alone
-use Rattle.std.proofs.Common.{ℕ, List, rules}
-use Rattle.std.specs.Prelude.{Some, None}
-use Rattle.std.specs.declared.option.Option.{Option}
-use Rattle.law_order.proofs.ByNumber.{by_test}
-use Rattle.rh_sig.specs.declared.named.Named.{Named}
+use Rattle.law_order.proofs.Vocabulary.{ℕ, List, rules, Some, None, Option}
 use Rattle.rh_sig.specs.declared.named.Named.TheVariants as named
-use Rattle.rh_line.specs.declared.leg.LegKind.{LegKind}
-use Rattle.rh_line.specs.declared.leg.LegKind.TheVariants.{ClientOut, OutServer, ClientIn, InServer}
-use Rattle.rh_line.specs.declared.which.Which.{Which}
-use Rattle.rh_shell.specs.declared.answers.Count.{Count}
-use Rattle.rh_inproxy.specs.Answers.{Done, unexpected}
-use Rattle.rh_inproxy.specs.Machine.{on_channel, on_channel_by, on_ci, on_is, packet, pdu, pdu_by, rules as proxy_rules}
-use Rattle.rh_inproxy.specs.Passing.{on_pdu}
-use Rattle.rh_inproxy.specs.State.{InProxy, channel_of, is_server_leg}
-use Rattle.rh_nodes.specs.Settling.{leg_at}
+use Rattle.law_moves.proofs.Vocabulary.{by_test, Named, LegKind, ClientOut, OutServer, ClientIn, InServer, Which, Count}
+use Rattle.law_role_inproxy.proofs.Vocabulary.{Done, unexpected, on_channel, on_channel_by, on_ci, on_is, packet, pdu, pdu_by, rules as proxy_rules, on_pdu, InProxy, channel_of, is_server_leg}
+use Rattle.law_node_history.proofs.Vocabulary.{leg_at}
 use Rattle.law_world_windows.specs.Windowed.{PacketFits, PduFits, RefusesOn}
 
 -- ---- PDUs

@@ -1,15 +1,8 @@
 -- the rows of an out proxy refuse on os legs alone
-use Rattle.std.proofs.Common.{ℕ, List, rules}
-use Rattle.law_order.proofs.ByNumber.{by_test}
-use Rattle.rh_sig.specs.declared.named.Named.{Named}
-use Rattle.rh_line.specs.declared.leg.LegKind.{LegKind}
-use Rattle.rh_line.specs.declared.leg.LegKind.TheVariants.{ClientOut, OutServer, ClientIn, InServer}
-use Rattle.rh_shell.specs.declared.answers.Count.{Count}
-use Rattle.rh_outproxy.specs.Acknowledging.{on_pdu}
-use Rattle.rh_outproxy.specs.Machine.{on_co, on_os, packet, pdu, rules as proxy_rules}
-use Rattle.rh_outproxy.specs.OutProxy.{OutProxy}
-use Rattle.rh_outproxy.specs.Rows.{Done, is_co, is_os, unexpected}
-use Rattle.rh_nodes.specs.Settling.{leg_at}
+use Rattle.law_order.proofs.Vocabulary.{ℕ, List, rules}
+use Rattle.law_moves.proofs.Vocabulary.{by_test, Named, LegKind, ClientOut, OutServer, ClientIn, InServer, Count}
+use Rattle.law_node_history.proofs.Vocabulary.{leg_at}
+use Rattle.law_role_outproxy.proofs.Vocabulary.{on_pdu, on_co, on_os, packet, pdu, rules as proxy_rules, OutProxy, Done, is_co, is_os, unexpected}
 use Rattle.law_world_windows.specs.Windowed.{PacketFits, PduFits, RefusesOn}
 
 -- ---- PDUs

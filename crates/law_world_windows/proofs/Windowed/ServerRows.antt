@@ -1,13 +1,9 @@
 -- the rows of a server refuse for a window on is legs alone, and as out of range on os legs alone
-use Rattle.std.proofs.Common.{ℕ, List, rules}
-use Rattle.rh_sig.specs.declared.named.Named.{Named}
+use Rattle.law_order.proofs.Vocabulary.{ℕ, List, rules}
 use Rattle.rh_sig.specs.declared.named.Named.TheVariants as named
-use Rattle.rh_line.specs.declared.leg.LegKind.{LegKind}
-use Rattle.rh_line.specs.declared.leg.LegKind.TheVariants.{ClientOut, OutServer, ClientIn, InServer}
-use Rattle.rh_shell.specs.declared.answers.Count.{Count}
-use Rattle.rh_server.specs.Acknowledging.{on_pdu}
-use Rattle.rh_server.specs.Servers.{on_is, on_os, packet_by, pdu_by, rules as server_rules}
-use Rattle.rh_server.specs.States.{Server}
+use Rattle.rh_server.specs.Servers.{pdu_by}
+use Rattle.law_moves.proofs.Vocabulary.{Named, LegKind, ClientOut, OutServer, ClientIn, InServer, Count}
+use Rattle.law_role_server.proofs.Vocabulary.{on_pdu, on_is, on_os, packet_by, rules as server_rules, Server}
 use Rattle.law_world_windows.specs.Windowed.{PacketFits, PduFits, RefusesOn}
 
 in_pdu : (s : Server) (n : ℕ) (pdu : List ℕ) → PduFits InServer InServer (on_pdu s n pdu).1

@@ -11,7 +11,7 @@ ghost use Rattle.rh_inproxy.specs.Machine as in_proxy;
 ghost use Rattle.rh_outproxy.specs.Machine as out_proxy;
 ghost use Rattle.rh_client.specs.Client as client;
 ghost use Rattle.rh_server.specs.Servers as server;
-ghost use Rattle.rh_nodes.specs.declared.event.Event.{Event};
+ghost use Rattle.rh_company.specs.declared.event.Event.{Event};
 ghost use Rattle.law_node_causes.specs.Closings.{ClosesWith};
 ghost use Rattle.law_world_honest.specs.Honesty.Causes.{RowRefuses};
 ghost use Rattle.law_world_windows.specs.Windowed.{RefusesOn};

@@ -1,5 +1,5 @@
 -- what a pipe holds, and what its reader and its writer are answered
-use Rattle.std.specs.Prelude.{ℕ, ◌-◌, ◌==◌, min, if◌then◌else◌, List, length}
+use Rattle.std.specs.Prelude.{ℕ, ◌-◌, ◌==◌, min, Bool, true, false, if◌then◌else◌, List, length}
 use Rattle.rh_net.specs.declared.in_memory.pipe.TheConstants.{PIPE_ROOM}
 use Rattle.rh_net.specs.declared.in_memory.pipe.Side.{Side}
 use Rattle.rh_net.specs.declared.in_memory.pipe.Side.TheVariants.{There, Gone}
@@ -23,6 +23,16 @@ found_none Gone = finds.End
 abbrev pub found : Held → ℕ → Found
 found p room = if length p.bytes == 0 then found_none p.writer
     else finds.Bytes (min room (length p.bytes))
+
+-- a reader finds bytes, or the end
+abbrev pub is_some : Found → Bool
+is_some finds.Nothing = false
+is_some finds.End = true
+is_some (finds.Bytes n) = true
+
+-- a reader with any room finds bytes, or the end
+abbrev pub is_ready : Held → Bool
+is_ready p = is_some (found p 1)
 
 -- how many bytes a reader found
 abbrev pub count_found : Found → ℕ

@@ -1,27 +1,16 @@
 //! The board that several nets in memory share.
 
+ghost use Rattle.std.specs.Prelude.{◌≡◌, IfOk, vec_len};
+ghost use Rattle.std.specs.Arc.{arc_value};
+ghost use Rattle.rh_net.specs.Memory.Legs.{the_way, of_leg};
+
 use crate::Address;
 use crate::in_memory::callers::Callers;
 use crate::in_memory::lane::Lane;
+use crate::in_memory::two_ways::{Half, Party, TwoWays, ways_of};
 use rh_io::NoMemory;
 use std::alloc::Global;
 use std::sync::{Arc, Mutex, Wait};
-
-/// Who has an end of a leg.
-#[derive(Clone, Copy, Debug, PartialEq, Eq)]
-pub(crate) enum Party {
-    /// Who connected.
-    Caller,
-    /// Who accepted.
-    Callee,
-}
-
-// The two directions of a leg.
-#[derive(Drop)]
-struct Lanes {
-    to_callee: Lane,
-    to_caller: Lane,
-}
 
 /// Callers by the address that they connect to, and the legs between them and those who accept.
 ///
@@ -29,26 +18,20 @@ struct Lanes {
 #[derive(Drop)]
 pub struct Board {
     callers: Mutex<Callers>,
-    legs: Vec<Lanes>,
+    legs: Vec<TwoWays<Lane>>,
     // The leg of who accepts where nobody calls.
-    ended: Lanes,
+    ended: TwoWays<Lane>,
 }
 
 impl Board {
     /// A board for so many legs in all, each with 131,072 bytes. Past them nobody can connect.
-    pub fn new(alloc: Global, legs: u32) -> Result<Arc<Board, Global>, NoMemory> {
-        let room = legs as usize;
-        let mut lanes = Vec::with_capacity(alloc, room)?;
-        for _ in 0..legs {
-            lanes.push(Lanes {
-                to_callee: Lane::new(alloc)?,
-                to_caller: Lane::new(alloc)?,
-            })?;
-        }
+    pub fn new(alloc: Global, legs: u32) -> Result<Arc<Board, Global>, NoMemory>
+        ensures legs { IfOk result (λ board. vec_len (arc_value board).legs ≡ legs) }
+    {
         let board = Board {
-            callers: Mutex::new(Callers::new(alloc, room)?),
-            legs: lanes,
-            ended: Lanes {
+            callers: Mutex::new(Callers::new(alloc, legs as usize)?),
+            legs: new_legs(alloc, legs)?,
+            ended: TwoWays {
                 to_callee: Lane::ended(alloc)?,
                 to_caller: Lane::ended(alloc)?,
             },
@@ -66,28 +49,24 @@ impl Board {
         self.callers.lock(rt).answer(at)
     }
 
-    /// Where a party reads on a leg; with no leg, where it is at its end.
-    pub(crate) fn reads(&self, leg: Option<usize>, party: Party) -> &Lane {
-        let lanes = self.lanes(leg);
-        match party {
-            Party::Caller => &lanes.to_caller,
-            Party::Callee => &lanes.to_callee,
-        }
+    /// What a party's half of a leg reads or writes; of no leg, what has ended.
+    pub(crate) fn lane(&self, leg: Option<usize>, party: Party, half: Half) -> &Lane
+        ensures { result.now ≡ the_way (of_leg self.now.legs.items leg self.now.ended) party half }
+    {
+        ways_of(&self.legs, leg, &self.ended).of(party, half)
     }
+}
 
-    /// Where a party writes on a leg; with no leg, where nobody reads.
-    pub(crate) fn writes(&self, leg: Option<usize>, party: Party) -> &Lane {
-        let lanes = self.lanes(leg);
-        match party {
-            Party::Caller => &lanes.to_callee,
-            Party::Callee => &lanes.to_caller,
-        }
+// So many legs, each with two empty lanes.
+fn new_legs(alloc: Global, legs: u32) -> Result<Vec<TwoWays<Lane>>, NoMemory>
+    ensures { IfOk result (λ made. vec_len made ≡ legs) }
+{
+    let mut made = Vec::with_capacity(alloc, legs as usize)?;
+    for _leg in 0..legs {
+        made.push(TwoWays {
+            to_callee: Lane::new(alloc)?,
+            to_caller: Lane::new(alloc)?,
+        })?;
     }
-
-    fn lanes(&self, leg: Option<usize>) -> &Lanes {
-        match leg {
-            Some(place) => self.legs.get(place).unwrap_or(&self.ended),
-            None => &self.ended,
-        }
-    }
+    Ok(made)
 }

@@ -5,7 +5,8 @@ ghost use Rattle.std.specs.Prelude.{◌<◌, ◌≤◌, length, IfSome};
 use crate::in_memory::pipe::{Found, Pipe, Put};
 use rh_io::NoMemory;
 use std::alloc::Global;
-use std::sync::{Condvar, Mutex, Wait};
+use std::sync::{Condvar, CondvarTimeouts, Mutex, Wait};
+use std::time::{Clock, Duration};
 
 /// A pipe under a lock, at which its reader waits for bytes and its writer for room.
 #[derive(Drop)]
@@ -70,6 +71,16 @@ impl Lane {
             }
         }
         unreachable!()
+    }
+
+    /// Waits until a read won't wait, for `most` milliseconds at most. Answers whether it won't.
+    pub(crate) fn ready<R: Wait + Clock>(&self, rt: &R, most: u32) -> bool {
+        let most = Duration::from_millis(u64::from(most));
+        let pipe = self.pipe.lock(rt);
+        let (pipe, _) = self
+            .changed
+            .wait_timeout_while(rt, pipe, most, |pipe| !pipe.is_ready());
+        pipe.is_ready()
     }
 
     /// Ends the writer.

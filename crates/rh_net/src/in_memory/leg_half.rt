@@ -1,20 +1,13 @@
 //! One half of a party's end of a leg.
 
-ghost use Rattle.std.specs.Prelude.{◌<◌, ◌≤◌, length, IfSome};
+ghost use Rattle.std.specs.Prelude.{◌≡◌, ◌<◌, ◌≤◌, length, IfSome};
 
-use crate::in_memory::board::{Board, Party};
+use crate::in_memory::board::Board;
 use crate::in_memory::lane::Lane;
+use crate::in_memory::two_ways::{Half, Party};
 use std::alloc::Global;
 use std::sync::{Arc, Wait};
-
-/// Which half of an end it is.
-#[derive(Clone, Copy, Debug, PartialEq, Eq)]
-pub(crate) enum Half {
-    /// It reads what the other party wrote.
-    Reading,
-    /// It writes what the other party reads.
-    Writing,
-}
+use std::time::Clock;
 
 /// One half of a party's end of a leg. With no leg it is at its end, and nobody reads what it
 /// writes. To drop it ends it.
@@ -34,7 +27,10 @@ impl<R: Wait + Copy> LegHalf<R> {
         leg: Option<usize>,
         party: Party,
         half: Half,
-    ) -> LegHalf<R> {
+    ) -> LegHalf<R>
+        ensures { (result.leg ≡ leg) × (result.party ≡ party) × (result.half ≡ half)
+            × (result.board ≡ board) }
+    {
         LegHalf {
             rt,
             board,
@@ -60,6 +56,14 @@ impl<R: Wait + Copy> LegHalf<R> {
         self.lane().write(&self.rt, piece)
     }
 
+    /// Waits until a read won't wait, for `most` milliseconds at most. Answers whether it won't.
+    pub(crate) fn ready(&self, most: u32) -> bool
+    where
+        R: Clock,
+    {
+        self.lane().ready(&self.rt, most)
+    }
+
     /// Ends it: it reads, or writes, no further byte.
     pub(crate) fn end(&self) {
         match self.half {
@@ -69,10 +73,7 @@ impl<R: Wait + Copy> LegHalf<R> {
     }
 
     fn lane(&self) -> &Lane {
-        match self.half {
-            Half::Reading => self.board.reads(self.leg, self.party),
-            Half::Writing => self.board.writes(self.leg, self.party),
-        }
+        self.board.lane(self.leg, self.party, self.half)
     }
 }
 

@@ -1,16 +1,25 @@
 //! One role's hold of a board.
 
-ghost use Rattle.std.specs.Prelude.{◌≡◌, None, Some, reverse, IfSome, OnOk, OnErr, is_err};
-ghost use Rattle.rh_net.specs.Calls.{AreLater, CountsFault};
-ghost use Rattle.rh_net.specs.Failing.{fails_next};
+ghost use Rattle.std.specs.Prelude.{◌≡◌, ◌+◌, ◌<◌, ◌≤◌, [], None, Some, Ok, true, length, reverse};
+ghost use Rattle.std.specs.Prelude.{IfSome, IsOk, IfOk, OnOk, OnErr, is_err};
+ghost use Rattle.std.specs.Io.{ReadsAtMost};
+ghost use Rattle.rh_io.specs.Counts.{Rose};
+ghost use Rattle.rh_net.specs.Calls.{AreLater, CountsFault, GivesLeg, IsUnused};
+ghost use Rattle.rh_net.specs.Counts.{one_more};
+ghost use Rattle.rh_net.specs.Failing.{fails_next, fails_at};
+ghost use Rattle.rh_net.specs.Memory.Given.{AreHalves, TakesNext, TakesFails, party_of};
 
-use crate::in_memory::board::{Board, Party};
-use crate::in_memory::leg_half::{Half, LegHalf};
-use crate::{Address, FailingCalls, Net, NetCounts, NetFailed, ShutSink, ShutSource};
+use crate::in_memory::board::Board;
+use crate::in_memory::leg_half::LegHalf;
+use crate::in_memory::two_ways::{Half, Party};
+use crate::{
+    Address, FailingCalls, MemWay, Net, NetCall, NetCounts, NetFailed, Ready, ShutSink, ShutSource,
+};
 use rh_io::{NoMemory, Sink, SinkFailed, Source, SourceFailed};
 use std::alloc::Global;
 use std::sync::{Arc, Wait};
 use std::thread::yield_now;
+use std::time::Clock;
 
 /// The numbers of the reads and of the writes of one leg that are to fail, each counted from 1.
 #[derive(Drop)]
@@ -39,7 +48,24 @@ impl<R: Wait + Copy> Source for PipeSource<R> {
 
     ghost ends = { λ s. s.ends };
 
-    fn read(&mut self, room: &mut [u8]) -> Result<usize, SourceFailed> {
+    fn read(&mut self, room: &mut [u8]) -> Result<usize, SourceFailed>
+        ensures bound { ReadsAtMost result room.new }
+        ensures at_end { IfOk result (λ n. n ≡ 0 → 0 < length room.old
+            → Rose self.old.ends self.new.ends) }
+        ensures no_end { IfOk result (λ n. 0 < n → self.new.ends ≡ self.old.ends) }
+        ensures failed { OnErr result (Rose self.old.faults self.new.faults) }
+        ensures no_failure { OnOk result (self.new.faults ≡ self.old.faults) }
+        ensures no_end_at_failure { OnErr result (self.new.ends ≡ self.old.ends) }
+        ensures no_room { length room.old ≡ 0 → (result ≡ Ok 0)
+            × (self.new.faults ≡ self.old.faults) × (self.new.ends ≡ self.old.ends) }
+        ensures faults { self.old.faults ≤ self.new.faults }
+        ensures ends { self.old.ends ≤ self.new.ends }
+        ensures planned { is_err result ≡ fails_at (length room.old)
+            (fails_next self.old.fails.numbers.items self.old.fails.calls) }
+        ensures next { (self.new.fails.calls ≡ one_more self.old.fails.calls)
+            × (self.new.fails.numbers ≡ self.old.fails.numbers)
+            × (self.new.half ≡ self.old.half) }
+    {
         let is_to_fail = self.fails.next_fails();
         if room.is_empty() {
             return Ok(0);
@@ -55,6 +81,13 @@ impl<R: Wait + Copy> Source for PipeSource<R> {
                 Ok(0)
             }
         }
+    }
+}
+
+/// A read that is to fail doesn't wait.
+impl<R: Wait + Clock + Copy> Ready for PipeSource<R> {
+    fn ready(&mut self, most: u32) -> bool {
+        self.fails.is_next() || self.half.ready(most)
     }
 }
 
@@ -78,7 +111,21 @@ impl<R: Wait + Copy> Sink for PipeSink<R> {
 
     ghost faults = { λ s. s.faults };
 
-    fn write(&mut self, piece: &[u8]) -> Result<usize, SinkFailed> {
+    fn write(&mut self, piece: &[u8]) -> Result<usize, SinkFailed>
+        ensures bound { IfOk result (λ n. n ≤ length piece.now) }
+        ensures some { 0 < length piece.now → IfOk result (λ n. 0 < n) }
+        ensures failed { OnErr result (Rose self.old.faults self.new.faults) }
+        ensures no_failure { OnOk result (self.new.faults ≡ self.old.faults) }
+        ensures takes_on { IfOk result (λ n. 0 ≤ 0 + n) }
+        ensures no_piece { length piece.now ≡ 0 → result ≡ Ok 0 }
+        ensures faults { self.old.faults ≤ self.new.faults }
+        ensures planned { fails_at (length piece.now)
+            (fails_next self.old.fails.numbers.items self.old.fails.calls) ≡ true
+            → is_err result ≡ true }
+        ensures next { (self.new.fails.calls ≡ one_more self.old.fails.calls)
+            × (self.new.fails.numbers ≡ self.old.fails.numbers)
+            × (self.new.half ≡ self.old.half) }
+    {
         let is_to_fail = self.fails.next_fails();
         if piece.is_empty() {
             return Ok(0);
@@ -101,9 +148,9 @@ impl<R: Wait + Copy> ShutSink for PipeSink<R> {
 
 /// A net in memory: one role's hold of a board that several roles share.
 ///
-/// `connect` puts a caller on the board, and `accept` takes the first one to the address listened
-/// at; where there is none, it gives a leg whose source is at its end. It tells no streams taken
-/// back.
+/// A call to connect puts a caller on the board, and one to accept takes the first caller to the
+/// address listened at; where there is none, it gives a leg whose source is at its end. It tells no
+/// streams taken back.
 #[derive(Drop)]
 pub struct MemNet<R: Wait + Copy> {
     rt: R,
@@ -120,7 +167,7 @@ impl<R: Wait + Copy> MemNet<R> {
     ///
     /// `legs` has the calls that are to fail on each leg, in the order in which this net makes
     /// them; a leg that is given where nobody called takes none of them. `fails` has the numbers of
-    /// the calls of `connect`, `listen` and `accept` that fail, counted from 1 over all three.
+    /// the calls of `gives` and `listen` that fail, counted from 1 over both.
     pub fn new(rt: R, board: Arc<Board, Global>, legs: Vec<LegFails>, fails: Vec<u64>) -> MemNet<R>
         ensures legs { result.legs.items ≡ reverse legs.items }
         ensures asked { (result.fails.numbers ≡ fails) × (result.fails.calls ≡ 0) }
@@ -159,7 +206,13 @@ impl<R: Wait + Copy> MemNet<R> {
         party: Party,
     ) -> (PipeSource<R>, PipeSink<R>)
         ensures unused { (result.0.faults ≡ 0) × (result.0.ends ≡ 0) × (result.1.faults ≡ 0) }
-        ensures counts { self.new.counts ≡ self.old.counts }
+        ensures halves { (result.0.half.leg ≡ Some leg) × (result.1.half.leg ≡ Some leg)
+            × AreHalves party result.0.half.party result.1.half.party
+            result.0.half.half result.1.half.half }
+        ensures fails { TakesNext self.old.legs.items self.new.legs.items
+            result.0.fails.numbers result.1.fails.numbers }
+        ensures asked { (result.0.fails.calls ≡ 0) × (result.1.fails.calls ≡ 0) }
+        ensures same { self.new ≡ record self.old { legs = self.new.legs } }
     {
         let fails = match self.legs.pop() {
             Some(fails) => fails,
@@ -168,7 +221,9 @@ impl<R: Wait + Copy> MemNet<R> {
         self.streams(holds, Some(leg), party, fails)
     }
 
-    fn no_fails(&self) -> LegFails {
+    fn no_fails(&self) -> LegFails
+        ensures { (result.reads.items ≡ []) × (result.writes.items ≡ []) }
+    {
         let alloc = *self.legs.allocator();
         LegFails {
             reads: Vec::new(alloc),
@@ -183,7 +238,13 @@ impl<R: Wait + Copy> MemNet<R> {
         party: Party,
         fails: LegFails,
     ) -> (PipeSource<R>, PipeSink<R>)
-        ensures { (result.0.faults ≡ 0) × (result.0.ends ≡ 0) × (result.1.faults ≡ 0) }
+        ensures unused { (result.0.faults ≡ 0) × (result.0.ends ≡ 0) × (result.1.faults ≡ 0) }
+        ensures halves { (result.0.half.leg ≡ leg) × (result.1.half.leg ≡ leg)
+            × AreHalves party result.0.half.party result.1.half.party
+            result.0.half.half result.1.half.half }
+        ensures fails { (result.0.fails.numbers ≡ fails.reads)
+            × (result.1.fails.numbers ≡ fails.writes) }
+        ensures asked { (result.0.fails.calls ≡ 0) × (result.1.fails.calls ≡ 0) }
     {
         let LegFails { reads, writes } = fails;
         let source = PipeSource {
@@ -204,7 +265,14 @@ impl<R: Wait + Copy> MemNet<R> {
     fn call(&mut self, to: &Address) -> Option<(PipeSource<R>, PipeSink<R>)>
         ensures unused { IfSome result (λ leg.
             (leg.0.faults ≡ 0) × (leg.0.ends ≡ 0) × (leg.1.faults ≡ 0)) }
-        ensures counts { self.new.counts ≡ self.old.counts }
+        ensures halves { IfSome result (λ leg. (leg.1.half.leg ≡ leg.0.half.leg)
+            × AreHalves Party.Caller leg.0.half.party leg.1.half.party
+            leg.0.half.half leg.1.half.half) }
+        ensures fails { IfSome result (λ leg. TakesFails leg.0.half.leg
+            self.old.legs.items self.new.legs.items leg.0.fails.numbers leg.1.fails.numbers) }
+        ensures asked { IfSome result
+            (λ leg. (leg.0.fails.calls ≡ 0) × (leg.1.fails.calls ≡ 0)) }
+        ensures same { self.new ≡ record self.old { legs = self.new.legs } }
     {
         let holds = self.two_holds().ok()?;
         let leg = self.board.call(&self.rt, to)?;
@@ -216,7 +284,14 @@ impl<R: Wait + Copy> MemNet<R> {
     fn answer(&mut self) -> Option<(PipeSource<R>, PipeSink<R>)>
         ensures unused { IfSome result (λ leg.
             (leg.0.faults ≡ 0) × (leg.0.ends ≡ 0) × (leg.1.faults ≡ 0)) }
-        ensures counts { self.new.counts ≡ self.old.counts }
+        ensures halves { IfSome result (λ leg. (leg.1.half.leg ≡ leg.0.half.leg)
+            × AreHalves Party.Callee leg.0.half.party leg.1.half.party
+            leg.0.half.half leg.1.half.half) }
+        ensures fails { IfSome result (λ leg. TakesFails leg.0.half.leg
+            self.old.legs.items self.new.legs.items leg.0.fails.numbers leg.1.fails.numbers) }
+        ensures asked { IfSome result
+            (λ leg. (leg.0.fails.calls ≡ 0) × (leg.1.fails.calls ≡ 0)) }
+        ensures same { self.new ≡ record self.old { legs = self.new.legs } }
     {
         let at = self.listens_at?;
         let holds = self.two_holds().ok()?;
@@ -229,12 +304,35 @@ impl<R: Wait + Copy> MemNet<R> {
             }
         }
     }
+
+    // The leg of a call; `None` where there is none.
+    fn leg_for(&mut self, came: NetCall) -> Option<(PipeSource<R>, PipeSink<R>)>
+        ensures unused { IfSome result (λ leg.
+            (leg.0.faults ≡ 0) × (leg.0.ends ≡ 0) × (leg.1.faults ≡ 0)) }
+        ensures halves { IfSome result (λ leg. (leg.1.half.leg ≡ leg.0.half.leg)
+            × AreHalves (party_of came) leg.0.half.party leg.1.half.party
+            leg.0.half.half leg.1.half.half) }
+        ensures fails { IfSome result (λ leg. TakesFails leg.0.half.leg
+            self.old.legs.items self.new.legs.items leg.0.fails.numbers leg.1.fails.numbers) }
+        ensures asked { IfSome result
+            (λ leg. (leg.0.fails.calls ≡ 0) × (leg.1.fails.calls ≡ 0)) }
+        ensures same { self.new ≡ record self.old { legs = self.new.legs } }
+    {
+        match came {
+            NetCall::Connect(to) => self.call(&to),
+            NetCall::Accept => self.answer(),
+        }
+    }
 }
 
 impl<R: Wait + Copy> Net for MemNet<R> {
     type In = PipeSource<R>;
 
     type Out = PipeSink<R>;
+
+    type Came = NetCall;
+
+    type Way = MemWay;
 
     ghost counts = { λ n. n.counts };
 
@@ -248,9 +346,34 @@ impl<R: Wait + Copy> Net for MemNet<R> {
         self.counts.count_sink(sink.faults);
     }
 
-    fn connect(&mut self, to: &Address) -> Result<(PipeSource<R>, PipeSink<R>), NetFailed> {
+    fn way(&mut self) -> Result<MemWay, NetFailed>
+        ensures ok { OnOk result (self.new.counts ≡ self.old.counts) }
+        ensures err { OnErr result (CountsFault self.old.counts self.new.counts) }
+        ensures later { AreLater self.old.counts self.new.counts }
+        ensures same { IsOk result × (self.new ≡ self.old) }
+    {
+        Ok(MemWay)
+    }
+
+    fn gives(&mut self, came: NetCall) -> Result<(PipeSource<R>, PipeSink<R>), NetFailed>
+        ensures leg { GivesLeg result (IsUnused ⟦<PipeSource<R> as Source>⟧.taken
+            ⟦<PipeSource<R> as Source>⟧.faults ⟦<PipeSource<R> as Source>⟧.ends
+            ⟦<PipeSink<R> as Sink>⟧.written ⟦<PipeSink<R> as Sink>⟧.faults)
+            self.old.counts self.new.counts }
+        ensures halves { IfOk result (λ leg. (leg.1.half.leg ≡ leg.0.half.leg)
+            × AreHalves (party_of came) leg.0.half.party leg.1.half.party
+            leg.0.half.half leg.1.half.half) }
+        ensures leg_fails { IfOk result (λ leg. TakesFails leg.0.half.leg
+            self.old.legs.items self.new.legs.items leg.0.fails.numbers leg.1.fails.numbers) }
+        ensures asked { IfOk result (λ leg. (leg.0.fails.calls ≡ 0) × (leg.1.fails.calls ≡ 0)) }
+        ensures planned { fails_next self.old.fails.numbers.items self.old.fails.calls ≡ true
+            → is_err result ≡ true }
+        ensures next { (self.new.fails.calls ≡ one_more self.old.fails.calls)
+            × (self.new.fails.numbers ≡ self.old.fails.numbers)
+            × (self.new.board ≡ self.old.board) × (self.new.listens_at ≡ self.old.listens_at) }
+    {
         if !self.fails.next_fails() {
-            if let Some(leg) = self.call(to) {
+            if let Some(leg) = self.leg_for(came) {
                 self.counts.count_given();
                 return Ok(leg);
             }
@@ -274,16 +397,5 @@ impl<R: Wait + Copy> Net for MemNet<R> {
         }
         self.listens_at = Some(*at);
         Ok(())
-    }
-
-    fn accept(&mut self) -> Result<(PipeSource<R>, PipeSink<R>), NetFailed> {
-        if !self.fails.next_fails() {
-            if let Some(leg) = self.answer() {
-                self.counts.count_given();
-                return Ok(leg);
-            }
-        }
-        self.counts.count_fault();
-        Err(NetFailed)
     }
 }

@@ -62,7 +62,7 @@ impl Model for Pipe {
 }
 
 impl Pipe {
-    ghost use Rattle.rh_net.specs.Memory.Pipes.{found, count_found, put, count_put};
+    ghost use Rattle.rh_net.specs.Memory.Pipes.{found, count_found, is_ready, put, count_put};
 
     /// An empty pipe, with room for `PIPE_ROOM` bytes, whose writer and reader are there.
     pub fn new(alloc: Global) -> Result<Pipe, NoMemory>
@@ -93,6 +93,13 @@ impl Pipe {
             };
         }
         Found::Bytes(self.ring.read_into(room))
+    }
+
+    /// Whether a reader finds bytes, or the end.
+    pub fn is_ready(&self) -> bool
+        ensures { result ≡ is_ready self.now }
+    {
+        !self.ring.is_empty() || self.writer == Side::Gone
     }
 
     /// Writes the front of `piece` behind the bytes that are there, as many as fit.

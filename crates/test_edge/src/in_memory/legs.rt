@@ -1,15 +1,24 @@
-//! Legs over a board.
+//! Legs over a board, in one thread. Many a test is named by the mistake that it finds.
 
-use rh_io::{Sink, SinkFailed, Source, SourceFailed};
+use crate::steps::Act::*;
+use crate::steps::Call::*;
+use crate::steps::Side::*;
+use crate::steps::Step::*;
+use crate::steps::halves::Half::{Sink as OfSink, Source as OfSource};
+use crate::steps::{Nets, Step, Told};
 use rh_net::in_memory::*;
-use rh_net::{Address, Net, ShutSink, ShutSource};
-use std::alloc::{AllocError, Global};
+use rh_net::{Address, NetCounts};
+use std::alloc::Global;
+use std::process::Abort;
 use std::sync::{Arc, Wait};
 use std::test::*;
-use std::thread;
+use std::time::Clock;
 
-// How many bytes go each way.
-const COUNT: usize = 1_000_000;
+impl<R: Wait + Copy> Told for MemNet<R> {
+    fn told(&self) -> NetCounts {
+        self.counts()
+    }
+}
 
 // A net on a board, whose calls of these numbers fail, and on whose first leg these do.
 fn net<R: Wait + Copy>(
@@ -18,197 +27,196 @@ fn net<R: Wait + Copy>(
     board: &Arc<Board, Global>,
     fails: &[u64],
     of_leg: &[u64],
-) -> Result<MemNet<R>, AllocError> {
+) -> Option<MemNet<R>> {
     let mut legs = Vec::new(alloc);
-    legs.push(LegFails {
-        reads: Vec::from_slice(alloc, of_leg)?,
-        writes: Vec::from_slice(alloc, of_leg)?,
-    })?;
-    let fails = Vec::from_slice(alloc, fails)?;
-    Ok(MemNet::new(rt, Arc::try_clone(board)?, legs, fails))
+    let fails_of_leg = LegFails {
+        reads: Vec::from_slice(alloc, of_leg).ok()?,
+        writes: Vec::from_slice(alloc, of_leg).ok()?,
+    };
+    legs.push(fails_of_leg).ok()?;
+    let fails = Vec::from_slice(alloc, fails).ok()?;
+    Some(MemNet::new(rt, Arc::try_clone(board).ok()?, legs, fails))
 }
 
-// Two nets on a board for one leg, on which these calls of the first fail.
-fn two_nets<R: Wait + Copy>(
+/// Two nets on a board for so many legs. These calls of the caller's net fail, and these on its
+/// first leg.
+pub fn nets<R: Wait + Clock + Copy>(
     rt: R,
     alloc: Global,
+    legs: u32,
+    fails: &[u64],
     of_leg: &[u64],
-) -> Result<(MemNet<R>, MemNet<R>), AllocError> {
-    let board = Board::new(alloc, 1)?;
-    let first = net(rt, alloc, &board, &[], of_leg)?;
-    Ok((first, net(rt, alloc, &board, &[], &[])?))
+) -> Option<Nets<MemNet<R>>> {
+    let board = Board::new(alloc, legs).ok()?;
+    Some(Nets {
+        caller: net(rt, alloc, &board, fails, of_leg)?,
+        callee: net(rt, alloc, &board, &[], &[])?,
+        to: Address::new(b"here", 1)?,
+        legs: Vec::new(alloc),
+    })
 }
 
-// The calls of nets and streams, without their contracts: a test is proved sooner so.
-
-fn listens<N: Net>(net: &mut N) -> bool {
-    Address::new(b"here", 1).is_some_and(|here| net.listen(&here).is_ok())
-}
-
-fn connect<N: Net>(net: &mut N) -> Option<(N::In, N::Out)> {
-    net.connect(&Address::new(b"here", 1)?).ok()
-}
-
-fn accept<N: Net>(net: &mut N) -> Option<(N::In, N::Out)> {
-    net.accept().ok()
-}
-
-fn read<S: Source>(source: &mut S) -> (Result<usize, SourceFailed>, [u8; 4]) {
-    let mut room = [0u8; 4];
-    (source.read(&mut room), room)
-}
-
-fn write<S: Sink>(sink: &mut S, piece: &[u8]) -> Result<usize, SinkFailed> {
-    sink.write(piece)
-}
-
-// Writes so many bytes of 1, and shuts the sink. Answers how many went.
-fn write_all<S: ShutSink + Drop>(sink: S, count: usize) -> usize {
-    let mut sink = sink;
-    let piece = [1u8; 1000];
-    let mut left = count;
-    for _ in 0..count {
-        if left == 0 {
-            break;
-        }
-        let Ok(gone) = sink.write(&piece[..left.min(1000)]) else {
-            break;
-        };
-        left = left.saturating_sub(gone);
-    }
-    sink.shut();
-    count.saturating_sub(left)
-}
-
-// Reads to the end, and answers the sum of all bytes.
-fn read_all<S: Source + Drop>(source: S) -> usize {
-    let mut source = source;
-    let mut room = [0u8; 777];
-    let mut sum = 0usize;
-    for _ in 0..u64::MAX {
-        match source.read(&mut room) {
-            Ok(0) | Err(SourceFailed) => break,
-            Ok(count) => {
-                for byte in &room[..count] {
-                    sum = sum.saturating_add(usize::from(*byte));
-                }
-            }
-        }
-    }
-    sum
-}
-
-// Sends back what comes, to the end, and shuts its sink.
-fn echo<S: ShutSource + Drop, T: ShutSink + Drop>(leg: (S, T)) -> bool {
-    let (mut source, mut sink) = leg;
-    let mut room = [0u8; 3000];
-    for _ in 0..u64::MAX {
-        let Ok(count) = source.read(&mut room) else {
-            return false;
-        };
-        if count == 0 {
-            break;
-        }
-        if rh_io::write_whole(&mut sink, &room[..count]).is_err() {
-            return false;
-        }
-    }
-    sink.shut();
-    source.shut();
-    true
+// Plays steps at two such nets.
+fn play<R: Abort + Wait + Clock + Copy>(
+    rt: R,
+    alloc: Global,
+    legs: u32,
+    fails: &[u64],
+    of_leg: &[u64],
+    steps: &[Step],
+) {
+    let mut nets = nets(rt, alloc, legs, fails, of_leg).expect(&rt, "nets");
+    let wrong = nets.first_wrong(steps);
+    assert_eq!(rt; wrong, None, "{fails:?}");
 }
 
 #[test]
-fn threads_move_a_megabyte_each_way_over_a_leg(rt: HostRuntime) -> Result<(), Fail> {
-    let (mut client, mut server) = two_nets(rt, rt.alloc(), &[])?;
-    assert!(rt; listens(&mut server));
-    let (source, sink) = connect(&mut client).expect(&rt, "a leg");
-    let leg = accept(&mut server).expect(&rt, "its other end");
-    let writer = thread::spawn(&rt, move || write_all(sink, COUNT))?;
-    let echoer = thread::spawn(&rt, move || echo(leg))?;
-    assert_eq!(rt; read_all(source), COUNT);
-    assert_eq!(rt; writer.join(&rt), COUNT);
-    assert!(rt; echoer.join(&rt));
-    Ok(())
+fn a_board_that_is_full_takes_no_caller(rt: HostRuntime) {
+    const STEPS: [Step; 9] = [
+        At(Caller, FailsToAccept),
+        At(Caller, Listens),
+        At(Caller, Connects),
+        At(Caller, FailsToConnect),
+        At(Caller, Accepts),
+        At(Caller, Accepts),
+        On(2, WouldNotWait),
+        On(2, FindsEnd),
+        On(2, FailsToWrite),
+    ];
+    play(rt, rt.alloc(), 1, &[], &[], &STEPS);
 }
 
 #[test]
-fn a_write_to_a_full_pipe_fails_once_the_reader_goes(rt: HostRuntime) -> Result<(), Fail> {
-    let (mut client, mut server) = two_nets(rt, rt.alloc(), &[])?;
-    assert!(rt; listens(&mut server));
-    let (_, sink) = connect(&mut client).expect(&rt, "a leg");
-    let (mut source, _) = accept(&mut server).expect(&rt, "its other end");
-    let writer = thread::spawn(&rt, move || write_all(sink, COUNT))?;
-    assert_eq!(rt; read(&mut source), (Ok(4), [1; 4]));
-    source.shut();
-    let written = writer.join(&rt);
-    assert!(rt; written <= PIPE_ROOM + 4, "{written}");
-    Ok(())
+fn finds_failures_of_a_net_that_are_planned_and_ignored(rt: HostRuntime) {
+    const STEPS: [[Step; 4]; 4] = [
+        [
+            At(Caller, FailsToListen),
+            At(Caller, Connects),
+            At(Caller, FailsToAccept),
+            At(Caller, Counts(2, 1, 0, 0)),
+        ],
+        [
+            At(Caller, Listens),
+            At(Caller, FailsToConnect),
+            At(Caller, Accepts),
+            At(Caller, Counts(1, 1, 0, 0)),
+        ],
+        [
+            At(Caller, Listens),
+            At(Caller, Connects),
+            At(Caller, FailsToAccept),
+            At(Caller, Counts(1, 1, 0, 0)),
+        ],
+        [
+            At(Caller, Listens),
+            At(Caller, Connects),
+            At(Caller, Accepts),
+            At(Caller, Counts(0, 2, 0, 0)),
+        ],
+    ];
+    play(rt, rt.alloc(), 1, &[1], &[], &STEPS[0]);
+    play(rt, rt.alloc(), 1, &[2], &[], &STEPS[1]);
+    play(rt, rt.alloc(), 1, &[3], &[], &STEPS[2]);
+    play(rt, rt.alloc(), 1, &[4], &[], &STEPS[3]);
 }
 
 #[test]
-fn a_board_that_is_full_takes_no_caller(rt: HostRuntime) -> Result<(), Fail> {
-    let board = Board::new(rt.alloc(), 1)?;
-    let mut net = net(rt, rt.alloc(), &board, &[], &[])?;
-    assert!(rt; accept(&mut net).is_none());
-    assert!(rt; listens(&mut net));
-    assert!(rt; connect(&mut net).is_some());
-    assert!(rt; connect(&mut net).is_none());
-    assert!(rt; accept(&mut net).is_some());
-    let (mut source, mut sink) = accept(&mut net).expect(&rt, "an end");
-    assert_eq!(rt; read(&mut source), (Ok(0), [0; 4]));
-    assert_eq!(rt; write(&mut sink, b"x"), Err(SinkFailed));
-    Ok(())
+fn finds_failures_of_a_leg_that_are_planned_and_ignored(rt: HostRuntime) {
+    const STEPS: [Step; 16] = [
+        At(Callee, Listens),
+        At(Caller, Connects),
+        At(Callee, Accepts),
+        On(0, Writes(b"one")),
+        On(0, FailsToWrite),
+        On(1, Reads(b"one")),
+        On(1, Writes(b"two")),
+        On(0, Reads(b"two")),
+        On(0, WouldNotWait),
+        On(0, FailsToRead),
+        At(Caller, TakesBack(0, OfSink)),
+        On(1, FindsEnd),
+        At(Caller, TakesBack(0, OfSource)),
+        At(Callee, TakesBack(1, OfSource)),
+        At(Caller, Counts(0, 1, 2, 0)),
+        At(Callee, Counts(0, 1, 0, 1)),
+    ];
+    play(rt, rt.alloc(), 1, &[], &[2], &STEPS);
 }
 
 #[test]
-fn each_call_of_a_net_fails_in_turn_and_is_counted(rt: HostRuntime) -> Result<(), Fail> {
-    for failing in 1..=4u64 {
-        let board = Board::new(rt.alloc(), 1)?;
-        let mut net = net(rt, rt.alloc(), &board, &[failing], &[])?;
-        assert_eq!(rt; listens(&mut net), failing != 1, "listen, {failing}");
-        assert_eq!(rt;
-            connect(&mut net).is_some(),
-            failing != 2,
-            "connect, {failing}"
-        );
-        let accepts = failing != 1 && failing != 3;
-        assert_eq!(rt; accept(&mut net).is_some(), accepts, "accept, {failing}");
-        let faults = if failing == 1 {
-            2
-        } else {
-            u64::from(failing < 4)
-        };
-        assert_eq!(rt; net.counts().faults, faults, "{failing}");
-        assert_eq!(rt;
-            net.counts().given,
-            if failing == 4 { 2 } else { 1 },
-            "{failing}"
-        );
-    }
-    Ok(())
+fn finds_a_short_write_that_is_told_as_whole(rt: HostRuntime) {
+    const STEPS: [Step; 5] = [
+        At(Callee, Listens),
+        At(Caller, Connects),
+        At(Callee, Accepts),
+        On(0, WritesOf(40_000, 40_000)),
+        On(0, WritesOf(40_000, 25_536)),
+    ];
+    play(rt, rt.alloc(), 1, &[], &[], &STEPS);
 }
 
 #[test]
-fn calls_of_a_leg_fail_where_asked_and_are_counted_by_its_net(rt: HostRuntime) -> Result<(), Fail> {
-    let (mut client, mut server) = two_nets(rt, rt.alloc(), &[2])?;
-    assert!(rt; listens(&mut server));
-    let (source, mut sink) = connect(&mut client).expect(&rt, "a leg");
-    let (mut inner, _) = accept(&mut server).expect(&rt, "its other end");
-    assert_eq!(rt; write(&mut sink, b"one"), Ok(3));
-    assert_eq!(rt; write(&mut sink, b"two"), Err(SinkFailed));
-    assert_eq!(rt; read(&mut inner), (Ok(3), *b"one\0"));
-    client.back_out(sink);
-    assert_eq!(rt; read(&mut inner), (Ok(0), [0; 4]));
-    client.back_in(source);
-    server.back_in(inner);
-    assert_eq!(rt;
-        (client.counts().leg_faults, client.counts().leg_ends),
-        (1, 0)
-    );
-    assert_eq!(rt;
-        (server.counts().leg_faults, server.counts().leg_ends),
-        (0, 1)
-    );
-    Ok(())
+fn finds_a_party_that_reads_its_own_bytes(rt: HostRuntime) {
+    const STEPS: [Step; 10] = [
+        At(Callee, Listens),
+        At(Caller, Connects),
+        At(Callee, Accepts),
+        On(0, Writes(b"ping")),
+        On(0, WouldWait),
+        On(1, WouldNotWait),
+        On(1, Reads(b"ping")),
+        On(1, Writes(b"pong")),
+        On(1, WouldWait),
+        On(0, Reads(b"pong")),
+    ];
+    play(rt, rt.alloc(), 1, &[], &[], &STEPS);
+}
+
+#[test]
+fn finds_one_lane_for_all_legs(rt: HostRuntime) {
+    const STEPS: [Step; 9] = [
+        At(Callee, Listens),
+        At(Caller, Connects),
+        At(Caller, Connects),
+        At(Callee, Accepts),
+        At(Callee, Accepts),
+        On(0, Writes(b"one")),
+        On(1, Writes(b"two")),
+        On(3, Reads(b"two")),
+        On(2, Reads(b"one")),
+    ];
+    play(rt, rt.alloc(), 2, &[], &[], &STEPS);
+}
+
+#[test]
+fn finds_a_shut_that_ends_both_ways(rt: HostRuntime) {
+    const STEPS: [Step; 9] = [
+        At(Callee, Listens),
+        At(Caller, Connects),
+        At(Callee, Accepts),
+        On(0, Shuts(OfSink)),
+        On(1, FindsEnd),
+        On(1, Writes(b"pong")),
+        On(0, Reads(b"pong")),
+        On(0, Shuts(OfSource)),
+        On(1, FailsToWrite),
+    ];
+    play(rt, rt.alloc(), 1, &[], &[], &STEPS);
+}
+
+#[test]
+fn finds_a_leg_that_ends_nothing_when_it_is_dropped(rt: HostRuntime) {
+    const STEPS: [Step; 10] = [
+        At(Callee, Listens),
+        At(Caller, Connects),
+        At(Callee, Accepts),
+        On(0, Writes(b"last")),
+        On(0, Drops(OfSink)),
+        On(1, Reads(b"last")),
+        On(1, FindsEnd),
+        On(1, Writes(b"pong")),
+        On(0, Drops(OfSource)),
+        On(1, FailsToWrite),
+    ];
+    play(rt, rt.alloc(), 1, &[], &[], &STEPS);
 }

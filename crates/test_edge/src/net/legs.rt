@@ -2,9 +2,16 @@
 
 ghost use Rattle.std.specs.Prelude.{◌≡◌, [], Some, IfOk};
 
-use rh_io::{MemSink, MemSource, NoMemory, Sink, SinkFailed, Source, SourceFailed};
+use crate::steps::Act::*;
+use crate::steps::Call::*;
+use crate::steps::Side::Caller;
+use crate::steps::Step::*;
+use crate::steps::halves::Half::{Sink as OfSink, Source as OfSource};
+use crate::steps::{Nets, Step, Told};
+use rh_io::{MemSink, MemSource, NoMemory, Sink, Source};
 use rh_net::*;
 use std::alloc::Global;
+use std::process::Abort;
 use std::test::*;
 
 type Legs = Vec<(MemSource, MemSink)>;
@@ -28,110 +35,123 @@ fn script(alloc: Global, fails: &[u64]) -> Result<ScriptNet, NoMemory> {
     ScriptNet::new(alloc, connects, accepts, Vec::from_slice(alloc, fails)?)
 }
 
-// The calls of a net, without their contracts: a test is proved sooner so.
-
-fn listens(net: &mut ScriptNet) -> bool {
-    Address::new(b"here", 1).is_some_and(|here| net.listen(&here).is_ok())
-}
-
-fn connect(net: &mut ScriptNet) -> Option<(ScriptSource, ScriptSink)> {
-    net.connect(&Address::new(b"here", 1)?).ok()
-}
-
-fn accept(net: &mut ScriptNet) -> Option<(ScriptSource, ScriptSink)> {
-    net.accept().ok()
-}
-
-fn read(source: &mut ScriptSource) -> (Result<usize, SourceFailed>, [u8; 4]) {
-    let mut room = [0u8; 4];
-    (source.read(&mut room), room)
-}
-
-fn write(sink: &mut ScriptSink, piece: &[u8]) -> Result<usize, SinkFailed> {
-    sink.write(piece)
-}
-
-fn hand_back(net: &mut ScriptNet, leg: (ScriptSource, ScriptSink)) -> NetCounts {
-    let (mut source, mut sink) = leg;
-    source.shut();
-    sink.shut();
-    net.back_in(source);
-    net.back_out(sink);
-    net.counts()
-}
-
-#[test]
-fn a_script_gives_its_legs_in_order_and_then_fails_or_gives_an_end(
-    rt: HostRuntime,
-) -> Result<(), Fail> {
-    let mut net = script(rt.alloc(), &[])?;
-    let (mut outer, _) = connect(&mut net).expect(&rt, "the first to connect");
-    assert!(rt; connect(&mut net).is_none());
-    let (mut inner, _) = accept(&mut net).expect(&rt, "the first to accept");
-    let (mut end, mut nowhere) = accept(&mut net).expect(&rt, "an end");
-    assert_eq!(rt; read(&mut outer), (Ok(3), *b"out\0"));
-    assert_eq!(rt; read(&mut inner), (Ok(2), *b"in\0\0"));
-    assert_eq!(rt; read(&mut end), (Ok(0), *b"\0\0\0\0"));
-    assert_eq!(rt; write(&mut nowhere, b"x"), Err(SinkFailed));
-    Ok(())
-}
-
-#[test]
-fn each_call_of_a_script_fails_in_turn_and_is_counted(rt: HostRuntime) -> Result<(), Fail> {
-    for failing in 1..=4u64 {
-        let mut net = script(rt.alloc(), &[failing])?;
-        assert_eq!(rt; listens(&mut net), failing != 1, "listen, {failing}");
-        assert_eq!(rt;
-            connect(&mut net).is_some(),
-            failing != 2,
-            "connect, {failing}"
-        );
-        assert_eq!(rt;
-            accept(&mut net).is_some(),
-            failing != 3,
-            "accept, {failing}"
-        );
-        let counts = NetCounts {
-            faults: u64::from(failing < 4),
-            given: if failing == 2 || failing == 3 { 1 } else { 2 },
-            leg_faults: 0,
-            leg_ends: 0,
-        };
-        assert_eq!(rt; net.counts(), counts, "{failing}");
+impl Told for ScriptNet {
+    fn told(&self) -> NetCounts {
+        self.counts()
     }
-    Ok(())
 }
 
-#[test]
-fn a_script_tells_what_is_handed_back_while_there_is_room(rt: HostRuntime) -> Result<(), Fail> {
-    let mut net = script(rt.alloc(), &[])?;
-    let (mut source, mut sink) = connect(&mut net).expect(&rt, "a leg");
-    assert_eq!(rt; read(&mut source), (Ok(3), *b"out\0"));
-    assert_eq!(rt; read(&mut source), (Err(SourceFailed), *b"\0\0\0\0"));
-    assert_eq!(rt; read(&mut source), (Ok(0), *b"\0\0\0\0"));
-    assert_eq!(rt; write(&mut sink, b"hello"), Ok(4));
-    assert_eq!(rt; write(&mut sink, b"o"), Err(SinkFailed));
-    let counts = NetCounts {
-        faults: 0,
-        given: 1,
-        leg_faults: 2,
-        leg_ends: 1,
-    };
-    assert_eq!(rt; hand_back(&mut net, (source, sink)), counts);
-    for turn in 0..2u8 {
-        assert_eq!(rt; told(&net), Some((1, 1, 1, 4)), "{turn}");
-        let leg = accept(&mut net).expect(&rt, "a leg");
-        hand_back(&mut net, leg);
-    }
-    assert_eq!(rt; told(&net), None);
-    Ok(())
+// Such a net as the caller's. The callee's isn't asked.
+fn nets(alloc: Global, fails: &[u64]) -> Option<Nets<ScriptNet>> {
+    Some(Nets {
+        caller: script(alloc, fails).ok()?,
+        callee: script(alloc, &[]).ok()?,
+        to: Address::new(b"here", 1)?,
+        legs: Vec::new(alloc),
+    })
 }
 
-// Of the first streams handed back: faults and ends of the source, faults and bytes of the sink.
+// Plays steps at such nets. Answers what the caller's tells of the first streams handed back:
+// faults and ends of the source, faults and bytes of the sink.
+fn play<R: Abort + Copy>(
+    rt: R,
+    alloc: Global,
+    fails: &[u64],
+    steps: &[Step],
+) -> Option<(u64, u64, u64, usize)> {
+    let mut nets = nets(alloc, fails).expect(&rt, "nets");
+    let wrong = nets.first_wrong(steps);
+    assert_eq!(rt; wrong, None, "{fails:?}");
+    told(&nets.caller)
+}
+
 fn told(net: &ScriptNet) -> Option<(u64, u64, u64, usize)> {
     let backs = net.backs()?;
     let source = backs.sources().first()?;
     let sink = backs.sinks().first()?;
     let written = sink.written().len();
     Some((source.faults(), source.ends(), sink.faults(), written))
+}
+
+#[test]
+fn a_script_gives_its_legs_in_order_and_then_fails_or_gives_an_end(rt: HostRuntime) {
+    const STEPS: [Step; 9] = [
+        At(Caller, Connects),
+        At(Caller, FailsToConnect),
+        At(Caller, Accepts),
+        At(Caller, Accepts),
+        On(0, Reads(b"out")),
+        On(1, Reads(b"in")),
+        On(2, WouldNotWait),
+        On(2, FindsEnd),
+        On(2, FailsToWrite),
+    ];
+    play(rt, rt.alloc(), &[], &STEPS);
+}
+
+#[test]
+fn each_call_of_a_script_fails_in_turn_and_is_counted(rt: HostRuntime) {
+    const STEPS: [[Step; 4]; 4] = [
+        [
+            At(Caller, FailsToListen),
+            At(Caller, Connects),
+            At(Caller, Accepts),
+            At(Caller, Counts(1, 2, 0, 0)),
+        ],
+        [
+            At(Caller, Listens),
+            At(Caller, FailsToConnect),
+            At(Caller, Accepts),
+            At(Caller, Counts(1, 1, 0, 0)),
+        ],
+        [
+            At(Caller, Listens),
+            At(Caller, Connects),
+            At(Caller, FailsToAccept),
+            At(Caller, Counts(1, 1, 0, 0)),
+        ],
+        [
+            At(Caller, Listens),
+            At(Caller, Connects),
+            At(Caller, Accepts),
+            At(Caller, Counts(0, 2, 0, 0)),
+        ],
+    ];
+    play(rt, rt.alloc(), &[1], &STEPS[0]);
+    play(rt, rt.alloc(), &[2], &STEPS[1]);
+    play(rt, rt.alloc(), &[3], &STEPS[2]);
+    play(rt, rt.alloc(), &[4], &STEPS[3]);
+}
+
+#[test]
+fn a_script_tells_what_is_handed_back_while_there_is_room(rt: HostRuntime) {
+    const STEPS: [Step; 21] = [
+        At(Caller, Connects),
+        On(0, Reads(b"out")),
+        On(0, FailsToRead),
+        On(0, FindsEnd),
+        On(0, WritesOf(5, 4)),
+        On(0, FailsToWrite),
+        On(0, Shuts(OfSource)),
+        On(0, Shuts(OfSink)),
+        At(Caller, TakesBack(0, OfSource)),
+        At(Caller, TakesBack(0, OfSink)),
+        At(Caller, Counts(0, 1, 2, 1)),
+        At(Caller, Accepts),
+        On(1, Shuts(OfSource)),
+        On(1, Shuts(OfSink)),
+        At(Caller, TakesBack(1, OfSource)),
+        At(Caller, TakesBack(1, OfSink)),
+        At(Caller, Accepts),
+        On(2, Shuts(OfSource)),
+        On(2, Shuts(OfSink)),
+        At(Caller, TakesBack(2, OfSource)),
+        At(Caller, TakesBack(2, OfSink)),
+    ];
+    let told = [
+        play(rt, rt.alloc(), &[], &STEPS[..11]),
+        play(rt, rt.alloc(), &[], &STEPS[..16]),
+        play(rt, rt.alloc(), &[], &STEPS),
+    ];
+    assert_eq!(rt; told, [Some((1, 1, 1, 4)), Some((1, 1, 1, 4)), None]);
 }

@@ -1,102 +1,182 @@
-//! Legs over loopback.
+//! Legs over loopback. Many a test is named by the mistake that it finds.
 
-use rh_io::{Sink, SinkFailed, Source, SourceFailed};
-use rh_net::{Address, Net, NetCounts, ShutSink, ShutSource};
+use crate::steps::Act::*;
+use crate::steps::Call::*;
+use crate::steps::Side::*;
+use crate::steps::Step::*;
+use crate::steps::halves::Half::{Sink as OfSink, Source as OfSource};
+use crate::steps::halves::{drain, fill};
+use crate::steps::{Nets, Step, Told};
+use rh_net::{Address, Net, NetCounts, Ready};
 use rh_tcp::*;
+use std::alloc::Global;
 use std::net::{self as sockets, TcpListener, TcpStream};
+use std::process::Abort;
 use std::test::*;
-use std::time::Instant;
+use std::time::{Clock, Instant};
 
-const HOST: &[u8] = b"127.0.0.1";
+const LOOPBACK: &[u8] = b"127.0.0.1";
 
-// The calls of nets and streams, without their contracts: a test is proved sooner so.
-
-fn listens<N: Net>(net: &mut N, host: &[u8], port: u16) -> bool {
-    Address::new(host, port).is_some_and(|at| net.listen(&at).is_ok())
-}
-
-fn connect<N: Net>(net: &mut N, host: &[u8], port: u16) -> Option<(N::In, N::Out)> {
-    net.connect(&Address::new(host, port)?).ok()
-}
-
-fn accept<N: Net>(net: &mut N) -> Option<(N::In, N::Out)> {
-    net.accept().ok()
-}
-
-fn read<S: Source>(source: &mut S) -> (Result<usize, SourceFailed>, [u8; 4]) {
-    let mut room = [0u8; 4];
-    (source.read(&mut room), room)
-}
-
-fn write<S: Sink>(sink: &mut S, piece: &[u8]) -> Result<usize, SinkFailed> {
-    sink.write(piece)
-}
-
-// A net that listens at a port of loopback, and that port.
-fn listener<R: sockets::Net<Listener = TcpListener, Stream = TcpStream> + Copy>(
-    rt: R,
-) -> Option<(TcpNet<R>, u16)> {
-    let mut net = TcpNet::new(rt);
-    if !listens(&mut net, HOST, 0) {
-        return None;
+impl<R: sockets::Net<Listener = TcpListener, Stream = TcpStream> + Copy> Told for TcpNet<R> {
+    fn told(&self) -> NetCounts {
+        self.counts()
     }
-    let port = net.port()?;
-    Some((net, port))
+}
+
+// Where the caller's calls go.
+#[derive(Clone, Copy)]
+enum To {
+    // To the port of the callee, at a host.
+    Callee(&'static [u8]),
+    // To a port at which nobody listens any more.
+    Nobody,
+}
+
+// A net that connects, and one that listens at a port of loopback. The writes of both wait for so
+// many milliseconds at most.
+fn nets<R: sockets::Net<Listener = TcpListener, Stream = TcpStream> + Copy>(
+    rt: R,
+    alloc: Global,
+    to: To,
+    write_wait: u32,
+) -> Option<Nets<TcpNet<R>>> {
+    let mut callee = TcpNet::with_write_wait(rt, write_wait);
+    callee.listen(&Address::new(LOOPBACK, 0)?).ok()?;
+    let port = callee.port()?;
+    let host = match to {
+        To::Callee(host) => host,
+        To::Nobody => {
+            callee = TcpNet::new(rt);
+            LOOPBACK
+        }
+    };
+    Some(Nets {
+        caller: TcpNet::with_write_wait(rt, write_wait),
+        callee,
+        to: Address::new(host, port)?,
+        legs: Vec::new(alloc),
+    })
+}
+
+// Plays steps at such nets.
+fn play<R: Abort + sockets::Net<Listener = TcpListener, Stream = TcpStream> + Copy>(
+    rt: R,
+    alloc: Global,
+    to: To,
+    steps: &[Step],
+) {
+    let mut nets = nets(rt, alloc, to, WRITE_WAIT).expect(&rt, "nets");
+    let wrong = nets.first_wrong(steps);
+    assert_eq!(rt; wrong, None);
 }
 
 #[test]
-fn bytes_go_both_ways_and_half_a_leg_can_end(rt: HostRuntime) {
-    let (mut server, port) = listener(rt).expect(&rt, "a listener");
-    let mut client = TcpNet::new(rt);
-    let (mut source, mut sink) = connect(&mut client, b"localhost", port).expect(&rt, "a leg");
-    let (mut inner, mut outer) = accept(&mut server).expect(&rt, "its other end");
-    assert_eq!(rt; write(&mut sink, b"ping"), Ok(4));
-    assert_eq!(rt; read(&mut inner), (Ok(4), *b"ping"));
-    sink.shut();
-    assert_eq!(rt; read(&mut inner), (Ok(0), [0; 4]));
-    assert_eq!(rt; write(&mut outer, b"pong"), Ok(4));
-    assert_eq!(rt; read(&mut source), (Ok(4), *b"pong"));
-    server.back_in(inner);
-    assert_eq!(rt; server.counts().leg_ends, 1);
+fn finds_a_shut_that_ends_both_ways(rt: HostRuntime) {
+    const STEPS: [Step; 13] = [
+        At(Caller, Connects),
+        At(Callee, Accepts),
+        On(1, WouldWait),
+        On(0, Writes(b"ping")),
+        On(1, WouldNotWait),
+        On(1, Reads(b"ping")),
+        On(0, Shuts(OfSink)),
+        On(1, WouldNotWait),
+        On(1, FindsEnd),
+        On(1, Writes(b"pong")),
+        On(0, Reads(b"pong")),
+        At(Callee, TakesBack(1, OfSource)),
+        At(Callee, Counts(0, 1, 0, 1)),
+    ];
+    play(rt, rt.alloc(), To::Callee(b"localhost"), &STEPS);
 }
 
 #[test]
-fn a_source_ends_five_seconds_after_its_sink_was_shut(rt: HostRuntime) -> Result<(), Fail> {
-    let (mut server, port) = listener(rt).expect(&rt, "a listener");
-    let mut client = TcpNet::new(rt);
-    let (mut source, mut sink) = connect(&mut client, HOST, port).expect(&rt, "a leg");
-    let (_inner, mut outer) = accept(&mut server).expect(&rt, "its other end");
-    assert_eq!(rt; write(&mut outer, b"last"), Ok(4));
-    sink.shut();
-    assert_eq!(rt; read(&mut source), (Ok(4), *b"last"));
-    let start = Instant::now(&rt)?;
-    assert_eq!(rt; read(&mut source), (Ok(0), [0; 4]));
-    let waited = start.elapsed(&rt)?.as_millis();
-    assert!(rt; 4_500 <= waited && waited <= 6_500, "{waited}");
-    Ok(())
+fn finds_a_port_whose_bytes_are_swapped(rt: HostRuntime) {
+    const STEPS: [Step; 5] = [
+        At(Caller, FailsToListen),
+        At(Caller, Connects),
+        At(Callee, Accepts),
+        On(0, Writes(b"here")),
+        On(1, Reads(b"here")),
+    ];
+    play(rt, rt.alloc(), To::Callee(LOOPBACK), &STEPS);
 }
 
 #[test]
 fn failures_are_counted(rt: HostRuntime) {
-    let (mut server, port) = listener(rt).expect(&rt, "a listener");
-    let mut other = TcpNet::new(rt);
-    assert!(rt; accept(&mut other).is_none());
-    assert!(rt; !listens(&mut other, HOST, port), "an address in use");
-    assert!(rt; !listens(&mut other, b"\xff", port), "no host");
-    assert_eq!(rt; other.counts().faults, 3);
-    let (mut end, mut nowhere) = accept(&mut server).expect(&rt, "a leg of nobody");
-    assert_eq!(rt; read(&mut end), (Ok(0), [0; 4]));
-    assert_eq!(rt; write(&mut nowhere, b"x"), Err(SinkFailed));
-    drop(server);
-    assert!(rt;
-        connect(&mut other, HOST, port).is_none(),
-        "a refused connection"
-    );
-    let counts = NetCounts {
-        faults: 4,
-        given: 0,
-        leg_faults: 0,
-        leg_ends: 0,
-    };
-    assert_eq!(rt; other.counts(), counts);
+    const IN_USE: [Step; 4] = [
+        At(Callee, MeetsNobody),
+        At(Caller, FailsToAccept),
+        At(Caller, FailsToListen),
+        At(Caller, Counts(2, 0, 0, 0)),
+    ];
+    const NO_HOST: [Step; 2] = [At(Caller, FailsToListen), At(Caller, Counts(1, 0, 0, 0))];
+    const REFUSED: [Step; 2] = [At(Caller, FailsToConnect), At(Caller, Counts(1, 0, 0, 0))];
+    play(rt, rt.alloc(), To::Callee(LOOPBACK), &IN_USE);
+    play(rt, rt.alloc(), To::Callee(b"\xff"), &NO_HOST);
+    play(rt, rt.alloc(), To::Nobody, &REFUSED);
+}
+
+// How many milliseconds the end of a leg's source takes to come, once its sink was shut and it was
+// read up to there.
+fn wait_for_end<C: Clock, N: Told + Drop>(clock: &C, nets: Option<Nets<N>>) -> Option<u128>
+where
+    N::In: Ready + Drop,
+    N::Out: Drop,
+{
+    const STEPS: [Step; 5] = [
+        At(Caller, Connects),
+        At(Callee, Accepts),
+        On(1, Writes(b"last")),
+        On(0, Shuts(OfSink)),
+        On(0, Reads(b"last")),
+    ];
+    let mut nets = nets?;
+    let wrong = nets.first_wrong(&STEPS);
+    let start = Instant::now(clock).ok()?;
+    let wrong_end = nets.first_wrong(&[On(0, FindsEnd)]);
+    let waited = start.elapsed(clock).ok()?.as_millis();
+    match (wrong, wrong_end) {
+        (None, None) => Some(waited),
+        _ => None,
+    }
+}
+
+#[test]
+fn a_source_ends_five_seconds_after_its_sink_was_shut(rt: HostRuntime) {
+    let nets = nets(rt, rt.alloc(), To::Callee(LOOPBACK), WRITE_WAIT);
+    let waited = wait_for_end(&rt, nets).expect(&rt, "an end");
+    assert!(rt; 4_500 <= waited && waited <= 6_500, "{waited}");
+}
+
+// How many bytes a leg takes while nobody reads them, and how many then come up to its end. The
+// sink that they went to is taken back, and counted as one that failed.
+fn fill_and_drain<N: Told + Drop>(nets: Option<Nets<N>>) -> Option<(usize, usize)>
+where
+    N::In: Ready + Drop,
+    N::Out: Drop,
+{
+    const BEFORE: [Step; 2] = [At(Caller, Connects), At(Callee, Accepts)];
+    const BEHIND: [Step; 2] = [
+        At(Caller, TakesBack(0, OfSink)),
+        At(Caller, Counts(0, 1, 1, 0)),
+    ];
+    let mut nets = nets?;
+    let wrong = nets.first_wrong(&BEFORE);
+    if nets.legs.len() != 2 {
+        return None;
+    }
+    let filled = fill(&mut nets.legs[0]);
+    let drained = drain(&mut nets.legs[1]);
+    match (wrong, nets.first_wrong(&BEHIND)) {
+        (None, None) => Some((filled, drained)),
+        _ => None,
+    }
+}
+
+#[test]
+fn finds_a_short_write_that_is_told_as_whole_and_one_without_an_end(rt: HostRuntime) {
+    let nets = nets(rt, rt.alloc(), To::Callee(LOOPBACK), 300);
+    let (filled, drained) = fill_and_drain(nets).expect(&rt, "a leg");
+    assert!(rt; 0 < filled && filled == drained, "{filled} {drained}");
 }

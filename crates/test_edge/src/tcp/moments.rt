@@ -7,20 +7,23 @@ use std::thread;
 use std::time::Duration;
 
 #[test]
-fn the_clock_begins_near_0_and_goes_on(rt: HostRuntime) -> Result<(), Fail> {
+fn finds_a_clock_in_seconds(rt: HostRuntime) -> Result<(), Fail> {
     let mut clock = SystemClock::new(rt)?;
     let first = clock.now();
     thread::sleep(&rt, Duration::from_millis(30));
     let second = clock.now();
     assert!(rt; first < 10_000, "{first}");
-    assert!(rt; first + 30 <= second, "{first} {second}");
+    assert!(rt;
+        first + 30 <= second && second < first + 10_000,
+        "{first} {second}"
+    );
     Ok(())
 }
 
 #[test]
-fn cookies_differ(rt: HostRuntime) {
+fn finds_cookies_of_zeros(rt: HostRuntime) {
     let mut cookies = RandomCookies::new(rt);
     let first = cookies.next();
-    assert!(rt; first.is_ok());
+    assert!(rt; first.is_ok() && first != Ok([0; 16]));
     assert_ne!(rt; first, cookies.next());
 }

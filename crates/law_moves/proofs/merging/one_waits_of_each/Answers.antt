@@ -1,4 +1,4 @@
-use Rattle.rh_shell.specs.Waiting.{empty}
+use Rattle.law_moves.proofs.Vocabulary.{empty}
 use Rattle.law_moves.proofs.Merges.{all_merged, none_waits}
 use Rattle.law_moves.proofs.merging.one_waits_of_each.Goals as goal
 

@@ -1,5 +1,5 @@
-use Rattle.std.proofs.Common.{refl}
-use Rattle.rh_shell.specs.Hearing.{goes}
+use Rattle.law_order.proofs.Vocabulary.{refl}
+use Rattle.law_moves.proofs.Vocabulary.{goes}
 use Rattle.law_moves.proofs.TakenPieces.{piece_takes}
 use Rattle.law_moves.proofs.moving.frames_are_taken_in_order.Goals as goal
 

@@ -1,4 +1,4 @@
-use Rattle.std.proofs.Common.{refl}
+use Rattle.law_order.proofs.Vocabulary.{refl}
 use Rattle.law_moves.proofs.Puttings.{draw_puts}
 use Rattle.law_moves.proofs.moving.messages_are_drawn_in_order.Goals as goal
 

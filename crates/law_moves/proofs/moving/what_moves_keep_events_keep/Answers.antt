@@ -1,6 +1,6 @@
-use Rattle.law_moves.specs.Moves.{started}
 use Rattle.law_moves.proofs.Leading.{leads_keep}
 use Rattle.law_moves.proofs.Following.{event_follows, run_follows}
+use Rattle.law_moves.proofs.Vocabulary.{started}
 use Rattle.law_moves.proofs.moving.what_moves_keep_events_keep.Goals as goal
 
 pub returns : goal.returns

@@ -1,23 +1,9 @@
-use Rattle.std.proofs.Common.{◌≡◌, ◌==◌, ◌≤◌, ℕ, [], ◌∷◌, length, Bool, true, false, List, refl, ap, ◌∙◌, arith}
-use Rattle.std.proofs.lemmas.Bool.{eq-eqb, eqb-true}
-use Rattle.std.specs.Prelude.{Some, None, Ok, slice_index}
-use Rattle.std.specs.declared.option.Option.{Option}
-use Rattle.rh_pdu.specs.Frames.{IsFrame, IsPdu}
-use Rattle.rh_pdu.specs.Header.{rts}
-use Rattle.rh_rts.specs.Packets.{IsPacket}
-use Rattle.rh_rts.specs.Reading.{read_packet}
-use Rattle.rh_sig.specs.declared.name.Pipe.{Pipe}
-use Rattle.rh_sig.specs.declared.named.Named.{Named}
-use Rattle.rh_sig.specs.Naming.{named_of, named_bytes}
-use Rattle.rh_sig.specs.Values.{parts_of}
-use Rattle.rh_shell.specs.Readings.{packet_of, packet_by, named_by}
-use Rattle.rh_shell.specs.Rules.{Message, Text, Pdu, Packet}
-use Rattle.law_moves.specs.Carrying.{message_in, named_messages}
-use Rattle.law_moves.specs.Legible.Legible.{MayGo, MayGoOn, ReadsBack, IsTaken}
-use Rattle.law_moves.specs.Moves.{OnLeg}
+use Rattle.law_order.proofs.Vocabulary.{◌≡◌, ◌==◌, ◌≤◌, ℕ, [], ◌∷◌, length, Bool, true, false, List, refl, ap, ◌∙◌, arith, eq-eqb, eqb-true, Some, None, Ok, slice_index, Option}
+use Rattle.law_moves.proofs.Vocabulary.{IsFrame, IsPdu, rts, IsPacket, read_packet, Pipe, Named, named_of, named_bytes, parts_of, packet_of, packet_by, named_by, Message, Text, Pdu, Packet, message_in, named_messages, MayGo, MayGoOn, ReadsBack, OnLeg}
 use Rattle.law_moves.proofs.Legible.Each.{each_so}
 use Rattle.law_moves.proofs.Legible.Frames.{packet_frame, packet_type}
 use Rattle.law_moves.proofs.reading_back.what_may_go_reads_back.Goals as goal
+use Rattle.law_moves.specs.Legible.Legible.{IsTaken}
 
 pdu_taken : (pipe : Option Pipe) (pdu : List ℕ) → IsPdu pdu → IsTaken pipe (Pdu pdu)
 pdu_taken pipe pdu is =

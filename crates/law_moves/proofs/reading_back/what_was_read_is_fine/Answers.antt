@@ -1,19 +1,8 @@
-use Rattle.std.proofs.Common.{◌≡◌, ℕ, List, sym, ap, subst}
-use Rattle.std.specs.Prelude.{Some, Ok, Err, MatchResult}
-use Rattle.std.specs.declared.result.Result.{Result}
+use Rattle.law_order.proofs.Vocabulary.{◌≡◌, ℕ, List, sym, ap, subst, Some, Ok, Err, MatchResult, Result}
 use Rattle.rh_rts.specs.declared.fault.RtsFault.{RtsFault}
-use Rattle.rh_rts.specs.Commands.{AreCommands}
 use Rattle.rh_rts.specs.Judging.{Judged}
-use Rattle.rh_rts.specs.Packets.{Parts, IsPacket}
-use Rattle.rh_rts.specs.Reading.{read_packet}
 use Rattle.rh_sig.specs.declared.fault.SigFault.{SigFault}
-use Rattle.rh_sig.specs.declared.name.Pipe.{Pipe}
-use Rattle.rh_sig.specs.declared.named.Named.{Named}
-use Rattle.rh_sig.specs.Naming.{named_of}
-use Rattle.rh_sig.specs.Values.{AreInRange, IsRefused, ReadsAs, commands_of}
-use Rattle.rh_shell.specs.declared.reading.PacketFault.{PacketFault}
-use Rattle.rh_shell.specs.Readings.{packet_of, packet_by, named_by}
-use Rattle.law_moves.specs.Legible.Legible.{IsFine}
+use Rattle.law_moves.proofs.Vocabulary.{AreCommands, Parts, IsPacket, read_packet, Pipe, Named, named_of, AreInRange, IsRefused, ReadsAs, commands_of, PacketFault, packet_of, packet_by, named_by, IsFine}
 use Rattle.law_moves.proofs.Legible.Packets.{unpadded_are, sizes_of, destination_is}
 use Rattle.law_moves.proofs.reading_back.what_was_read_is_fine.Goals as goal
 

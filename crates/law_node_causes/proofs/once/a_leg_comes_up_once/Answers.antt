@@ -1,6 +1,5 @@
-use Rattle.std.proofs.Common.{[], ◌∷◌}
-use Rattle.rh_shell.specs.Shells.{begun}
-use Rattle.law_moves.specs.Moving.{ComesUp, after_event, after_events}
+use Rattle.law_order.proofs.Vocabulary.{[], ◌∷◌}
+use Rattle.law_moves.proofs.Vocabulary.{begun, ComesUp, after_event, after_events}
 use Rattle.law_node_causes.proofs.OnceUp.{run_once, new_legs, first_once, first_held, was_up_is, comes_up}
 use Rattle.law_node_causes.proofs.once.a_leg_comes_up_once.Goals as goal
 

@@ -1,6 +1,5 @@
-use Rattle.std.proofs.Common.{[], ◌∷◌}
-use Rattle.rh_shell.specs.Shells.{begun}
-use Rattle.law_moves.specs.Moving.{ComesUp, after_event, after_end_events}
+use Rattle.law_order.proofs.Vocabulary.{[], ◌∷◌}
+use Rattle.law_moves.proofs.Vocabulary.{begun, ComesUp, after_event, after_end_events}
 use Rattle.law_node_causes.proofs.OnceUp.{run_once, run_once_at_end, new_legs_at_end, first_once, first_held, was_up_is, comes_up}
 use Rattle.law_node_causes.proofs.once.an_ends_leg_comes_up_once.Goals as goal
 

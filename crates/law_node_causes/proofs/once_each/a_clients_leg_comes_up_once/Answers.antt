@@ -1,5 +1,5 @@
-use Rattle.rh_client.specs.Client as client
 use Rattle.rh_client.specs.State.{first}
+use Rattle.rh_client.specs.Client as client
 use Rattle.law_node_causes.proofs.ClientLegs.{client_once, client_keeps, first_is}
 use Rattle.law_node_causes.proofs.once_each.a_clients_leg_comes_up_once.Goals as goal
 

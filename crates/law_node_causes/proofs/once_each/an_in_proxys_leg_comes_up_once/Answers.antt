@@ -1,5 +1,5 @@
-use Rattle.rh_inproxy.specs.Machine as in_proxy
 use Rattle.rh_inproxy.specs.State.{first}
+use Rattle.rh_inproxy.specs.Machine as in_proxy
 use Rattle.law_node_causes.proofs.InProxyLegs.{in_proxy_once, first_numbered}
 use Rattle.law_node_causes.proofs.once_each.an_in_proxys_leg_comes_up_once.Goals as goal
 

@@ -1,5 +1,5 @@
-use Rattle.rh_outproxy.specs.declared.out_proxy.TheConstants as out_proxies
 use Rattle.rh_outproxy.specs.OutProxy.{new_proxy}
+use Rattle.rh_outproxy.specs.declared.out_proxy.TheConstants as out_proxies
 use Rattle.law_node_causes.proofs.OutProxyLegs.{out_proxy_once}
 use Rattle.law_node_causes.proofs.once_each.an_out_proxys_leg_comes_up_once.Goals as goal
 

@@ -1,6 +1,4 @@
-use Rattle.rh_line.specs.declared.leg.Leg.{Leg}
-use Rattle.rh_shell.specs.Shells.{begun}
-use Rattle.law_moves.specs.Moving.{after_events}
+use Rattle.law_moves.proofs.Vocabulary.{Leg, begun, after_events}
 use Rattle.law_node_causes.proofs.Refusing.{on_any, refuses_from_start}
 use Rattle.law_node_causes.proofs.refusals.a_node_refuses_for_a_reason.Goals as goal
 

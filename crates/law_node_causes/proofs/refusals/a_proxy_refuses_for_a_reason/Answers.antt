@@ -1,12 +1,10 @@
-use Rattle.std.proofs.Common.{◌≡◌}
-use Rattle.rh_line.specs.declared.leg.LegKind.TheVariants.{ClientIn, ClientOut}
-use Rattle.rh_shell.specs.Shells.{begun}
+use Rattle.law_order.proofs.Vocabulary.{◌≡◌}
 use Rattle.rh_inproxy.specs.State.{first}
 use Rattle.rh_inproxy.specs.Machine as in_proxy
-use Rattle.rh_outproxy.specs.declared.out_proxy.TheConstants as out_proxies
 use Rattle.rh_outproxy.specs.OutProxy.{new_proxy}
+use Rattle.rh_outproxy.specs.declared.out_proxy.TheConstants as out_proxies
 use Rattle.rh_outproxy.specs.Machine as out_proxy
-use Rattle.law_moves.specs.Moving.{after_events}
+use Rattle.law_moves.proofs.Vocabulary.{ClientIn, ClientOut, begun, after_events}
 use Rattle.law_node_causes.proofs.Refusing.{refuses_from_start}
 use Rattle.law_node_causes.proofs.RoleRefusals.{in_config, in_heads, in_refuses, out_config, out_heads, out_refuses}
 use Rattle.law_node_causes.proofs.refusals.a_proxy_refuses_for_a_reason.Goals as goal

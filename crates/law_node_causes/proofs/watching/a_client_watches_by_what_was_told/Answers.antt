@@ -1,6 +1,6 @@
-use Rattle.rh_client.specs.Client as client
 use Rattle.rh_client.specs.State.{first}
-use Rattle.law_moves.specs.Moving.{after_end_events}
+use Rattle.rh_client.specs.Client as client
+use Rattle.law_moves.proofs.Vocabulary.{after_end_events}
 use Rattle.law_node_causes.proofs.ClientTimes.{watches}
 use Rattle.law_node_causes.proofs.watching.a_client_watches_by_what_was_told.Goals as goal
 

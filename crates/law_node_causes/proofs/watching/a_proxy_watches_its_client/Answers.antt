@@ -1,12 +1,12 @@
-use Rattle.std.proofs.Common.{ap, refl}
+use Rattle.law_order.proofs.Vocabulary.{ap, refl}
 use Rattle.rh_inproxy.specs.declared.state.InProxyConfig.{InProxyConfig}
 use Rattle.rh_inproxy.specs.State.{first, channel_of}
 use Rattle.rh_inproxy.specs.Time.{a5_came}
 use Rattle.rh_inproxy.specs.Machine as in_proxy
-use Rattle.law_moves.specs.Moving.{after_events}
-use Rattle.law_node_causes.specs.Watching.{in_proxy_limit}
+use Rattle.law_moves.proofs.Vocabulary.{after_events}
 use Rattle.law_node_causes.proofs.RoleRefusals.{in_config}
 use Rattle.law_node_causes.proofs.watching.a_proxy_watches_its_client.Goals as goal
+use Rattle.law_node_causes.specs.Watching.{in_proxy_limit}
 
 pub returns : goal.returns
 returns c = record {

@@ -1,5 +1,4 @@
-use Rattle.rh_nodes.specs.Settling.{round}
-use Rattle.rh_nodes.specs.Steps.{step_line}
+use Rattle.law_node_history.proofs.Vocabulary.{round, step_line}
 use Rattle.law_node_history.proofs.Lines.{step_by_lines, goes_step_line}
 use Rattle.law_node_history.proofs.Rounds.{goes_round}
 use Rattle.law_node_history.proofs.Working.{works_quietly, works_by_lines}

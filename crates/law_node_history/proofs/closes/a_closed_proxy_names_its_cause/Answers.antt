@@ -1,5 +1,5 @@
-use Rattle.law_node_history.specs.Histories.{in_place, out_place}
 use Rattle.law_node_history.proofs.Closed.{place_tells}
+use Rattle.law_node_history.proofs.Vocabulary.{in_place, out_place}
 use Rattle.law_node_history.proofs.closes.a_closed_proxy_names_its_cause.Goals as goal
 
 pub returns : goal.returns

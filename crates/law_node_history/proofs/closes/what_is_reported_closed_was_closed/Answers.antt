@@ -1,4 +1,4 @@
-use Rattle.std.proofs.Common.{refl}
+use Rattle.law_order.proofs.Vocabulary.{refl}
 use Rattle.law_node_history.proofs.Reported.{closed_is_reported}
 use Rattle.law_node_history.proofs.Reporting.{line_closes}
 use Rattle.law_node_history.proofs.closes.what_is_reported_closed_was_closed.Goals as goal

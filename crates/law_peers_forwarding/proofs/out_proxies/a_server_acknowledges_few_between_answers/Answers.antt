@@ -1,9 +1,9 @@
-use Rattle.std.proofs.Common.{inr, ap, ◌∙◌, arith}
-use Rattle.rh_keep.specs.declared.range.TheConstants.{LEAST_LIFETIME}
-use Rattle.law_peers_forwarding.specs.Passing.{lets_acks_on}
+use Rattle.law_order.proofs.Vocabulary.{inr, ap, ◌∙◌, arith}
+use Rattle.law_moves.proofs.Vocabulary.{LEAST_LIFETIME}
 use Rattle.law_peers_forwarding.proofs.Opened.{few_open}
 use Rattle.law_peers_forwarding.proofs.Stretches.{few_between}
 use Rattle.law_peers_forwarding.proofs.out_proxies.a_server_acknowledges_few_between_answers.Goals as goal
+use Rattle.law_peers_forwarding.specs.Passing.{lets_acks_on}
 
 pub returns : goal.returns
 returns c numbers reader moves moment lifetimes =

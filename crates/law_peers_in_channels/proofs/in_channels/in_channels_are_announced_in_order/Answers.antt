@@ -1,5 +1,5 @@
-use Rattle.std.proofs.Common.{ℕ, subst}
-use Rattle.law_role_outproxy.specs.Counted.{ForwardsWhatCame}
+use Rattle.law_order.proofs.Vocabulary.{ℕ, subst}
+use Rattle.law_role_outproxy.proofs.Vocabulary.{ForwardsWhatCame}
 use Rattle.law_peers_moments.specs.Moments.{IsJoined, Moves, Numbers, out_behind}
 use Rattle.law_peers_in_channels.proofs.InChannels.InOrder.{announce_next, announced_front, are_announced}
 use Rattle.law_peers_in_channels.proofs.InChannels.Told.{Laws}

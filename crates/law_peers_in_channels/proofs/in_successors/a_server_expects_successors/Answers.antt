@@ -1,15 +1,12 @@
-use Rattle.std.proofs.Common.{ℕ, subst}
-use Rattle.rh_client.specs.Client.{acts as client_acts, rules as client_rules}
-use Rattle.rh_client.specs.State.{ci}
-use Rattle.rh_client.specs.State.{first as first_client}
-use Rattle.rh_server.specs.Servers.{acts as server_acts, first as first_server, rules as server_rules}
-use Rattle.rh_server.specs.States.{Server}
-use Rattle.law_moves.specs.Moves.{end_started}
+use Rattle.law_order.proofs.Vocabulary.{ℕ, subst}
+use Rattle.law_moves.proofs.Vocabulary.{end_started}
+use Rattle.law_role_client.proofs.Vocabulary.{acts as client_acts, rules as client_rules, ci, first as first_client}
+use Rattle.law_role_server.proofs.Vocabulary.{acts as server_acts, first as first_server, rules as server_rules, Server}
+use Rattle.law_node_causes.proofs.ClientLegs.{first_is as first_numbered}
 use Rattle.law_node_causes.specs.Numbers.{ClientIsNumbered}
-use Rattle.law_role_outproxy.specs.Counted.{ForwardsWhatCame}
+use Rattle.law_role_outproxy.proofs.Vocabulary.{ForwardsWhatCame}
 use Rattle.law_peers_moments.specs.Moments.{out_behind}
 use Rattle.law_peers_in_channels.proofs.InSuccessors.Expects.{expects}
-use Rattle.law_peers_in_channels.proofs.InSuccessors.Numbered.{first_numbered}
 use Rattle.law_peers_in_channels.proofs.InSuccessors.Ups.{held, up_once, was_up}
 use Rattle.law_peers_in_channels.proofs.in_successors.a_server_expects_successors.Goals as goal
 

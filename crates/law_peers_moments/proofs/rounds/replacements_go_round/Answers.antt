@@ -1,9 +1,9 @@
-use Rattle.std.proofs.Common.{ℕ, subst}
-use Rattle.law_role_inproxy.specs.Counted.{PutsForWhatCame}
-use Rattle.law_role_outproxy.specs.Counted.{ForwardsWhatCame, OpensWhatCame}
-use Rattle.law_peers_moments.specs.Moments.{AreMade, Moves, Numbers, in_behind, out_behind, passages}
+use Rattle.law_order.proofs.Vocabulary.{ℕ, subst}
+use Rattle.law_role_inproxy.proofs.Vocabulary.{PutsForWhatCame}
+use Rattle.law_role_outproxy.proofs.Vocabulary.{ForwardsWhatCame, OpensWhatCame}
 use Rattle.law_peers_moments.proofs.GoingRound.Rounding.{AreCounted, go_round}
 use Rattle.law_peers_moments.proofs.rounds.replacements_go_round.Goals as goal
+use Rattle.law_peers_moments.specs.Moments.{AreMade, Moves, Numbers, in_behind, out_behind, passages}
 
 pub returns : goal.returns
 returns c numbers reader moves made joined =

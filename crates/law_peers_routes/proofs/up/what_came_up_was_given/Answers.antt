@@ -1,5 +1,5 @@
-use Rattle.law_peers_routes.specs.Upwards.{up_route}
 use Rattle.law_peers_routes.proofs.up.what_came_up_was_given.Goals as goal
+use Rattle.law_peers_routes.specs.Upwards.{up_route}
 
 pub returns-clause-taken : goal.returns-clause-taken
 returns-clause-taken c = λ config window in_config client_events server_events ins made reader g.

@@ -1,5 +1,5 @@
-use Rattle.law_role_client.specs.Order.{client_moved}
 use Rattle.law_role_client.proofs.Receiving.Receives.{within_windows, within_acks, no_packet}
+use Rattle.law_role_client.proofs.Vocabulary.{client_moved}
 use Rattle.law_role_client.proofs.receives.a_client_receives_within_its_window.Goals as goal
 
 pub returns-clause-windows : goal.returns-clause-windows

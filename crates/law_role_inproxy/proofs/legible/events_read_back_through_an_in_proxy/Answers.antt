@@ -1,8 +1,6 @@
-use Rattle.std.proofs.Common.{subst}
-use Rattle.rh_inproxy.specs.Machine.{rooms}
-use Rattle.rh_inproxy.specs.State.{first}
-use Rattle.law_moves.specs.Legible.Legible.{IsLegible}
-use Rattle.law_role_inproxy.specs.Legible.{pipe_put}
+use Rattle.law_order.proofs.Vocabulary.{subst}
+use Rattle.law_moves.proofs.Vocabulary.{IsLegible}
+use Rattle.law_role_inproxy.proofs.Vocabulary.{rooms, first, pipe_put}
 use Rattle.law_role_inproxy.proofs.LegibleMoves.{all_reads_back}
 use Rattle.law_role_inproxy.proofs.legible.events_read_back_through_an_in_proxy.Goals as goal
 

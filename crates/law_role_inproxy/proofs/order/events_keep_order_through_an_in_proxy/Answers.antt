@@ -1,7 +1,5 @@
-use Rattle.std.proofs.Common.{subst}
-use Rattle.rh_inproxy.specs.Machine.{rooms}
-use Rattle.rh_inproxy.specs.State.{first}
-use Rattle.law_role_inproxy.specs.Order.{KeepsOrder}
+use Rattle.law_order.proofs.Vocabulary.{subst}
+use Rattle.law_role_inproxy.proofs.Vocabulary.{rooms, first, KeepsOrder}
 use Rattle.law_role_inproxy.proofs.OrderMoves.{order_is_kept}
 use Rattle.law_role_inproxy.proofs.order.events_keep_order_through_an_in_proxy.Goals as goal
 

@@ -1,6 +1,5 @@
-use Rattle.rh_inproxy.specs.Machine.{rules}
-use Rattle.rh_inproxy.specs.State.{first}
-use Rattle.law_moves.specs.Moves.{all_moved, started}
+use Rattle.law_moves.proofs.Vocabulary.{all_moved, started}
+use Rattle.law_role_inproxy.proofs.Vocabulary.{rules, first}
 use Rattle.law_role_inproxy.proofs.Putting.Ends.{ends_last}
 use Rattle.law_role_inproxy.proofs.puts.an_in_proxy_ends_last.Goals as goal
 

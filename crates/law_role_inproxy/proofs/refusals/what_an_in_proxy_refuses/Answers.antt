@@ -1,6 +1,5 @@
-use Rattle.rh_inproxy.specs.State.{first}
-use Rattle.rh_inproxy.specs.Machine.{rules}
-use Rattle.law_moves.specs.Moves.{all_moved, started}
+use Rattle.law_moves.proofs.Vocabulary.{all_moved, started}
+use Rattle.law_role_inproxy.proofs.Vocabulary.{first, rules}
 use Rattle.law_role_inproxy.proofs.Refusing.Channels.{channels_carry}
 use Rattle.law_role_inproxy.proofs.Refusing.Keeps.{legs_are_known}
 use Rattle.law_role_inproxy.proofs.Refusing.Naming.{names_channels}

@@ -1,9 +1,6 @@
-use Rattle.std.proofs.Common.{subst}
-use Rattle.rh_outproxy.specs.declared.out_proxy.TheConstants.{ROOMS}
-use Rattle.rh_outproxy.specs.OutProxy.{OutProxy, new_proxy}
-use Rattle.law_moves.specs.Moves.{Passage}
-use Rattle.law_moves.specs.Legible.Legible.{IsLegible}
-use Rattle.law_role_outproxy.specs.Legible.{pipe_put}
+use Rattle.law_order.proofs.Vocabulary.{subst}
+use Rattle.law_moves.proofs.Vocabulary.{Passage, IsLegible}
+use Rattle.law_role_outproxy.proofs.Vocabulary.{ROOMS, OutProxy, new_proxy, pipe_put}
 use Rattle.law_role_outproxy.proofs.legible.events_read_back_through_an_out_proxy.Goals as goal
 
 pub returns : goal.returns

@@ -1,7 +1,5 @@
-use Rattle.std.proofs.Common.{subst}
-use Rattle.rh_outproxy.specs.declared.out_proxy.TheConstants.{ROOMS}
-use Rattle.rh_outproxy.specs.OutProxy.{new_proxy}
-use Rattle.law_role_outproxy.specs.Order.{KeepsOrder}
+use Rattle.law_order.proofs.Vocabulary.{subst}
+use Rattle.law_role_outproxy.proofs.Vocabulary.{ROOMS, new_proxy, KeepsOrder}
 use Rattle.law_role_outproxy.proofs.OrderKept.{order_kept}
 use Rattle.law_role_outproxy.proofs.order.events_keep_order_through_an_out_proxy.Goals as goal
 

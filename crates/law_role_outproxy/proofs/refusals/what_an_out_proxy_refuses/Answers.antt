@@ -1,5 +1,5 @@
-use Rattle.law_role_outproxy.specs.Counted.{co_leg}
 use Rattle.law_role_outproxy.proofs.Refusing.Law.{refuses}
+use Rattle.law_role_outproxy.proofs.Vocabulary.{co_leg}
 use Rattle.law_role_outproxy.proofs.refusals.what_an_out_proxy_refuses.Goals as goal
 
 pub returns : goal.returns

@@ -1,5 +1,5 @@
-use Rattle.rh_server.specs.Servers.{first}
-use Rattle.law_moves.specs.Moves.{end_started}
+use Rattle.law_moves.proofs.Vocabulary.{end_started}
+use Rattle.law_role_server.proofs.Vocabulary.{first}
 use Rattle.law_role_server.proofs.Gives.{all_gives, gives_first}
 use Rattle.law_role_server.proofs.order.a_server_gives_in_order.Goals as goal
 

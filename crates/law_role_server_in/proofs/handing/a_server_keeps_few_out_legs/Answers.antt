@@ -1,6 +1,6 @@
-use Rattle.std.proofs.Common.{arith}
-use Rattle.rh_server.specs.Servers.{first}
-use Rattle.law_moves.specs.Moves.{end_started}
+use Rattle.law_order.proofs.Vocabulary.{arith}
+use Rattle.law_moves.proofs.Vocabulary.{end_started}
+use Rattle.law_role_server.proofs.Vocabulary.{first}
 use Rattle.law_role_server_in.proofs.OutLegs.{moves_few}
 use Rattle.law_role_server_in.proofs.handing.a_server_keeps_few_out_legs.Goals as goal
 

@@ -1,8 +1,5 @@
-use Rattle.rh_server.specs.Servers.{acts, first}
-use Rattle.rh_server.specs.Servers.{rules as server_rules}
-use Rattle.rh_server.specs.States.{Server}
-use Rattle.law_moves.specs.Moves.{EndPassage, all_end_moved, end_started}
-use Rattle.law_role_server.specs.Order.{has_leg}
+use Rattle.law_moves.proofs.Vocabulary.{EndPassage, all_end_moved, end_started}
+use Rattle.law_role_server.proofs.Vocabulary.{acts, first, rules as server_rules, Server, has_leg}
 use Rattle.law_role_server_in.proofs.CameUp.{kept_up}
 use Rattle.law_role_server_in.proofs.Handed.{refuses_in_r1_a6}
 use Rattle.law_role_server_in.proofs.Numbers.{numbers_given}

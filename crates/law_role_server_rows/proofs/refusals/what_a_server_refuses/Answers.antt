@@ -1,5 +1,5 @@
-use Rattle.std.proofs.Common.{refl}
-use Rattle.law_role_server.specs.Counted.Counting.{is_conn_a2, is_out_r1_a4}
+use Rattle.law_order.proofs.Vocabulary.{refl}
+use Rattle.law_role_server.proofs.Vocabulary.{is_conn_a2, is_out_r1_a4}
 use Rattle.law_role_server_rows.proofs.Refusing.FirstLeg.{first_so}
 use Rattle.law_role_server_rows.proofs.Refusing.Steps.{known}
 use Rattle.law_role_server_rows.proofs.Refusing.BegunSteps.{begun_so}

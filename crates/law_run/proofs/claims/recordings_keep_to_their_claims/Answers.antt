@@ -1,30 +1,43 @@
 -- each claim is a law
-use Rattle.std.proofs.Common.{List, subst, sym}
-use Rattle.rh_line.specs.declared.cause.Cause.TheVariants.{BadFrame, BadHead, BadPacket, BodyOver, ControlFull, CookieMismatch, HttpRefused, LegBroken, LegEnded, OutOfRange, Silent, Unexpected, WindowExceeded}
-use Rattle.rh_record.specs.declared.line.Line.{Line}
-use Rattle.rh_world.specs.declared.any_world.AnyWorld.TheVariants.{Before}
-use Rattle.rh_world.specs.Any.{after, run}
-use Rattle.law_world_reports.specs.Ordering.Counted.{CountsCapped}
-use Rattle.law_run.specs.Claims.{RolesAreHonest}
+use Rattle.law_order.proofs.Vocabulary.{List, subst, sym}
+use Rattle.rh_line.specs.declared.cause.Cause.TheVariants.{WindowExceeded}
+use Rattle.law_moves.proofs.Vocabulary.{BadFrame, BadHead, BadPacket, BodyOver, ControlFull, CookieMismatch, HttpRefused, LegBroken, LegEnded, OutOfRange, Silent, Unexpected}
+use Rattle.law_node_history.proofs.Vocabulary.{Line}
+use Rattle.law_world_reports.proofs.Vocabulary.{Before, after, run, CountsCapped, EndsWithLast}
 use Rattle.law_run.proofs.claims.recordings_keep_to_their_claims.Goals as goal
+use Rattle.law_run.specs.Claims.{RolesAreHonest}
 
 pub returns : goal.returns
 returns c = λ lines. record {
   ordered = c.every_recording_is_ordered.ensures lines;
+  sides = c.a_recording_names_the_sides_of_its_gives.ensures lines;
+  ends = c.every_recording_ends_for_good.ensures lines;
   counted = λ behind is.
       subst (λ (all : List Line). CountsCapped all (run all)) (sym is)
       (c.a_recording_counts.ensures behind);
+  last = λ behind is.
+      subst (λ (all : List Line). EndsWithLast Before all) (sym is)
+      (c.a_recording_ends_with_its_last_lines.ensures behind);
   held = λ before behind is. c.windows_hold_in_every_recording.ensures.recording before;
+  onwards = λ before behind is. c.windows_hold_throughout_every_recording.ensures before;
+  hops = λ before behind is. c.hops_of_a_recording_are_kept.ensures before;
   reasons = λ before behind line is. record {
     licensed = c.each_close_of_a_recording_shows.ensures before line;
     shown = c.each_cause_of_a_recording_shows.ensures before line;
     refused = c.only_a_client_of_a_recording_is_refused.ensures before line;
     silent = c.a_node_of_a_recording_falls_silent.ensures before line;
   };
+  directly = λ before behind is. c.direct_recordings_keep_all.ensures before;
   ways = λ before behind is. c.every_recording_keeps_what_is_on_its_way.ensures before;
+  told = λ before behind is. c.a_recording_tells_what_is_on_its_way.ensures before;
+  turns = λ before behind is. c.rpc_pdus_of_a_recording_pass_in_turn.ensures before;
   exact = λ before behind is. record {
     in_time = c.recordings_lose_nothing.ensures.losses before;
     unbroken = c.recordings_lose_nothing.ensures.none before;
+  };
+  told_exactly = λ before behind is. record {
+    in_time = c.a_recording_tells_all_that_it_keeps.ensures.losses before;
+    unbroken = c.a_recording_tells_all_that_it_keeps.ensures.none before;
   };
   refusals = λ before behind line is. record {
     out_channel = c.a_refused_client_of_a_recording_lost_its_server.ensures.out_channel before line;
@@ -33,6 +46,8 @@ returns c = λ lines. record {
   honest = λ before behind line is. honest before line;
   once = c.a_recording_reports_a_node_closed_once.ensures lines;
   named = c.an_end_of_a_recording_names_its_cause.ensures lines;
+  closes = λ before behind is. c.each_close_of_a_recording_is_reported.ensures before;
+  reported = c.an_end_of_a_recording_names_what_was_reported.ensures lines;
 }
   where
     honest : (before : List Line) (line : Line) → RolesAreHonest (after Before before) line

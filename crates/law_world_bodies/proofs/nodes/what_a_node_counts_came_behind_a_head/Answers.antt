@@ -1,12 +1,7 @@
-use Rattle.std.proofs.Common.{[]}
-use Rattle.std.proofs.lemmas.List.{append-nil}
+use Rattle.law_order.proofs.Vocabulary.{[], append-nil}
 use Rattle.rh_line.specs.declared.cause.Cause.TheVariants as cause
-use Rattle.rh_line.specs.declared.leg.Leg.{Leg}
-use Rattle.rh_shell.specs.Shells.{begun}
-use Rattle.rh_nodes.specs.declared.event.Event.TheVariants.{Comes}
-use Rattle.rh_nodes.specs.Telling.{tell}
-use Rattle.law_moves.specs.Moving.{after_events}
-use Rattle.law_node_history.specs.Carried.{heard_on}
+use Rattle.law_moves.proofs.Vocabulary.{Leg, begun, after_events}
+use Rattle.law_node_history.proofs.Vocabulary.{Comes, tell, heard_on}
 use Rattle.law_world_honest.proofs.Honesty.HeardWell.{going_is}
 use Rattle.law_world_bodies.proofs.NodeCounts.{end_behind, over_behind}
 use Rattle.law_world_bodies.proofs.Waiting.{node_behind, node_waits}

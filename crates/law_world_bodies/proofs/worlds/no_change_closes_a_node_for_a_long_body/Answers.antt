@@ -1,29 +1,20 @@
-use Rattle.std.proofs.Common.{ℕ, ap, ◌∙◌, subst}
-use mathlib.Core.List.{IsPrefix}
-use Rattle.rh_text.specs.declared.ends.Dir.{Dir}
+use Rattle.law_order.proofs.Vocabulary.{ℕ, ap, ◌∙◌, subst, IsPrefix}
 use Rattle.rh_line.specs.declared.cause.Cause.TheVariants as cause
-use Rattle.rh_line.specs.declared.leg.Leg.{Leg}
-use Rattle.rh_shell.specs.Shells.{Shell}
 use Rattle.rh_inproxy.specs.Machine as in_proxy
 use Rattle.rh_inproxy.specs.State as in_state
-use Rattle.rh_inproxy.specs.State.{InProxy}
-use Rattle.rh_outproxy.specs.declared.out_proxy.TheConstants.{ROOMS}
-use Rattle.rh_outproxy.specs.OutProxy.{OutProxy, new_proxy}
 use Rattle.rh_outproxy.specs.Machine as out_proxy
-use Rattle.rh_client.specs.declared.state.ClientRole.{ClientRole}
 use Rattle.rh_client.specs.Client as client
 use Rattle.rh_client.specs.State as client_state
 use Rattle.rh_server.specs.Servers as server
-use Rattle.rh_server.specs.States.{Server}
-use Rattle.law_node_history.specs.Carried.{AreAccepted, AreAcceptedAtEnd, ComesUpOnce, ComesUpOnceAtEnd, drawn_by, end_node, events_of, heard_on}
-use Rattle.law_node_history.specs.Changes.{IsFed}
-use Rattle.law_node_history.specs.Histories.{noted}
-use Rattle.rh_nodes.specs.Wires.{receiver, sender}
-use Rattle.rh_nodes.specs.World.{at}
-use Rattle.law_peers_routes.specs.Downwards as down
+use Rattle.law_moves.proofs.Vocabulary.{Dir, Leg, Shell}
+use Rattle.law_role_inproxy.proofs.Vocabulary.{InProxy}
+use Rattle.law_role_client.proofs.Vocabulary.{ClientRole}
+use Rattle.law_role_server.proofs.Vocabulary.{Server}
+use Rattle.law_node_history.proofs.Vocabulary.{receiver, sender, at, AreAccepted, AreAcceptedAtEnd, ComesUpOnce, ComesUpOnceAtEnd, drawn_by, end_node, events_of, heard_on, IsFed, noted}
+use Rattle.law_role_outproxy.proofs.Vocabulary.{ROOMS, OutProxy, new_proxy}
 use Rattle.law_node_begins.specs.ProxiesBegin.Pipes as pipes
-use Rattle.law_node_traces.specs.Traced.Ours.{deeds, rules}
-use Rattle.law_node_traces.specs.Traced.Recordings.{history_at}
+use Rattle.law_node_traces.proofs.Vocabulary.{deeds, rules, history_at}
+use Rattle.law_peers_routes.specs.Downwards as down
 use Rattle.law_world_honest.proofs.Honesty.Closing.{EachComes, by_fed}
 use Rattle.law_world_bodies.proofs.Lifetimes.{EachDrew, response_none}
 use Rattle.law_world_bodies.proofs.Fits.{whole_requests}

@@ -1,4 +1,4 @@
-use Rattle.law_node_traces.specs.Traced.Ours.{deeds, rules}
+use Rattle.law_node_traces.proofs.Vocabulary.{deeds, rules}
 use Rattle.law_world_expected.proofs.IsLegs.{are_connected}
 use Rattle.law_world_expected.proofs.connected.is_legs_of_lines_are_connected.Goals as goal
 

@@ -1,38 +1,27 @@
-use Rattle.std.proofs.Common.{◌≡◌, true, refl}
-use Rattle.std.specs.List.{list_all}
+use Rattle.law_order.proofs.Vocabulary.{◌≡◌, true, refl, list_all}
 use Rattle.rh_line.specs.declared.cause.Cause.TheVariants as cause
 use Rattle.rh_shell.specs.declared.answers.Refused.TheVariants as refused
-use Rattle.rh_inproxy.specs.State.{InProxy}
-use Rattle.rh_outproxy.specs.OutProxy.{OutProxy}
-use Rattle.rh_client.specs.declared.state.ClientRole.{ClientRole}
-use Rattle.rh_client.specs.State.{co}
-use Rattle.rh_server.specs.States.{Server}
-use Rattle.rh_nodes.specs.Opening.{Makers}
-use Rattle.rh_nodes.specs.World.{World}
-use Rattle.law_node_history.specs.Carried.{happened}
-use Rattle.law_node_history.specs.Changes.{of_line}
-use Rattle.law_node_history.specs.Histories.{IsNew}
+use Rattle.law_role_inproxy.proofs.Vocabulary.{InProxy}
+use Rattle.law_role_client.proofs.Vocabulary.{ClientRole, co}
+use Rattle.law_role_server.proofs.Vocabulary.{Server}
+use Rattle.law_node_history.proofs.Vocabulary.{Makers, World, happened, of_line, IsNew}
+use Rattle.law_role_outproxy.proofs.Vocabulary.{OutProxy}
 use Rattle.law_peers_moments.specs.Moments.{Numbers}
-use Rattle.law_node_traces.specs.Traced.Cookies.{ByChanges}
-use Rattle.law_node_traces.specs.Traced.Ours.{AreOurs, deeds, rules}
-use Rattle.law_node_traces.specs.Traced.Recordings.{history_at}
+use Rattle.law_node_traces.proofs.Vocabulary.{ByChanges, AreOurs, deeds, rules, history_at}
 use Rattle.law_peers_routes.proofs.Upwards.Unread.{refusal_unread}
-use Rattle.law_world_order.specs.Flows.{numbers_of}
-use Rattle.law_world_order.specs.Premises.{AreDistinct, AreInRange}
 use Rattle.law_world_order.proofs.Legs.{Reads}
-use Rattle.law_world_order.specs.Pasts.{numbers}
-use Rattle.law_world_order.specs.FirstTexts.{IsPort}
-use Rattle.law_world_windows.specs.Hops.{is_leg, os_leg}
+use Rattle.law_world_order.proofs.Vocabulary.{numbers_of, AreDistinct, AreInRange, numbers, IsPort}
 use Rattle.law_world_windows.proofs.Moment.{Laws}
 use Rattle.law_world_windows.proofs.Stopping.{Readings}
+use Rattle.law_world_windows.specs.Hops.{is_leg, os_leg}
 use Rattle.law_world_expected.proofs.Amiss.AtNodes.{ClientKnows, RolesKnow}
 use Rattle.law_world_expected.proofs.Amiss.Moments.{AllFlow}
-use Rattle.law_world_expected.specs.Roles.{ClientExpects, Facts, HaveCookies, InExpects, IsByLines, OfClient, OutExpectsClient, OutExpectsServer, OutsServe, Premise, ServerExpectsIn, ServerExpectsOut, WorldsExpect, WorldsServe}
 use Rattle.law_world_expected.proofs.Facts.{client_kept, distinct_of_cookies, have_of_cookies, lines_kept}
 use Rattle.law_world_expected.proofs.Closing.{AtMoment, NodesLaws, no_in_amiss, no_out_amiss_of_client, no_out_amiss_of_server, no_server_amiss_of_in, no_server_amiss_of_out}
 use Rattle.law_world_expected.proofs.AtClients.{no_out_amiss_at_end}
 use Rattle.law_world_expected.proofs.OwnClient.{no_client_amiss}
 use Rattle.law_world_expected.proofs.expecting.no_node_refuses_what_it_expects.Goals as goal
+use Rattle.law_world_expected.specs.Roles.{ClientExpects, Facts, HaveCookies, InExpects, IsByLines, OfClient, OutExpectsClient, OutExpectsServer, OutsServe, Premise, ServerExpectsIn, ServerExpectsOut, WorldsExpect, WorldsServe}
 
 pub returns : goal.returns
 returns g c = record {

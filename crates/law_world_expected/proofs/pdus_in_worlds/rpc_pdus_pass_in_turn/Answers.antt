@@ -1,8 +1,8 @@
-use Rattle.std.proofs.Common.{ℕ, subst}
-use Rattle.rh_nodes.specs.Readers.{reader_of}
+use Rattle.law_order.proofs.Vocabulary.{ℕ, subst}
+use Rattle.law_node_history.proofs.Vocabulary.{reader_of}
 use Rattle.law_peers_moments.specs.Moments.{in_behind}
 use Rattle.law_peers_in_channels.specs.PdusInTurn.Passing.{HoldsBack}
-use Rattle.law_world_order.specs.Pasts.{moves_of, numbers}
+use Rattle.law_world_order.proofs.Vocabulary.{moves_of, numbers}
 use Rattle.law_world_expected.proofs.pdus_in_worlds.rpc_pdus_pass_in_turn.Goals as goal
 
 pub returns : goal.returns

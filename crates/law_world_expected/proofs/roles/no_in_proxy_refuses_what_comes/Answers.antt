@@ -1,13 +1,11 @@
-use Rattle.rh_client.specs.State.{ci}
-use Rattle.rh_nodes.specs.Readers.{reader_of}
-use Rattle.law_moves.specs.Wires.{of_leg}
-use Rattle.law_role_client.specs.Order.{client_moved}
-use Rattle.law_node_traces.specs.Traced.Recordings.{history_at}
-use Rattle.law_world_order.specs.Pasts.{moves_of, numbers}
-use Rattle.law_world_order.specs.Premises.{AreDistinct}
-use Rattle.law_world_expected.specs.Roles.{InExpects, OfClient, WorldsExpect}
+use Rattle.law_moves.proofs.Vocabulary.{of_leg}
+use Rattle.law_role_client.proofs.Vocabulary.{ci, client_moved}
+use Rattle.law_node_history.proofs.Vocabulary.{reader_of}
+use Rattle.law_node_traces.proofs.Vocabulary.{history_at}
+use Rattle.law_world_order.proofs.Vocabulary.{moves_of, numbers, AreDistinct}
 use Rattle.law_world_expected.proofs.Facts.{are_read, no_ping}
 use Rattle.law_world_expected.proofs.roles.no_in_proxy_refuses_what_comes.Goals as goal
+use Rattle.law_world_expected.specs.Roles.{InExpects, OfClient, WorldsExpect}
 
 pub returns : goal.returns
 returns g c = record {

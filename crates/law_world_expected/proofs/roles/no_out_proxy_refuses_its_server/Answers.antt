@@ -1,9 +1,9 @@
-use Rattle.rh_client.specs.State.{co}
-use Rattle.rh_server.specs.States.{no_cookie}
-use Rattle.rh_nodes.specs.Readers.{reader_of}
-use Rattle.law_world_order.specs.Pasts.{moves_of, numbers}
-use Rattle.law_world_expected.specs.Roles.{HaveCookies, OfClient, OutExpectsServer, WorldsExpect}
+use Rattle.law_role_client.proofs.Vocabulary.{co}
+use Rattle.law_role_server.proofs.Vocabulary.{no_cookie}
+use Rattle.law_node_history.proofs.Vocabulary.{reader_of}
+use Rattle.law_world_order.proofs.Vocabulary.{moves_of, numbers}
 use Rattle.law_world_expected.proofs.roles.no_out_proxy_refuses_its_server.Goals as goal
+use Rattle.law_world_expected.specs.Roles.{HaveCookies, OfClient, OutExpectsServer, WorldsExpect}
 
 pub returns : goal.returns
 returns g c = record {

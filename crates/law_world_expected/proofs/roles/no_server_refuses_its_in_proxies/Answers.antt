@@ -1,8 +1,8 @@
-use Rattle.rh_nodes.specs.Readers.{reader_of}
-use Rattle.law_world_order.specs.Pasts.{moves_of, numbers}
-use Rattle.law_world_expected.specs.Roles.{IsByLines, ServerExpectsIn, WorldsExpect}
+use Rattle.law_node_history.proofs.Vocabulary.{reader_of}
+use Rattle.law_world_order.proofs.Vocabulary.{moves_of, numbers}
 use Rattle.law_world_expected.proofs.IsLegs.{connected_by}
 use Rattle.law_world_expected.proofs.roles.no_server_refuses_its_in_proxies.Goals as goal
+use Rattle.law_world_expected.specs.Roles.{IsByLines, ServerExpectsIn, WorldsExpect}
 
 pub returns : goal.returns
 returns g c = record {

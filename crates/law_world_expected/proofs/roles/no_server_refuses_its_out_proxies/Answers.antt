@@ -1,8 +1,7 @@
-use Rattle.rh_nodes.specs.Readers.{reader_of}
-use Rattle.law_world_order.specs.Pasts.{moves_of, numbers}
-use Rattle.law_world_order.specs.Premises.{AreDistinct}
-use Rattle.law_world_expected.specs.Roles.{OfClient, ServerExpectsOut, WorldsExpect}
+use Rattle.law_node_history.proofs.Vocabulary.{reader_of}
+use Rattle.law_world_order.proofs.Vocabulary.{moves_of, numbers, AreDistinct}
 use Rattle.law_world_expected.proofs.roles.no_server_refuses_its_out_proxies.Goals as goal
+use Rattle.law_world_expected.specs.Roles.{OfClient, ServerExpectsOut, WorldsExpect}
 
 pub returns : goal.returns
 returns g c = record {

@@ -1,6 +1,6 @@
 use Rattle.rh_line.specs.declared.cause.Cause.TheVariants as cause
-use Rattle.law_node_history.specs.Closes.{ClosesNode}
-use Rattle.law_node_traces.specs.Traced.Ours.{rules}
+use Rattle.law_node_history.proofs.Vocabulary.{ClosesNode}
+use Rattle.law_node_traces.proofs.Vocabulary.{rules}
 use Rattle.law_world_expected.proofs.EachNode.{closes_none}
 use Rattle.law_world_expected.proofs.whole.no_node_refuses_what_comes.Goals as goal
 

@@ -1,15 +1,12 @@
-use Rattle.rh_inproxy.specs.State.{InProxy}
-use Rattle.rh_outproxy.specs.OutProxy.{OutProxy}
-use Rattle.rh_client.specs.declared.state.ClientRole.{ClientRole}
-use Rattle.rh_server.specs.States.{Server}
-use Rattle.rh_nodes.specs.Opening.{Makers}
-use Rattle.rh_nodes.specs.World.{World}
-use Rattle.law_node_history.specs.Histories.{IsNew}
-use Rattle.law_node_traces.specs.Traced.Ours.{AreOurs, deeds, rules}
+use Rattle.law_role_inproxy.proofs.Vocabulary.{InProxy}
+use Rattle.law_role_client.proofs.Vocabulary.{ClientRole}
+use Rattle.law_role_server.proofs.Vocabulary.{Server}
+use Rattle.law_node_history.proofs.Vocabulary.{Makers, World, IsNew}
+use Rattle.law_role_outproxy.proofs.Vocabulary.{OutProxy}
+use Rattle.law_node_traces.proofs.Vocabulary.{AreOurs, deeds, rules}
 use Rattle.law_peers_routes.proofs.Upwards.Unread.{refusal_unread}
-use Rattle.law_world_order.specs.Flows.{numbers_of}
-use Rattle.law_world_order.specs.Premises.{AreInRange}
 use Rattle.law_world_order.proofs.Legs.{Reads}
+use Rattle.law_world_order.proofs.Vocabulary.{numbers_of, AreInRange}
 use Rattle.law_world_windows.proofs.Moment.{Laws}
 use Rattle.law_world_windows.proofs.Stopping.{Readings}
 use Rattle.law_world_expected.proofs.Cookies.{ClientLaws, no_cookie}

@@ -1,9 +1,8 @@
-use Rattle.rh_client.specs.State.{co}
-use Rattle.rh_nodes.specs.Readers.{reader_of}
-use Rattle.law_world_order.specs.Premises.{AreDistinct}
-use Rattle.law_world_order.specs.Pasts.{moves_of, numbers}
-use Rattle.law_world_expected.specs.Roles.{ClientExpects, OfClient, WorldsExpect}
+use Rattle.law_role_client.proofs.Vocabulary.{co}
+use Rattle.law_node_history.proofs.Vocabulary.{reader_of}
+use Rattle.law_world_order.proofs.Vocabulary.{AreDistinct, moves_of, numbers}
 use Rattle.law_world_expected.proofs.worlds.no_client_refuses_what_comes.Goals as goal
+use Rattle.law_world_expected.specs.Roles.{ClientExpects, OfClient, WorldsExpect}
 
 pub returns : goal.returns
 returns g c = record {

@@ -1,17 +1,13 @@
-use Rattle.std.proofs.Common.{◌≡◌, suc, true, false, [], arith, subst}
-use Rattle.rh_line.specs.declared.leg.Leg.{Leg}
-use Rattle.rh_shell.specs.Shells.{Shell, may_up}
-use Rattle.rh_client.specs.declared.channels.TheConstants.{LAST_NUMBER}
-use Rattle.rh_client.specs.declared.state.ClientRole.{ClientRole}
+use Rattle.law_order.proofs.Vocabulary.{◌≡◌, suc, true, false, [], arith, subst}
 use Rattle.rh_client.specs.Client as client
-use Rattle.law_moves.specs.Moving.{after_end_events}
-use Rattle.law_node_history.specs.Carried.{AreAcceptedAtEnd, came_up, happened}
-use Rattle.law_node_history.specs.Histories.{all_noted, nothing}
-use Rattle.law_node_traces.specs.Traced.Ours.{deeds, rules}
-use Rattle.law_world_order.specs.CookiesLeft.{legs_up}
+use Rattle.law_moves.proofs.Vocabulary.{Leg, Shell, may_up, after_end_events}
+use Rattle.law_role_client.proofs.Vocabulary.{LAST_NUMBER, ClientRole}
+use Rattle.law_node_history.proofs.Vocabulary.{AreAcceptedAtEnd, came_up, happened, all_noted, nothing}
+use Rattle.law_node_traces.proofs.Vocabulary.{deeds, rules}
 use Rattle.law_world_order.proofs.CookiesLeft.Channels.{ClientLaws, all_below, all_once}
 use Rattle.law_world_order.proofs.CookiesLeft.Counting.{no_more_than}
 use Rattle.law_world_order.proofs.CookiesLeft.Noting.{all_ups}
+use Rattle.law_world_order.proofs.Vocabulary.{legs_up}
 use Rattle.law_world_order.proofs.cookies.cookies_are_drawn_for_channels.Goals as goal
 
 pub returns : goal.returns

@@ -1,11 +1,9 @@
-use Rattle.std.proofs.Common.{arith, refl}
-use Rattle.rh_world.specs.declared.any_world.AnyWorld.{AnyWorld}
-use Rattle.rh_world.specs.declared.any_world.AnyWorld.TheVariants.{Before, Direct, Settings, Roles}
-use Rattle.rh_world.specs.Any.{after, prepared, step}
+use Rattle.law_order.proofs.Vocabulary.{arith, refl}
 use Rattle.rh_world.specs.Roles as roles
+use Rattle.law_world_reports.proofs.Vocabulary.{AnyWorld, Before, Direct, Settings, Roles, after, prepared, step}
 use Rattle.law_world_reports.proofs.Bounded.Reached.{IsRecorded, acted_is_recorded, behind_lines, prepared_is_recorded, reached_draws}
 use Rattle.law_world_order.proofs.Recorded.{new, ours}
-use Rattle.law_world_order.specs.Premises.{AreLeftIn}
+use Rattle.law_world_order.proofs.Vocabulary.{AreLeftIn}
 use Rattle.law_world_order.proofs.cookies.cookies_of_a_recording_are_left.Goals as goal
 
 pub returns : goal.returns

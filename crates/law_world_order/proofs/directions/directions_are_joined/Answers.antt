@@ -1,4 +1,4 @@
-use Rattle.law_node_traces.specs.Traced.Ours.{deeds, rules}
+use Rattle.law_node_traces.proofs.Vocabulary.{deeds, rules}
 use Rattle.law_world_order.proofs.Moments.{Known, directions}
 use Rattle.law_world_order.proofs.directions.directions_are_joined.Goals as goal
 

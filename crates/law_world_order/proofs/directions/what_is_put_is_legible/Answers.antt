@@ -1,4 +1,4 @@
-use Rattle.law_node_traces.specs.Traced.Ours.{deeds, rules}
+use Rattle.law_node_traces.proofs.Vocabulary.{deeds, rules}
 use Rattle.law_peers_routes.proofs.Upwards.Unread.{refusal_unread}
 use Rattle.law_world_order.proofs.Legs.{Reads}
 use Rattle.law_world_order.proofs.Flowing.{Streaming}

@@ -1,5 +1,5 @@
-use Rattle.law_node_history.specs.Changes.{after_turns}
-use Rattle.law_node_traces.specs.Traced.Ours.{deeds, rules}
+use Rattle.law_node_history.proofs.Vocabulary.{after_turns}
+use Rattle.law_node_traces.proofs.Vocabulary.{deeds, rules}
 use Rattle.law_world_order.proofs.turns.turns_keep_order.Goals as goal
 
 pub returns : goal.returns

@@ -1,22 +1,18 @@
 use Rattle.rh_inproxy.specs.Machine as in_proxy
-use Rattle.rh_inproxy.specs.State.{InProxy}
 use Rattle.rh_inproxy.specs.State as in_state
 use Rattle.rh_outproxy.specs.Machine as out_proxy
-use Rattle.rh_outproxy.specs.OutProxy.{OutProxy, new_proxy}
-use Rattle.rh_client.specs.declared.state.ClientRole.{ClientRole}
 use Rattle.rh_server.specs.Servers as server
-use Rattle.rh_server.specs.States.{Server}
-use Rattle.rh_nodes.specs.Opening.{Makers}
-use Rattle.rh_nodes.specs.World.{World}
-use Rattle.law_moves.specs.Moves.{all_end_moved, all_moved, end_started, started}
-use Rattle.law_role_client.specs.Order.{client_moved}
-use Rattle.law_node_history.specs.Histories.{IsNew}
-use Rattle.law_node_traces.specs.Traced.Ours.{AreOurs, deeds, rules}
+use Rattle.law_moves.proofs.Vocabulary.{all_end_moved, all_moved, end_started, started}
+use Rattle.law_role_inproxy.proofs.Vocabulary.{InProxy}
+use Rattle.law_role_client.proofs.Vocabulary.{ClientRole, client_moved}
+use Rattle.law_role_server.proofs.Vocabulary.{Server}
+use Rattle.law_node_history.proofs.Vocabulary.{Makers, World, IsNew}
+use Rattle.law_role_outproxy.proofs.Vocabulary.{OutProxy, new_proxy}
+use Rattle.law_node_traces.proofs.Vocabulary.{AreOurs, deeds, rules}
 use Rattle.law_peers_routes.proofs.Upwards.Unread.{refusal_unread}
-use Rattle.law_world_order.specs.Flows.{numbers_of}
-use Rattle.law_world_order.specs.Premises.{AreInRange}
 use Rattle.law_world_order.proofs.Joined.{AreAlone}
 use Rattle.law_world_order.proofs.Legs.{Reads}
+use Rattle.law_world_order.proofs.Vocabulary.{numbers_of, AreInRange}
 use Rattle.law_world_windows.proofs.Moment.{Laws}
 use Rattle.law_world_windows.proofs.Stopping.{Readings}
 use Rattle.law_world_windows.proofs.ClientHops.Closing.{NodesLaws, no_client_range, no_client_window, no_in_range, no_in_window, no_out_range, no_out_window}

@@ -1,6 +1,5 @@
-use Rattle.rh_server.specs.Servers.{first, acts, rules}
-use Rattle.law_moves.specs.Moves.{all_end_moved, end_started}
-use Rattle.law_role_server.specs.Order.{got, has_leg}
+use Rattle.law_moves.proofs.Vocabulary.{all_end_moved, end_started}
+use Rattle.law_role_server.proofs.Vocabulary.{first, acts, rules, got, has_leg}
 use Rattle.law_world_windows.proofs.ServerReceives.{known_by, server_receives}
 use Rattle.law_world_windows.proofs.server.a_server_receives_within_its_window.Goals as goal
 

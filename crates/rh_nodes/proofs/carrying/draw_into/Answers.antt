@@ -1,6 +1,6 @@
 -- none were drawn
 use Rattle.std.proofs.Common.{◌≡◌, ℕ, length, take, ap, arith}
-use Rattle.rh_nodes.specs.Company.{rules_of, draw}
+use Rattle.rh_company.specs.Company.{rules_of, draw}
 use Rattle.rh_nodes.proofs.NoBytes.{none_drawn}
 use Rattle.rh_nodes.proofs.carrying.draw_into.Goals as goal
 

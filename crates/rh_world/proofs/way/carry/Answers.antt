@@ -2,7 +2,7 @@
 use Rattle.std.proofs.Common.{◌≡◌, ◌++◌, List, ℕ, [], take, drop, length, arith, ap, ◌∙◌}
 use Rattle.std.proofs.lemmas.List.{append-nil, drop_all, length-take-le}
 use Rattle.std.specs.List.{concat}
-use Rattle.rh_nodes.proofs.Rings.{filled}
+use Rattle.rh_wires.proofs.Rings.{filled}
 use Rattle.rh_world.proofs.way.carry.Goals as goal
 
 pub returns-clause-flight : goal.returns-clause-flight

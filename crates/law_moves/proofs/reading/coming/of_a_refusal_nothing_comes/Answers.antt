@@ -1,7 +1,5 @@
-use Rattle.std.proofs.Common.{ap, ◌∙◌}
-use Rattle.law_order.specs.Logs.{seen}
-use Rattle.law_order.proofs.ItemLists.{nil_front}
-use Rattle.law_order.proofs.Prefixes.{prefix_trans}
+use Rattle.law_order.proofs.Vocabulary.{ap, ◌∙◌, seen}
+use Rattle.law_moves.proofs.Vocabulary.{nil_front, prefix_trans}
 use Rattle.law_moves.proofs.reading.coming.of_a_refusal_nothing_comes.Goals as goal
 
 pub returns : goal.returns

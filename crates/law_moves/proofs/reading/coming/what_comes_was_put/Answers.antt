@@ -1,11 +1,5 @@
-use Rattle.std.proofs.Common.{List, refl, subst}
-use mathlib.Core.List.{IsPrefix}
-use Rattle.law_order.specs.Items.{Item}
-use Rattle.law_order.specs.Logs.{seen}
-use Rattle.law_order.proofs.Prefixes.{prefix_trans}
-use Rattle.law_moves.specs.Carrying.{spelled}
-use Rattle.rh_shell.specs.NearEnds.{first_stage}
-use Rattle.law_moves.specs.ReadBack.Reading.{all_read_of, messages_read}
+use Rattle.law_order.proofs.Vocabulary.{List, refl, subst, IsPrefix, Item, seen}
+use Rattle.law_moves.proofs.Vocabulary.{prefix_trans, first_stage, spelled, all_read_of, messages_read}
 use Rattle.law_moves.proofs.ReadBack.Puts.{put_read}
 use Rattle.law_moves.proofs.ReadBack.Seen.{seen_front, seen_read}
 use Rattle.law_moves.proofs.reading.coming.what_comes_was_put.Goals as goal

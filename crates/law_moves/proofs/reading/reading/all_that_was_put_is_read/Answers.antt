@@ -1,6 +1,5 @@
-use Rattle.std.proofs.Common.{refl}
-use Rattle.rh_shell.specs.NearEnds.{first_stage}
-use Rattle.law_moves.specs.ReadBack.Reading.{begin}
+use Rattle.law_order.proofs.Vocabulary.{refl}
+use Rattle.law_moves.proofs.Vocabulary.{first_stage, begin}
 use Rattle.law_moves.proofs.ReadBack.Puts.{put_whole}
 use Rattle.law_moves.proofs.ReadBack.Taking.{read_behind}
 use Rattle.law_moves.proofs.reading.reading.all_that_was_put_is_read.Goals as goal

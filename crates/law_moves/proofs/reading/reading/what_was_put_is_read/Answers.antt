@@ -1,7 +1,5 @@
-use Rattle.std.proofs.Common.{refl}
-use Rattle.law_order.proofs.Prefixes.{prefix_trans}
-use Rattle.rh_shell.specs.NearEnds.{first_stage}
-use Rattle.law_moves.specs.Carrying.{spelled}
+use Rattle.law_order.proofs.Vocabulary.{refl}
+use Rattle.law_moves.proofs.Vocabulary.{prefix_trans, first_stage, spelled}
 use Rattle.law_moves.proofs.ReadBack.Puts.{put_read}
 use Rattle.law_moves.proofs.reading.reading.what_was_put_is_read.Goals as goal
 

@@ -1,4 +1,4 @@
-use Rattle.rh_http.specs.Texts.{refusal_text}
+use Rattle.law_moves.proofs.Vocabulary.{refusal_text}
 use Rattle.law_moves.proofs.ReadBack.Heads.{frame_nothing, head_nothing}
 use Rattle.law_moves.proofs.ReadBack.Written.{refusal_whole}
 use Rattle.law_moves.proofs.reading.texts.heads_have_no_messages.Goals as goal

@@ -1,4 +1,4 @@
-use Rattle.std.specs.Prelude.{true, false}
+use Rattle.law_order.proofs.Vocabulary.{true, false}
 use Rattle.law_moves.proofs.ReadBack.Written.{refusal_whole, request_whole, response_whole}
 use Rattle.law_moves.proofs.reading.texts.texts_are_whole.Goals as goal
 

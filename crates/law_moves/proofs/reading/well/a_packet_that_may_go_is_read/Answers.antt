@@ -1,11 +1,5 @@
-use Rattle.std.proofs.Common.{◌≡◌, ap, ◌∙◌}
-use Rattle.std.specs.Prelude.{Some, Ok}
-use Rattle.rh_rts.specs.Reading.{read_packet}
-use Rattle.rh_sig.specs.declared.name.Pipe.{Pipe}
-use Rattle.rh_sig.specs.declared.named.Named.{Named}
-use Rattle.rh_sig.specs.Naming.{named_of, named_bytes}
-use Rattle.rh_sig.specs.Values.{parts_of}
-use Rattle.rh_shell.specs.Readings.{packet_of, packet_by, named_by}
+use Rattle.law_order.proofs.Vocabulary.{◌≡◌, ap, ◌∙◌, Some, Ok}
+use Rattle.law_moves.proofs.Vocabulary.{read_packet, Pipe, Named, named_of, named_bytes, parts_of, packet_of, packet_by, named_by}
 use Rattle.law_moves.proofs.reading.well.a_packet_that_may_go_is_read.Goals as goal
 
 read_as : (pipe : Pipe) (named : Named) → read_packet (named_bytes named) ≡ Ok (parts_of named)

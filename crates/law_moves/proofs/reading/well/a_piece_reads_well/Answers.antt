@@ -1,5 +1,5 @@
-use Rattle.law_moves.specs.ReadBack.Reading.{begin}
 use Rattle.law_moves.proofs.ReadBack.PutsWell.{well_behind}
+use Rattle.law_moves.proofs.Vocabulary.{begin}
 use Rattle.law_moves.proofs.reading.well.a_piece_reads_well.Goals as goal
 
 pub returns : goal.returns

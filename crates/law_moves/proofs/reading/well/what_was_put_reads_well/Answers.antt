@@ -1,13 +1,6 @@
-use Rattle.std.proofs.Common.{ap, ◌∙◌}
-use Rattle.std.specs.Prelude.{Some, None}
-use Rattle.std.specs.declared.option.Option.{Option}
-use Rattle.law_order.proofs.Prefixes.{prefix_trans}
-use Rattle.rh_sig.specs.declared.name.Pipe.{Pipe}
-use Rattle.rh_shell.specs.Rules.{Message, Text, Pdu, Packet}
-use Rattle.law_moves.specs.Carrying.{spelled}
+use Rattle.law_order.proofs.Vocabulary.{ap, ◌∙◌, Some, None, Option}
+use Rattle.law_moves.proofs.Vocabulary.{prefix_trans, Pipe, Message, Text, Pdu, Packet, spelled, MayGoOn, ReadsBack, Answers, AreTaken}
 use Rattle.law_moves.proofs.Legible.Each.{each_so}
-use Rattle.law_moves.specs.Legible.Legible.{MayGoOn, ReadsBack}
-use Rattle.law_moves.specs.ReadBack.Well.{Answers, AreTaken}
 use Rattle.law_moves.proofs.ReadBack.PutsWell.{IsWellFrame, put_well}
 use Rattle.law_moves.proofs.reading.well.what_was_put_reads_well.Goals as goal
 

@@ -1,8 +1,6 @@
-use Rattle.std.proofs.Common.{refl, subst}
-use Rattle.std.specs.Prelude.{None}
-use Rattle.rh_http.specs.Texts.{response_text}
+use Rattle.law_order.proofs.Vocabulary.{refl, subst, None}
 use Rattle.rh_inproxy.specs.Opening.{echo_packet}
-use Rattle.law_moves.specs.ReadBack.Reading.{ReadsNothing}
+use Rattle.law_moves.proofs.Vocabulary.{response_text, ReadsNothing}
 use Rattle.law_node_begins.proofs.ProxiesBegin.Echoes.{in_text, in_frame, in_unnamed}
 use Rattle.law_node_begins.proofs.ProxiesBegin.InLaws.{on_server, on_client, elsewhere}
 use Rattle.law_node_begins.proofs.proxies_begin.in_proxy.an_in_proxy_begins.Goals as goal

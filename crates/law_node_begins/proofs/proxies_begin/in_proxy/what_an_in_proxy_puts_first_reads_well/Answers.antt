@@ -1,15 +1,11 @@
-use Rattle.std.proofs.Common.{refl, subst}
-use Rattle.std.specs.Prelude.{None, Some}
-use Rattle.rh_sig.specs.declared.name.Pipe.TheVariants.{IsU as is_u}
-use Rattle.rh_http.specs.Texts.{response_text}
+use Rattle.law_order.proofs.Vocabulary.{refl, subst, None, Some}
 use Rattle.rh_inproxy.specs.Opening.{echo_packet}
-use Rattle.law_moves.specs.Wires.{of_leg}
-use Rattle.law_moves.specs.ReadBack.Well.{TextIsWell, is_packet}
-use Rattle.law_moves.proofs.ReadBack.NoTexts.{no_texts_well}
-use Rattle.law_node_begins.specs.ProxiesBegin.Pipes.{is}
+use Rattle.law_moves.proofs.Vocabulary.{IsU as is_u, response_text, of_leg, TextIsWell, is_packet}
+use Rattle.law_moves.proofs.Lemmas.{no_texts_well}
 use Rattle.law_node_begins.proofs.ProxiesBegin.Echoes.{in_text, in_frame, in_well}
 use Rattle.law_node_begins.proofs.ProxiesBegin.InLaws.{on_server, client_well, run}
 use Rattle.law_node_begins.proofs.proxies_begin.in_proxy.what_an_in_proxy_puts_first_reads_well.Goals as goal
+use Rattle.law_node_begins.specs.ProxiesBegin.Pipes.{is}
 
 pub returns : goal.returns
 returns c = record {

@@ -1,8 +1,6 @@
-use Rattle.std.proofs.Common.{refl}
-use Rattle.std.specs.Prelude.{Some}
-use Rattle.rh_sig.specs.declared.name.Pipe.TheVariants.{CoD as co_d}
-use Rattle.rh_http.specs.Texts.{response_text}
+use Rattle.law_order.proofs.Vocabulary.{refl, Some}
 use Rattle.rh_outproxy.specs.Putting.{echo_packet}
+use Rattle.law_moves.proofs.Vocabulary.{CoD as co_d, response_text}
 use Rattle.law_node_begins.proofs.ProxiesBegin.Echoes.{out_frame, out_unnamed}
 use Rattle.law_node_begins.proofs.ProxiesBegin.OutLaws.{on_server, on_client, elsewhere}
 use Rattle.law_node_begins.proofs.proxies_begin.out_proxy.an_out_proxy_begins.Goals as goal

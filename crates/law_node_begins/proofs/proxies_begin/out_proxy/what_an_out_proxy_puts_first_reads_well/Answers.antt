@@ -1,15 +1,11 @@
-use Rattle.std.proofs.Common.{refl}
-use Rattle.std.specs.Prelude.{Some}
-use Rattle.rh_sig.specs.declared.name.Pipe.TheVariants.{CoD as co_d, OsU as os_u}
-use Rattle.rh_http.specs.Texts.{response_text}
+use Rattle.law_order.proofs.Vocabulary.{refl, Some}
 use Rattle.rh_outproxy.specs.Putting.{echo_packet}
-use Rattle.law_moves.specs.Wires.{of_leg}
-use Rattle.law_moves.specs.ReadBack.Well.{is_packet}
-use Rattle.law_moves.proofs.ReadBack.NoTexts.{no_texts_well}
-use Rattle.law_node_begins.specs.ProxiesBegin.Pipes.{os}
+use Rattle.law_moves.proofs.Vocabulary.{CoD as co_d, OsU as os_u, response_text, of_leg, is_packet}
+use Rattle.law_moves.proofs.Lemmas.{no_texts_well}
 use Rattle.law_node_begins.proofs.ProxiesBegin.Echoes.{out_frame, out_well}
 use Rattle.law_node_begins.proofs.ProxiesBegin.OutLaws.{on_server, client_well, run}
 use Rattle.law_node_begins.proofs.proxies_begin.out_proxy.what_an_out_proxy_puts_first_reads_well.Goals as goal
+use Rattle.law_node_begins.specs.ProxiesBegin.Pipes.{os}
 
 pub returns : goal.returns
 returns c = record {

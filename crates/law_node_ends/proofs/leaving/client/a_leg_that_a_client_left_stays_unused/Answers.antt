@@ -1,8 +1,8 @@
-use Rattle.rh_client.specs.State.{first}
-use Rattle.rh_client.specs.Client.{rules as client_rules, acts as client_acts}
+use Rattle.law_role_client.proofs.Vocabulary.{first, rules as client_rules, acts as client_acts}
+use Rattle.law_node_causes.proofs.ClientLegs.{first_is}
 use Rattle.law_node_causes.specs.Numbers.{ClientIsNumbered}
 use Rattle.law_node_ends.proofs.Unused.Staying.{role_stays_unused, end_stays_unused}
-use Rattle.law_node_ends.proofs.Unused.ClientStays.{client_keeps, calls_keep, first_is}
+use Rattle.law_node_ends.proofs.Unused.ClientStays.{client_keeps, calls_keep}
 use Rattle.law_node_ends.proofs.leaving.client.a_leg_that_a_client_left_stays_unused.Goals as goal
 
 pub returns : goal.returns

@@ -1,5 +1,4 @@
-use Rattle.rh_outproxy.specs.OutProxy.{new_proxy}
-use Rattle.rh_outproxy.specs.Machine.{rules as proxy_rules}
+use Rattle.law_role_outproxy.proofs.Vocabulary.{new_proxy, rules as proxy_rules}
 use Rattle.law_node_ends.proofs.Unused.Staying.{role_stays_unused}
 use Rattle.law_node_ends.proofs.Unused.OutProxyStays.{Any, out_proxy_stays}
 use Rattle.law_node_ends.proofs.leaving.out_proxy.a_leg_that_an_out_proxy_left_stays_unused.Goals as goal

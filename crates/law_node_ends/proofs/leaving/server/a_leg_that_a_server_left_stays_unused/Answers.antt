@@ -1,4 +1,4 @@
-use Rattle.rh_server.specs.Servers.{first, rules as server_rules, acts as server_acts}
+use Rattle.law_role_server.proofs.Vocabulary.{first, rules as server_rules, acts as server_acts}
 use Rattle.law_node_ends.proofs.Unused.Staying.{role_stays_unused, end_stays_unused}
 use Rattle.law_node_ends.proofs.Unused.ServerLegs.{IsSound}
 use Rattle.law_node_ends.proofs.Unused.ServerStays.{server_keeps, calls_keep, first_is}

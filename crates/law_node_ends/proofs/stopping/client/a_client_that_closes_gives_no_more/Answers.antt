@@ -1,5 +1,5 @@
-use Rattle.std.proofs.Common.{refl}
-use Rattle.rh_client.specs.Client.{rules as client_rules, acts as client_acts}
+use Rattle.law_order.proofs.Vocabulary.{refl}
+use Rattle.law_role_client.proofs.Vocabulary.{rules as client_rules, acts as client_acts}
 use Rattle.law_node_ends.proofs.Stops.ClientStays.{said, client_stays}
 use Rattle.law_node_ends.proofs.Stops.Silent.{closed_is_silent}
 use Rattle.law_node_ends.proofs.Stops.Stays.{moves_stay, events_stay}

@@ -1,5 +1,5 @@
-use Rattle.std.proofs.Common.{refl}
-use Rattle.rh_server.specs.Servers.{rules as server_rules, acts as server_acts}
+use Rattle.law_order.proofs.Vocabulary.{refl}
+use Rattle.law_role_server.proofs.Vocabulary.{rules as server_rules, acts as server_acts}
 use Rattle.law_node_ends.proofs.Stops.ServerStays.{said, server_stays}
 use Rattle.law_node_ends.proofs.Stops.Silent.{closed_is_silent}
 use Rattle.law_node_ends.proofs.Stops.Stays.{moves_stay, events_stay}

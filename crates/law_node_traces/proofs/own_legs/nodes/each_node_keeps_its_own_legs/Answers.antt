@@ -1,13 +1,13 @@
 use Rattle.rh_inproxy.specs.Machine as in_proxy
 use Rattle.rh_inproxy.specs.State as in_state
 use Rattle.rh_outproxy.specs.declared.out_proxy.TheConstants.{ROOMS}
-use Rattle.rh_outproxy.specs.Machine as out_proxy
 use Rattle.rh_outproxy.specs.OutProxy.{new_proxy}
+use Rattle.rh_outproxy.specs.Machine as out_proxy
 use Rattle.rh_server.specs.Servers as server
-use Rattle.law_node_traces.specs.OwnLegs.{IsOfInProxy, IsOfOutProxy, IsOfServer}
 use Rattle.law_node_traces.proofs.OwnLegs.Ends.{each_there, new_end_so, new_so}
 use Rattle.law_node_traces.proofs.OwnLegs.InLegs.{client_keeps}
 use Rattle.law_node_traces.proofs.OwnLegs.LegKinds.{by_legs, in_proxy_kinds, out_proxy_kinds, server_kinds}
+use Rattle.law_node_traces.proofs.Vocabulary.{IsOfInProxy, IsOfOutProxy, IsOfServer}
 use Rattle.law_node_traces.proofs.own_legs.nodes.each_node_keeps_its_own_legs.Goals as goal
 
 pub returns : goal.returns

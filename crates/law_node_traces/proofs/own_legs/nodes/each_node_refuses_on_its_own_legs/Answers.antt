@@ -1,13 +1,12 @@
-use Rattle.rh_shell.specs.Shells.{begun}
 use Rattle.rh_inproxy.specs.Machine as in_proxy
 use Rattle.rh_outproxy.specs.declared.out_proxy.TheConstants.{ROOMS}
-use Rattle.rh_outproxy.specs.Machine as out_proxy
 use Rattle.rh_outproxy.specs.OutProxy.{new_proxy}
+use Rattle.rh_outproxy.specs.Machine as out_proxy
 use Rattle.rh_client.specs.Client as client
 use Rattle.rh_server.specs.Servers as server
-use Rattle.law_moves.specs.Moving.{after_end_events, after_events}
-use Rattle.law_node_traces.specs.OwnLegs.{IsOfInProxy, IsOfOutProxy, IsOfServer}
+use Rattle.law_moves.proofs.Vocabulary.{begun, after_end_events, after_events}
 use Rattle.law_node_traces.proofs.OwnLegs.Amiss.{ClosesBy, ClosesOnce, client_on_outs, on_its_leg}
+use Rattle.law_node_traces.proofs.Vocabulary.{IsOfInProxy, IsOfOutProxy, IsOfServer}
 use Rattle.law_node_traces.proofs.own_legs.nodes.each_node_refuses_on_its_own_legs.Goals as goal
 
 pub returns : goal.returns

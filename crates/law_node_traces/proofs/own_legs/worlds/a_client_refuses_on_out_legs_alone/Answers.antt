@@ -1,24 +1,13 @@
-use Rattle.std.proofs.Common.{◌≡◌, inl, inr, refl, ap, ◌∙◌, subst}
-use Rattle.rh_line.specs.declared.cause.Cause.{Cause}
-use Rattle.rh_line.specs.declared.cause.Cause.TheVariants.{CookieMismatch, Unexpected}
-use Rattle.rh_line.specs.declared.leg.Leg.{Leg}
-use Rattle.rh_line.specs.declared.leg.LegKind.TheVariants.{ClientOut}
-use Rattle.rh_record.specs.declared.answer.Who.TheVariants.{Client as AtClient}
-use Rattle.rh_shell.specs.Shells.{Shell}
+use Rattle.law_order.proofs.Vocabulary.{◌≡◌, inl, inr, refl, ap, ◌∙◌, subst}
 use Rattle.rh_inproxy.specs.State.{InProxy}
 use Rattle.rh_outproxy.specs.OutProxy.{OutProxy}
 use Rattle.rh_client.specs.declared.state.ClientRole.{ClientRole}
 use Rattle.rh_client.specs.Client as client
 use Rattle.rh_server.specs.States.{Server}
-use Rattle.rh_nodes.specs.Opening.{Makers}
-use Rattle.rh_nodes.specs.World.{World}
-use Rattle.law_moves.specs.Moving.{after_end_events}
-use Rattle.law_node_history.specs.Changes.{Change, Leads}
-use Rattle.law_node_history.specs.Closes.{ClosesNode}
-use Rattle.law_node_history.specs.Histories.{IsNew, all_noted, nothing}
+use Rattle.law_moves.proofs.Vocabulary.{Cause, CookieMismatch, Unexpected, Leg, ClientOut, Shell, after_end_events}
+use Rattle.law_node_history.proofs.Vocabulary.{Client as AtClient, Makers, World, Change, Leads, ClosesNode, IsNew, all_noted, nothing}
 use Rattle.law_node_causes.specs.Closings.{ClosesWith}
-use Rattle.law_node_traces.specs.Traced.Ours.{AreOurs, deeds, rules}
-use Rattle.law_node_traces.specs.OwnLegs.{IsAmissOn}
+use Rattle.law_node_traces.proofs.Vocabulary.{AreOurs, deeds, rules, IsAmissOn}
 use Rattle.law_node_traces.proofs.own_legs.worlds.a_client_refuses_on_out_legs_alone.Goals as goal
 
 pub returns : goal.returns

@@ -1,20 +1,14 @@
-use Rattle.std.proofs.Common.{inl, inr, refl}
-use Rattle.rh_line.specs.declared.cause.Cause.{Cause}
-use Rattle.rh_line.specs.declared.cause.Cause.TheVariants.{CookieMismatch, Unexpected}
-use Rattle.rh_line.specs.declared.leg.Leg.{Leg}
-use Rattle.rh_record.specs.declared.answer.Who.TheVariants.{Server as AtServer}
+use Rattle.law_order.proofs.Vocabulary.{inl, inr, refl}
 use Rattle.rh_inproxy.specs.State.{InProxy}
 use Rattle.rh_outproxy.specs.OutProxy.{OutProxy}
 use Rattle.rh_client.specs.declared.state.ClientRole.{ClientRole}
-use Rattle.rh_server.specs.Servers as server
 use Rattle.rh_server.specs.States.{Server}
-use Rattle.rh_nodes.specs.World.{World}
-use Rattle.law_node_history.specs.Changes.{Change, MayChange}
-use Rattle.law_node_history.specs.Closes.{ClosesNode}
-use Rattle.law_node_traces.specs.Traced.Ours.{rules}
-use Rattle.law_node_traces.specs.OwnLegs.{IsAmissOn, IsOfServer}
+use Rattle.rh_server.specs.Servers as server
+use Rattle.law_moves.proofs.Vocabulary.{Cause, CookieMismatch, Unexpected, Leg}
+use Rattle.law_node_history.proofs.Vocabulary.{Server as AtServer, World, Change, MayChange, ClosesNode}
 use Rattle.law_node_traces.proofs.OwnLegs.Amiss.{ClosesBy}
 use Rattle.law_node_traces.proofs.OwnLegs.Fed.{at_server, of_server, stands_at}
+use Rattle.law_node_traces.proofs.Vocabulary.{rules, IsAmissOn, IsOfServer}
 use Rattle.law_node_traces.proofs.own_legs.worlds.a_server_refuses_on_its_own_legs_alone.Goals as goal
 
 pub returns : goal.returns

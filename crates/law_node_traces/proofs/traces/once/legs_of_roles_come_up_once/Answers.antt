@@ -1,13 +1,12 @@
-use Rattle.std.proofs.Common.{sym, subst}
-use Rattle.rh_shell.specs.Shells.{begun}
+use Rattle.law_order.proofs.Vocabulary.{sym, subst}
 use Rattle.rh_inproxy.specs.Machine as in_proxy
-use Rattle.rh_outproxy.specs.declared.out_proxy.TheConstants as out_proxies
 use Rattle.rh_outproxy.specs.OutProxy.{new_proxy}
+use Rattle.rh_outproxy.specs.declared.out_proxy.TheConstants as out_proxies
 use Rattle.rh_outproxy.specs.Machine as out_proxy
 use Rattle.rh_client.specs.Client as client
 use Rattle.rh_server.specs.Servers as server
-use Rattle.law_moves.specs.Moving.{after_end_events}
-use Rattle.law_node_history.specs.Carried.{ComesUpOnce, ComesUpOnceAtEnd}
+use Rattle.law_moves.proofs.Vocabulary.{begun, after_end_events}
+use Rattle.law_node_history.proofs.Vocabulary.{ComesUpOnce, ComesUpOnceAtEnd}
 use Rattle.law_node_traces.proofs.Traced.Remembering.{comes_up_once, comes_up_once_at_end, in_wanted, out_wanted, own_leg}
 use Rattle.law_node_traces.proofs.traces.once.legs_of_roles_come_up_once.Goals as goal
 

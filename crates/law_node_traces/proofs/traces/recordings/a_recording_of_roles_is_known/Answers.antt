@@ -1,20 +1,13 @@
-use Rattle.std.proofs.Common.{sym, subst}
+use Rattle.law_order.proofs.Vocabulary.{sym, subst}
 use Rattle.rh_inproxy.specs.State.{InProxy}
 use Rattle.rh_outproxy.specs.OutProxy.{OutProxy}
 use Rattle.rh_client.specs.declared.state.ClientRole.{ClientRole}
 use Rattle.rh_server.specs.States.{Server}
-use Rattle.rh_nodes.specs.Opening.{Makers}
-use Rattle.rh_nodes.specs.World.{World}
-use Rattle.law_node_history.specs.Carried.{LegsComeUpOnce}
-use Rattle.law_node_history.specs.Changes.{Leads, after_turns}
-use Rattle.law_node_history.specs.Histories.{IsNew, nothing}
-use Rattle.law_node_history.proofs.Leading.{cast_kept}
-use Rattle.law_node_history.proofs.Halves.{leads_turns}
-use Rattle.law_node_history.proofs.Recordings.{changes_are_traced, traced_first}
-use Rattle.law_node_traces.specs.Traced.Ours.{rules, deeds}
-use Rattle.law_node_traces.specs.Traced.Recordings.{IsKnown}
+use Rattle.law_node_history.proofs.Vocabulary.{Makers, World, LegsComeUpOnce, Leads, after_turns, IsNew, nothing}
+use Rattle.law_node_history.proofs.Lemmas.{cast_kept, leads_turns, changes_are_traced, traced_first}
 use Rattle.law_node_traces.proofs.Traced.InTurn.{new_in_turn}
 use Rattle.law_node_traces.proofs.Traced.Readers.{reached_read}
+use Rattle.law_node_traces.proofs.Vocabulary.{rules, deeds, IsKnown}
 use Rattle.law_node_traces.proofs.traces.recordings.a_recording_of_roles_is_known.Goals as goal
 
 known : {K : Type 0} (m : Makers K InProxy OutProxy)

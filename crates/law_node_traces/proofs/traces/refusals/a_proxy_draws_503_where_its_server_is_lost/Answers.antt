@@ -1,10 +1,9 @@
-use Rattle.rh_line.specs.declared.leg.LegKind.TheVariants.{ClientIn, ClientOut, InServer, OutServer}
-use Rattle.rh_shell.specs.Shells.{begun}
 use Rattle.rh_inproxy.specs.State.{first}
 use Rattle.rh_inproxy.specs.Machine as in_proxy
-use Rattle.rh_outproxy.specs.declared.out_proxy.TheConstants as out_proxies
 use Rattle.rh_outproxy.specs.OutProxy.{new_proxy}
+use Rattle.rh_outproxy.specs.declared.out_proxy.TheConstants as out_proxies
 use Rattle.rh_outproxy.specs.Machine as out_proxy
+use Rattle.law_moves.proofs.Vocabulary.{ClientIn, ClientOut, InServer, OutServer, begun}
 use Rattle.law_node_traces.proofs.Traced.RefusedDraws.{draws_at}
 use Rattle.law_node_traces.proofs.traces.refusals.a_proxy_draws_503_where_its_server_is_lost.Goals as goal
 

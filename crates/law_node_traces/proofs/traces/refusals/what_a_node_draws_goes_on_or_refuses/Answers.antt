@@ -1,6 +1,6 @@
-use Rattle.std.proofs.Common.{refl}
+use Rattle.law_order.proofs.Vocabulary.{refl}
 use Rattle.rh_line.specs.declared.cause.Cause.TheVariants as cause
-use Rattle.rh_shell.specs.Shells.{begun}
+use Rattle.law_moves.proofs.Vocabulary.{begun}
 use Rattle.law_node_traces.proofs.Traced.RefusedDraws.{all_draws}
 use Rattle.law_node_traces.proofs.traces.refusals.what_a_node_draws_goes_on_or_refuses.Goals as goal
 

@@ -1,13 +1,12 @@
-use Rattle.std.proofs.Common.{ℕ, subst}
-use Rattle.law_moves.specs.Wires.{of_leg}
-use Rattle.law_role_inproxy.specs.Counted.{PutsForWhatCame, is_leg}
-use Rattle.law_role_inproxy.specs.Refusing.{RefusesFor}
+use Rattle.law_order.proofs.Vocabulary.{ℕ, subst}
+use Rattle.law_moves.proofs.Vocabulary.{of_leg}
+use Rattle.law_role_inproxy.proofs.Vocabulary.{PutsForWhatCame, is_leg, RefusesFor}
 use Rattle.law_peers_moments.specs.Moments.{AreMade, IsJoined, IsMoment, Moves, Numbers, in_behind, server_behind}
-use Rattle.law_peers_expects.specs.InProxyExpects.Announcing.{AnnouncesWhatCame}
 use Rattle.law_peers_expects.proofs.InProxyExpects.Answered.{read_answers}
 use Rattle.law_peers_expects.proofs.InProxyExpects.Expects.{Rest, expects_client, expects_server}
 use Rattle.law_peers_expects.proofs.InProxyExpects.Untold.{Laws}
 use Rattle.law_peers_expects.proofs.in_proxy_expects.expecting.an_in_proxy_expects_what_comes.Goals as goal
+use Rattle.law_peers_expects.specs.InProxyExpects.Announcing.{AnnouncesWhatCame}
 
 pub returns : goal.returns
 returns c = record {

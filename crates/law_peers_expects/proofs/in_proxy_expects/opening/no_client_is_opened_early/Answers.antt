@@ -1,6 +1,6 @@
-use Rattle.std.proofs.Common.{ℕ, subst}
-use Rattle.law_role_inproxy.specs.Counted.{PutsForWhatCame}
-use Rattle.law_role_outproxy.specs.Counted.{ForwardsWhatCame, OpensWhatCame}
+use Rattle.law_order.proofs.Vocabulary.{ℕ, subst}
+use Rattle.law_role_inproxy.proofs.Vocabulary.{PutsForWhatCame}
+use Rattle.law_role_outproxy.proofs.Vocabulary.{ForwardsWhatCame, OpensWhatCame}
 use Rattle.law_peers_moments.specs.Moments.{AreMade, Moves, Numbers, in_behind, out_behind}
 use Rattle.law_peers_expects.proofs.InProxyExpects.Early.{Laws, no_early_in, no_early_out}
 use Rattle.law_peers_expects.proofs.in_proxy_expects.opening.no_client_is_opened_early.Goals as goal

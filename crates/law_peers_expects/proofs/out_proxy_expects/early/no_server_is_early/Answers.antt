@@ -1,7 +1,6 @@
-use Rattle.std.proofs.Common.{ℕ, subst}
-use Rattle.law_moves.specs.Wires.{of_leg}
-use Rattle.law_role_outproxy.specs.Counted.{co_leg, os_leg}
-use Rattle.law_role_outproxy.specs.Putting.{IsToServer}
+use Rattle.law_order.proofs.Vocabulary.{ℕ, subst}
+use Rattle.law_moves.proofs.Vocabulary.{of_leg}
+use Rattle.law_role_outproxy.proofs.Vocabulary.{co_leg, os_leg, IsToServer}
 use Rattle.law_peers_moments.specs.Moments.{out_behind, passages}
 use Rattle.law_peers_expects.proofs.OutProxyExpects.NotEarly.{Laws, has_room, no_acks, see_to_it, server_leaves}
 use Rattle.law_peers_expects.proofs.out_proxy_expects.early.no_server_is_early.Goals as goal

@@ -1,21 +1,16 @@
-use Rattle.std.proofs.Common.{◌≡◌, ◌⊎◌, ℕ, inl, inr, subst}
-use Rattle.rh_rts.specs.declared.command.Cookie.{Cookie}
-use Rattle.rh_sig.specs.declared.named.Named.TheVariants.{AckTo}
-use Rattle.rh_client.specs.State.{ci, co}
-use Rattle.rh_server.specs.States.{no_cookie}
-use Rattle.law_moves.specs.Wires.{of_leg}
-use Rattle.law_moves.specs.Passages.Passing.{Has}
-use Rattle.law_moves.specs.Passages.Rising.{HasComeUp}
-use Rattle.law_role_outproxy.specs.Counted.{OpensAsAsked, OpensWhatCame}
-use Rattle.law_role_outproxy.specs.Refusing.{RefusesFor}
+use Rattle.law_order.proofs.Vocabulary.{◌≡◌, ◌⊎◌, ℕ, inl, inr, subst}
+use Rattle.law_moves.proofs.Vocabulary.{Cookie, AckTo, of_leg, Has, HasComeUp}
+use Rattle.law_role_client.proofs.Vocabulary.{ci, co}
+use Rattle.law_role_server.proofs.Vocabulary.{no_cookie}
+use Rattle.law_role_outproxy.proofs.Vocabulary.{OpensAsAsked, OpensWhatCame, RefusesFor}
 use Rattle.law_role_server_rows.specs.Putting.Puts.{os}
 use Rattle.law_role_server_rows.specs.Refusing.Cookies.{IsOutChannel}
 use Rattle.law_peers_moments.specs.Moments.{IsMoment, Moves, Numbers, out_behind, passages}
-use Rattle.law_peers_expects.specs.OutProxyExpects.Premises.{AreFit}
 use Rattle.law_peers_expects.proofs.OutProxyExpects.Expecting.{SeeToIt, expects}
 use Rattle.law_peers_expects.proofs.OutProxyExpects.Ordered.{EarlyLaws, ServerLaws}
 use Rattle.law_peers_expects.proofs.OutProxyExpects.Zeros.{from_client}
 use Rattle.law_peers_expects.proofs.out_proxy_expects.expects.an_out_proxy_expects_its_server.Goals as goal
+use Rattle.law_peers_expects.specs.OutProxyExpects.Premises.{AreFit}
 
 pub returns : goal.returns
 returns c = λ numbers reader moves moment fit.

@@ -1,8 +1,5 @@
-use Rattle.rh_outproxy.specs.Machine.{rules}
-use Rattle.rh_outproxy.specs.OutProxy.{new_proxy}
-use Rattle.law_moves.specs.Moves.{all_moved, started}
-use Rattle.law_moves.specs.Wires.{of_leg}
-use Rattle.law_role_outproxy.specs.Counted.{co_leg, os_leg}
+use Rattle.law_moves.proofs.Vocabulary.{all_moved, started, of_leg}
+use Rattle.law_role_outproxy.proofs.Vocabulary.{rules, new_proxy, co_leg, os_leg}
 use Rattle.law_peers_expects.proofs.Asked.Served.{serves}
 use Rattle.law_peers_expects.proofs.Asked.Serving.{puts_no_echo}
 use Rattle.law_peers_expects.proofs.requests.echoes.an_out_proxy_answers_echoes_alone.Goals as goal

@@ -1,12 +1,6 @@
-use Rattle.std.proofs.Common.{refl}
-use Rattle.std.specs.Prelude.{Some}
-use Rattle.rh_sig.specs.declared.name.Pipe.TheVariants.{CoD}
-use Rattle.rh_http.specs.Texts.{response_text}
-use Rattle.rh_outproxy.specs.Machine.{rules}
-use Rattle.rh_outproxy.specs.OutProxy.{new_proxy}
-use Rattle.law_moves.specs.Moves.{all_moved, started}
-use Rattle.law_moves.specs.Wires.{of_leg}
-use Rattle.law_role_outproxy.specs.Counted.{co_leg, os_leg}
+use Rattle.law_order.proofs.Vocabulary.{refl, Some}
+use Rattle.law_moves.proofs.Vocabulary.{CoD, response_text, all_moved, started, of_leg}
+use Rattle.law_role_outproxy.proofs.Vocabulary.{rules, new_proxy, co_leg, os_leg}
 use Rattle.law_peers_expects.proofs.Asked.Served.{served_well}
 use Rattle.law_peers_expects.proofs.requests.echoes.what_an_out_proxy_serves_reads_well.Goals as goal
 

@@ -1,8 +1,8 @@
-use Rattle.std.proofs.Common.{ℕ, subst}
+use Rattle.law_order.proofs.Vocabulary.{ℕ, subst}
 use Rattle.law_peers_moments.specs.Moments.{out_behind, passages}
-use Rattle.law_peers_forwarding.specs.Answering.Passing.{AnswersKeepBefore}
 use Rattle.law_peers_forwarding.proofs.Answering.OnTheWay.{come_before}
 use Rattle.law_peers_forwarding.proofs.answers.moments.answers_come_before_a_wish.Goals as goal
+use Rattle.law_peers_forwarding.specs.Answering.Passing.{AnswersKeepBefore}
 
 pub returns : goal.returns
 returns c numbers reader moves made joined =

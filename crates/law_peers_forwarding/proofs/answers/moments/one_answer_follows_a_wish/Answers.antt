@@ -1,4 +1,4 @@
-use Rattle.std.proofs.Common.{ℕ, subst}
+use Rattle.law_order.proofs.Vocabulary.{ℕ, subst}
 use Rattle.law_peers_moments.specs.Moments.{out_behind}
 use Rattle.law_peers_room.specs.OutRoom.Waits.{WaitsInOrder}
 use Rattle.law_peers_forwarding.proofs.Answering.OneMore.{one_follows}

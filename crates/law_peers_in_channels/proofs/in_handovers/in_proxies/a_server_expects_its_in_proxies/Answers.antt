@@ -1,7 +1,6 @@
-use Rattle.rh_server.specs.Servers.{rules as server_rules}
-use Rattle.law_moves.specs.Wires.{of_leg}
-use Rattle.law_moves.specs.ReadBack.Reading.{all_read_of}
-use Rattle.law_role_inproxy.specs.Counted.{is_leg}
+use Rattle.law_moves.proofs.Vocabulary.{of_leg, all_read_of}
+use Rattle.law_role_inproxy.proofs.Vocabulary.{is_leg}
+use Rattle.law_role_server.proofs.Vocabulary.{rules as server_rules}
 use Rattle.law_peers_moments.specs.Moments.{in_behind, server_behind}
 use Rattle.law_peers_in_channels.proofs.InHandovers.ByCases.{expects_all}
 use Rattle.law_peers_in_channels.proofs.in_handovers.in_proxies.a_server_expects_its_in_proxies.Goals as goal

@@ -1,6 +1,6 @@
-use Rattle.std.proofs.Common.{ℕ, subst}
-use Rattle.law_role_inproxy.specs.Counted.{PutsForWhatCame}
-use Rattle.law_role_outproxy.specs.Counted.{ForwardsWhatCame}
+use Rattle.law_order.proofs.Vocabulary.{ℕ, subst}
+use Rattle.law_role_inproxy.proofs.Vocabulary.{PutsForWhatCame}
+use Rattle.law_role_outproxy.proofs.Vocabulary.{ForwardsWhatCame}
 use Rattle.law_peers_moments.specs.Moments.{AreMade, Moves, Numbers, in_behind, out_behind}
 use Rattle.law_peers_in_channels.proofs.ServerExpects.Confirmed.{Confirming}
 use Rattle.law_peers_in_channels.proofs.ServerExpects.Connections.{Connecting}

@@ -1,8 +1,6 @@
-use Rattle.std.proofs.Common.{arith}
-use Rattle.rh_inproxy.specs.Machine.{rules as proxy_rules}
-use Rattle.rh_inproxy.specs.State.{first}
-use Rattle.law_moves.specs.Moves.{started}
-use Rattle.law_moves.specs.Turns.{none_up}
+use Rattle.law_order.proofs.Vocabulary.{arith}
+use Rattle.law_moves.proofs.Vocabulary.{started, none_up}
+use Rattle.law_role_inproxy.proofs.Vocabulary.{rules as proxy_rules, first}
 use Rattle.law_node_causes.specs.Numbers.{AreNumbered}
 use Rattle.law_peers_in_channels.proofs.ServerExpects.InTurn.{are_put_up}
 use Rattle.law_peers_in_channels.proofs.server_expects.in_proxies.an_in_proxy_in_turn_puts_in_order.Goals as goal

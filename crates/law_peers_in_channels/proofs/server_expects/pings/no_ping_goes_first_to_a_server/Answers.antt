@@ -1,7 +1,7 @@
-use Rattle.std.proofs.Common.{subst}
-use Rattle.law_moves.specs.Wires.{of_leg}
-use Rattle.law_role_inproxy.specs.Counted.{is_leg}
-use Rattle.law_role_outproxy.specs.Counted.{co_leg, os_leg}
+use Rattle.law_order.proofs.Vocabulary.{subst}
+use Rattle.law_moves.proofs.Vocabulary.{of_leg}
+use Rattle.law_role_inproxy.proofs.Vocabulary.{is_leg}
+use Rattle.law_role_outproxy.proofs.Vocabulary.{co_leg, os_leg}
 use Rattle.law_peers_moments.specs.Expecting.{HasNoPingFirst}
 use Rattle.law_peers_moments.specs.Moments.{in_behind, out_behind}
 use Rattle.law_peers_in_channels.proofs.ServerExpects.NoPing.{no_ping_in, no_ping_out}

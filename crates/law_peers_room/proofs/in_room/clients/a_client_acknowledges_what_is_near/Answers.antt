@@ -1,5 +1,5 @@
-use Rattle.law_moves.specs.Passages.Rising.{HasComeUp}
-use Rattle.law_role_client.specs.Order.{client_moved}
+use Rattle.law_moves.proofs.Vocabulary.{HasComeUp}
+use Rattle.law_role_client.proofs.Vocabulary.{client_moved}
 use Rattle.law_role_client_rows.specs.InTurn.Turns.{first_turn}
 use Rattle.law_peers_room.proofs.InRoom.Client.{acks_near}
 use Rattle.law_peers_room.proofs.InRoom.OnEach.{each_of_all}

@@ -1,20 +1,14 @@
-use Rattle.std.proofs.Common.{ℕ, List, subst, arith}
-use Rattle.rh_shell.specs.Rules.{Message}
-use Rattle.law_moves.specs.Wires.{of_leg}
-use Rattle.rh_outproxy.specs.OutProxy.{OutProxy}
-use Rattle.law_moves.specs.Moves.{Passage}
-use Rattle.law_moves.specs.Passages.Passing.{count_of}
-use Rattle.law_role_client.specs.Counted.Counting.{is_in_a4}
-use Rattle.law_role_outproxy.specs.Counted.{os_leg}
-use Rattle.law_moves.specs.ReadBack.Reading.{all_read_of}
-use Rattle.law_peers_moments.specs.Moments.{out_behind, passages, server_behind}
+use Rattle.law_order.proofs.Vocabulary.{ℕ, List, subst, arith, IsPrefix}
+use Rattle.law_moves.proofs.Vocabulary.{Message, of_leg, Passage, count_of, all_read_of}
+use Rattle.law_role_client.proofs.Vocabulary.{is_in_a4}
+use Rattle.law_role_outproxy.proofs.Vocabulary.{OutProxy, os_leg}
 use Rattle.law_peers_moments.proofs.Joining.{os_back}
-use mathlib.Core.List.{IsPrefix}
-use Rattle.law_peers_room.specs.OutRoom.Room.{AcksFewBetween, HasRoom, PassOneByOne}
-use Rattle.law_peers_room.specs.OutRoom.Waits.{WaitsInOrder, cookies_in, from_server, to_client, waiting_at}
+use Rattle.law_peers_moments.specs.Moments.{out_behind, passages, server_behind}
 use Rattle.law_peers_room.proofs.OutRoom.Few.{few_wait}
 use Rattle.law_peers_room.proofs.OutRoom.Fits.{few_in_all, has_room}
 use Rattle.law_peers_room.proofs.out_room.room.an_out_proxy_has_room_to_forward.Goals as goal
+use Rattle.law_peers_room.specs.OutRoom.Room.{AcksFewBetween, HasRoom, PassOneByOne}
+use Rattle.law_peers_room.specs.OutRoom.Waits.{WaitsInOrder, cookies_in, from_server, to_client, waiting_at}
 
 fits : (n : ℕ) (p : Passage OutProxy) (put : List Message) → WaitsInOrder n p
     → PassOneByOne n p → AcksFewBetween put → IsPrefix (from_server n p) (all_read_of put)

@@ -1,8 +1,8 @@
-use Rattle.std.proofs.Common.{ℕ, subst}
+use Rattle.law_order.proofs.Vocabulary.{ℕ, subst}
 use Rattle.law_peers_moments.specs.Moments.{out_behind, passages}
-use Rattle.law_peers_room.specs.OutRoom.Waits.{WaitsInOrder}
 use Rattle.law_peers_room.proofs.OutRoom.Rounds.{one_by_one}
 use Rattle.law_peers_room.proofs.out_room.room.what_goes_round_passes_an_out_proxy_one_by_one.Goals as goal
+use Rattle.law_peers_room.specs.OutRoom.Waits.{WaitsInOrder}
 
 pub returns : goal.returns
 returns c numbers reader moves made joined =

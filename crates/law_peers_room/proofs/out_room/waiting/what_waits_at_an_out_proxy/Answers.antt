@@ -1,16 +1,12 @@
-use Rattle.std.proofs.Common.{◌≡◌, ℕ, ◌+◌, Bool, arith, subst}
-use Rattle.rh_sig.specs.declared.named.Named.{Named}
-use Rattle.rh_outproxy.specs.Machine.{rules as proxy_rules}
-use Rattle.rh_outproxy.specs.OutProxy.{OutProxy, new_proxy}
-use Rattle.law_moves.specs.Moves.{Passage, all_moved, started}
-use Rattle.law_moves.specs.Passages.Passing.{count_of}
-use Rattle.law_moves.specs.PacketKinds.{is_conn_c1, is_conn_c2, is_out_r1_a1, is_out_r1_a2, is_out_r1_a5, is_out_r1_a6}
-use Rattle.law_role_client.specs.Counted.Counting.{is_in_a4}
-use Rattle.law_peers_room.specs.OutRoom.Waits.{AreOfCame, WaitsInOrder, from_server, is_in_a3, to_client, waiting_at}
+use Rattle.law_order.proofs.Vocabulary.{◌≡◌, ℕ, ◌+◌, Bool, arith, subst}
+use Rattle.law_moves.proofs.Vocabulary.{Named, Passage, all_moved, started, count_of, is_conn_c1, is_conn_c2, is_out_r1_a1, is_out_r1_a2, is_out_r1_a5, is_out_r1_a6}
+use Rattle.law_role_client.proofs.Vocabulary.{is_in_a4}
+use Rattle.law_role_outproxy.proofs.Vocabulary.{rules as proxy_rules, OutProxy, new_proxy}
 use Rattle.law_peers_room.proofs.OutRoom.Held.{AreWithin}
 use Rattle.law_peers_room.proofs.OutRoom.Merging.{Follow, all_wait, follow_acks}
 use Rattle.law_peers_room.proofs.OutRoom.Steps.{Held, proxy_holds, seen}
 use Rattle.law_peers_room.proofs.out_room.waiting.what_waits_at_an_out_proxy.Goals as goal
+use Rattle.law_peers_room.specs.OutRoom.Waits.{AreOfCame, WaitsInOrder, from_server, is_in_a3, to_client, waiting_at}
 
 of_came : (before after : Named → Bool) (n : ℕ) (p : Passage OutProxy)
     → AreWithin before after (waiting_at p) (from_server n p) (to_client n p)

@@ -1,11 +1,9 @@
-use Rattle.std.proofs.Common.{◌≡◌, ℕ, true, List, ◌∙◌, sym, subst}
-use Rattle.law_order.specs.Taking.{ReportsEnd}
-use Rattle.rh_client.specs.declared.state.ClientRole.{ClientRole}
-use Rattle.rh_server.specs.States.{Server, is_closing}
-use Rattle.law_role_client.specs.Order.{taker_of}
-use Rattle.law_peers_routes.specs.Downwards.{client_took}
+use Rattle.law_order.proofs.Vocabulary.{◌≡◌, ℕ, true, List, ◌∙◌, sym, subst, ReportsEnd}
+use Rattle.law_role_client.proofs.Vocabulary.{ClientRole, taker_of}
+use Rattle.law_role_server.proofs.Vocabulary.{Server, is_closing}
 use Rattle.law_peers_routes.proofs.Downwards.Sides.{told}
 use Rattle.law_peers_routes.proofs.down.down.callers_take_what_was_given.Goals as goal
+use Rattle.law_peers_routes.specs.Downwards.{client_took}
 
 pub returns : goal.returns
 returns c = record {

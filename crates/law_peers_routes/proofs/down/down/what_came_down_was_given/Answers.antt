@@ -1,5 +1,5 @@
-use Rattle.law_peers_routes.specs.Downwards.{route_of}
 use Rattle.law_peers_routes.proofs.down.down.what_came_down_was_given.Goals as goal
+use Rattle.law_peers_routes.specs.Downwards.{route_of}
 
 pub returns : goal.returns
 returns c = record {

@@ -1,12 +1,8 @@
-use Rattle.std.proofs.Common.{ℕ, subst}
-use Rattle.std.proofs.lemmas.Bool.{cases_eq}
-use Rattle.law_order.specs.Giving.{GiverLaw}
-use Rattle.rh_outproxy.specs.OutProxy.{OutProxy}
-use Rattle.rh_server.specs.States.{Server}
-use Rattle.law_moves.specs.Moves.{Passage, EndPassage}
-use Rattle.law_role_client.specs.Order.{TakesInOrder}
-use Rattle.law_role_server.specs.Order.{giver_of, sent}
-use Rattle.law_role_outproxy.specs.Order.{KeepsOrder}
+use Rattle.law_order.proofs.Vocabulary.{ℕ, subst, cases_eq, GiverLaw}
+use Rattle.law_moves.proofs.Vocabulary.{Passage, EndPassage}
+use Rattle.law_role_client.proofs.Vocabulary.{TakesInOrder}
+use Rattle.law_role_server.proofs.Vocabulary.{Server, giver_of, sent}
+use Rattle.law_role_outproxy.proofs.Vocabulary.{OutProxy, KeepsOrder}
 use Rattle.law_peers_routes.proofs.Downwards.Routing.{with_put, near_leg, far_leg, nothing_elsewhere, taker_quiet, numbered_down}
 use Rattle.law_peers_routes.proofs.down.down.what_goes_down_is_a_route.Goals as goal
 

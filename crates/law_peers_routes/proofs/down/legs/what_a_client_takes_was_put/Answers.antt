@@ -1,16 +1,8 @@
-use Rattle.std.proofs.Common.{Some, refl}
-use Rattle.law_order.specs.Logs.{seen}
-use Rattle.rh_sig.specs.declared.name.Pipe.TheVariants.{CoD}
-use Rattle.rh_http.specs.Texts.{refusal_text}
-use Rattle.rh_shell.specs.Shells.{begun}
-use Rattle.rh_outproxy.specs.declared.out_proxy.TheConstants.{ROOMS}
-use Rattle.rh_outproxy.specs.Machine.{rules as proxy_rules}
-use Rattle.rh_outproxy.specs.OutProxy.{new_proxy}
-use Rattle.law_moves.specs.Wires.{of_leg}
-use Rattle.law_role_client.specs.Order.{down_items}
-use Rattle.law_node_history.specs.Carried.{heard_on, drawn_on, happened}
-use Rattle.law_role_outproxy.specs.Legible.{pipe_put}
-use Rattle.law_role_outproxy.specs.Order.{client_leg, to_client}
+use Rattle.law_order.proofs.Vocabulary.{Some, refl, seen}
+use Rattle.law_moves.proofs.Vocabulary.{CoD, refusal_text, begun, of_leg}
+use Rattle.law_role_client.proofs.Vocabulary.{down_items}
+use Rattle.law_node_history.proofs.Vocabulary.{heard_on, drawn_on, happened}
+use Rattle.law_role_outproxy.proofs.Vocabulary.{ROOMS, rules as proxy_rules, new_proxy, pipe_put, client_leg, to_client}
 use Rattle.law_node_streams.proofs.Streams.LegLogs.{leg_reads_back}
 use Rattle.law_peers_routes.proofs.Downwards.Sides.{told, client_came, proxy_put, put_views, by_drawn}
 use Rattle.law_peers_routes.proofs.down.legs.what_a_client_takes_was_put.Goals as goal

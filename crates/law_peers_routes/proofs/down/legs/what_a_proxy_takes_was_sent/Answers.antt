@@ -1,11 +1,8 @@
-use Rattle.std.proofs.Common.{Some}
-use Rattle.rh_sig.specs.declared.name.Pipe.TheVariants.{OsD}
-use Rattle.rh_server.specs.Servers.{rules as server_rules, acts as server_acts, new_server}
-use Rattle.law_moves.specs.Wires.{of_leg}
-use Rattle.law_role_server.specs.Legible.{pipe_put}
-use Rattle.law_role_server.specs.Order.{out_items}
-use Rattle.law_node_history.specs.Carried.{heard_on, end_drawn_on}
-use Rattle.law_role_outproxy.specs.Order.{server_leg, from_server}
+use Rattle.law_order.proofs.Vocabulary.{Some}
+use Rattle.law_moves.proofs.Vocabulary.{OsD, of_leg}
+use Rattle.law_role_server.proofs.Vocabulary.{rules as server_rules, acts as server_acts, new_server, pipe_put, out_items}
+use Rattle.law_node_history.proofs.Vocabulary.{heard_on, end_drawn_on}
+use Rattle.law_role_outproxy.proofs.Vocabulary.{server_leg, from_server}
 use Rattle.law_node_streams.proofs.Streams.LegLogs.{leg_reads_back}
 use Rattle.law_peers_routes.proofs.Downwards.Sides.{told, proxy_came, server_sent, sent_views}
 use Rattle.law_peers_routes.proofs.down.legs.what_a_proxy_takes_was_sent.Goals as goal

@@ -1,4 +1,4 @@
-use Rattle.law_role_client.specs.Order.{client_moved}
+use Rattle.law_role_client.proofs.Vocabulary.{client_moved}
 use Rattle.law_role_client_rows.proofs.InTurn.NoPing.{begins_without_ping}
 use Rattle.law_role_client_rows.proofs.turns.pings.a_client_puts_no_ping_first.Goals as goal
 

@@ -1,4 +1,4 @@
-use Rattle.law_role_client.specs.Order.{client_moved}
+use Rattle.law_role_client.proofs.Vocabulary.{client_moved}
 use Rattle.law_role_client_rows.proofs.InTurn.Standing.{ends_once, ends_all}
 use Rattle.law_role_client_rows.proofs.turns.turns.no_pdu_follows_end.Goals as goal
 

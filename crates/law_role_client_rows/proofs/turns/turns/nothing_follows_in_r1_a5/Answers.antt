@@ -1,4 +1,4 @@
-use Rattle.law_role_client.specs.Order.{client_moved}
+use Rattle.law_role_client.proofs.Vocabulary.{client_moved}
 use Rattle.law_role_client_rows.proofs.InTurn.Standing.{ends_by_in_r1_a5}
 use Rattle.law_role_client_rows.proofs.turns.turns.nothing_follows_in_r1_a5.Goals as goal
 

@@ -1,5 +1,5 @@
-use Rattle.rh_server.specs.Servers.{acts, first, rules}
-use Rattle.law_moves.specs.Moves.{all_end_moved, end_started}
+use Rattle.law_moves.proofs.Vocabulary.{all_end_moved, end_started}
+use Rattle.law_role_server.proofs.Vocabulary.{acts, first, rules}
 use Rattle.law_role_server_rows.proofs.InTurn.OnTurn.{writes_on_begun}
 use Rattle.law_role_server_rows.proofs.turns.channels.a_server_writes_on_channels_that_began.Goals as goal
 

@@ -1,6 +1,5 @@
-use Rattle.rh_line.specs.declared.leg.LegKind.TheVariants.{InServer}
 use Rattle.rh_server.specs.Servers.{acts, first, rules}
-use Rattle.law_moves.specs.Moves.{all_end_moved, end_started}
+use Rattle.law_moves.proofs.Vocabulary.{InServer, all_end_moved, end_started}
 use Rattle.law_role_windows.proofs.Acknowledging.ServerPasses.{server_from}
 use Rattle.law_role_windows.proofs.Acknowledging.Sources.{all_passed}
 use Rattle.law_role_windows.proofs.acks.forwarders.a_server_passes_acknowledgements_on.Goals as goal

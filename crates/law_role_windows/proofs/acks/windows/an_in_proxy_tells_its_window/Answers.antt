@@ -1,7 +1,6 @@
-use Rattle.rh_line.specs.declared.leg.LegKind.TheVariants.{ClientIn}
 use Rattle.rh_inproxy.specs.Machine.{rules}
 use Rattle.rh_inproxy.specs.State.{first}
-use Rattle.law_moves.specs.Moves.{all_moved, started}
+use Rattle.law_moves.proofs.Vocabulary.{ClientIn, all_moved, started}
 use Rattle.law_role_windows.proofs.Acknowledging.InProxyPasses.{in_proxy_from}
 use Rattle.law_role_windows.proofs.Acknowledging.Sources.{own_b2, own_a2}
 use Rattle.law_role_windows.proofs.acks.windows.an_in_proxy_tells_its_window.Goals as goal

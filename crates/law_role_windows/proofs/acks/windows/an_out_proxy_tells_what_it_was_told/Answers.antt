@@ -1,7 +1,6 @@
-use Rattle.rh_line.specs.declared.leg.LegKind.TheVariants.{OutServer}
 use Rattle.rh_outproxy.specs.Machine.{rules}
 use Rattle.rh_outproxy.specs.OutProxy.{new_proxy}
-use Rattle.law_moves.specs.Moves.{all_moved, started}
+use Rattle.law_moves.proofs.Vocabulary.{OutServer, all_moved, started}
 use Rattle.law_role_windows.proofs.Acknowledging.OutProxyPasses.{out_proxy_from}
 use Rattle.law_role_windows.proofs.Acknowledging.Sources.{from_c1, from_a3}
 use Rattle.law_role_windows.proofs.acks.windows.an_out_proxy_tells_what_it_was_told.Goals as goal

@@ -1,8 +1,5 @@
-use Rattle.rh_client.specs.Client.{first_client, rooms, acts as client_acts}
-use Rattle.rh_client.specs.Client.{rules as client_rules}
-use Rattle.rh_client.specs.State.{first}
-use Rattle.law_moves.specs.Moving.{after_end_events}
-use Rattle.law_role_client.specs.Order.{client_moved}
+use Rattle.law_moves.proofs.Vocabulary.{after_end_events}
+use Rattle.law_role_client.proofs.Vocabulary.{first_client, rooms, acts as client_acts, rules as client_rules, first, client_moved}
 use Rattle.law_role_windows.proofs.Held.Lines.{first_kept, line_holds}
 use Rattle.law_role_windows.proofs.Held.Roles.{end_moves_keep, end_events_keep}
 use Rattle.law_role_windows.proofs.Held.ClientLine.{Kept, client_keeps, client_calls_keep}

@@ -1,11 +1,8 @@
-use Rattle.std.proofs.Common.{refl}
-use Rattle.rh_window.specs.Sides.{IsWindow}
+use Rattle.law_order.proofs.Vocabulary.{refl}
 use Rattle.rh_inproxy.specs.declared.state.InProxyConfig.{InProxyConfig}
-use Rattle.rh_inproxy.specs.Machine.{first_node, rooms}
-use Rattle.rh_inproxy.specs.Machine.{rules as proxy_rules}
+use Rattle.rh_inproxy.specs.Machine.{first_node, rooms, rules as proxy_rules}
 use Rattle.rh_inproxy.specs.State.{first}
-use Rattle.law_moves.specs.Moves.{all_moved, started}
-use Rattle.law_moves.specs.Moving.{after_events}
+use Rattle.law_moves.proofs.Vocabulary.{IsWindow, all_moved, started, after_events}
 use Rattle.law_role_windows.proofs.Held.Lines.{first_kept, line_holds}
 use Rattle.law_role_windows.proofs.Held.Roles.{moves_keep, events_keep}
 use Rattle.law_role_windows.proofs.Held.InProxyLine.{Kept, in_proxy_keeps}

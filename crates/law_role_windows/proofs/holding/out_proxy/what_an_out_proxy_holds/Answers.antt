@@ -1,9 +1,7 @@
-use Rattle.rh_shell.specs.Shells.{begun}
 use Rattle.rh_outproxy.specs.declared.out_proxy.TheConstants.{ROOMS}
 use Rattle.rh_outproxy.specs.Machine.{rules as proxy_rules}
 use Rattle.rh_outproxy.specs.OutProxy.{new_proxy}
-use Rattle.law_moves.specs.Moves.{all_moved, started}
-use Rattle.law_moves.specs.Moving.{after_events}
+use Rattle.law_moves.proofs.Vocabulary.{begun, all_moved, started, after_events}
 use Rattle.law_role_windows.proofs.Held.Lines.{first_kept, line_holds}
 use Rattle.law_role_windows.proofs.Held.Roles.{moves_keep, events_keep}
 use Rattle.law_role_windows.proofs.Held.OutProxyLine.{Kept, out_proxy_keeps}

@@ -1,9 +1,6 @@
-use Rattle.std.proofs.Common.{ℕ, refl}
-use Rattle.rh_window.specs.Sides.{IsWindow}
-use Rattle.rh_server.specs.Servers.{first, new_server, rooms, acts as server_acts}
-use Rattle.rh_server.specs.Servers.{rules as server_rules}
-use Rattle.law_moves.specs.Moves.{all_end_moved, end_started}
-use Rattle.law_moves.specs.Moving.{after_end_events}
+use Rattle.law_order.proofs.Vocabulary.{ℕ, refl}
+use Rattle.rh_server.specs.Servers.{first, new_server, rooms, acts as server_acts, rules as server_rules}
+use Rattle.law_moves.proofs.Vocabulary.{IsWindow, all_end_moved, end_started, after_end_events}
 use Rattle.law_role_windows.proofs.Held.Lines.{first_kept, line_holds}
 use Rattle.law_role_windows.proofs.Held.Roles.{end_moves_keep, end_events_keep}
 use Rattle.law_role_windows.proofs.Held.ServerLine.{Kept, server_keeps, server_calls_keep}

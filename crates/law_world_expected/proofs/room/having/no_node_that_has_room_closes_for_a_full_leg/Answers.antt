@@ -1,28 +1,24 @@
-use Rattle.rh_inproxy.specs.State.{InProxy}
-use Rattle.rh_outproxy.specs.OutProxy.{OutProxy}
-use Rattle.rh_client.specs.declared.state.ClientRole.{ClientRole}
-use Rattle.rh_server.specs.States.{Server}
-use Rattle.rh_nodes.specs.Opening.{Makers}
-use Rattle.rh_nodes.specs.World.{World}
-use Rattle.law_node_history.specs.Histories.{IsNew}
+use Rattle.law_role_inproxy.proofs.Vocabulary.{InProxy}
+use Rattle.law_role_client.proofs.Vocabulary.{ClientRole}
+use Rattle.law_role_server.proofs.Vocabulary.{Server}
+use Rattle.law_node_history.proofs.Vocabulary.{Makers, World, IsNew}
+use Rattle.law_role_outproxy.proofs.Vocabulary.{OutProxy}
 use Rattle.law_peers_moments.specs.Moments.{Numbers}
-use Rattle.law_node_traces.specs.Traced.Ours.{AreOurs, deeds, rules}
+use Rattle.law_node_traces.proofs.Vocabulary.{AreOurs, deeds, rules}
 use Rattle.law_peers_routes.proofs.Upwards.Unread.{refusal_unread}
-use Rattle.law_world_order.specs.Flows.{numbers_of}
-use Rattle.law_world_order.specs.Premises.{AreDistinct, AreInRange}
 use Rattle.law_world_order.proofs.Legs.{Reads}
-use Rattle.law_world_order.specs.Pasts.{numbers}
+use Rattle.law_world_order.proofs.Vocabulary.{numbers_of, AreDistinct, AreInRange, numbers}
 use Rattle.law_world_windows.proofs.Moment.{Laws}
 use Rattle.law_world_windows.proofs.Stopping.{Readings}
 use Rattle.law_world_expected.proofs.Amiss.AtNodes.{ClientKnows, RolesKnow}
 use Rattle.law_world_expected.proofs.Amiss.Closing.{EachCloses}
 use Rattle.law_world_expected.proofs.Amiss.Moments.{AllFlow}
-use Rattle.law_world_expected.specs.Roles.{Facts, OfClient, Premise, WorldsExpect}
 use Rattle.law_world_expected.proofs.Closing.{AtMoment}
 use Rattle.law_world_expected.proofs.Facts.{IsKept, client_kept, distinct_of_cookies}
-use Rattle.law_world_expected.specs.Roomy.{InHasRoom, OutHasRoom, ServerHasRoom}
 use Rattle.law_world_expected.proofs.Roomy.Closing.{no_client_full, no_in_full, no_out_full, no_server_full}
 use Rattle.law_world_expected.proofs.room.having.no_node_that_has_room_closes_for_a_full_leg.Goals as goal
+use Rattle.law_world_expected.specs.Roles.{Facts, OfClient, Premise, WorldsExpect}
+use Rattle.law_world_expected.specs.Roomy.{InHasRoom, OutHasRoom, ServerHasRoom}
 
 pub returns : goal.returns
 returns g c = record {

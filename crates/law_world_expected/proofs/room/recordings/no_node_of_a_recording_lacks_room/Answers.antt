@@ -1,5 +1,5 @@
-use Rattle.rh_line.specs.declared.cause.Cause.TheVariants.{ControlFull}
 use Rattle.rh_record.specs.declared.answer.Who.TheVariants as who
+use Rattle.law_moves.proofs.Vocabulary.{ControlFull}
 use Rattle.rh_world.specs.Roles as roles
 use Rattle.law_world_order.proofs.Recorded.{new, ours}
 use Rattle.law_world_expected.proofs.Recorded.{of_recording}

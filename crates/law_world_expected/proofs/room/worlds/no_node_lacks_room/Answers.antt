@@ -1,25 +1,20 @@
 use Rattle.rh_inproxy.specs.Machine as in_proxy
-use Rattle.rh_inproxy.specs.State.{InProxy}
 use Rattle.rh_outproxy.specs.Machine as out_proxy
-use Rattle.rh_outproxy.specs.OutProxy.{OutProxy}
-use Rattle.rh_client.specs.declared.state.ClientRole.{ClientRole}
-use Rattle.rh_client.specs.State.{ci}
 use Rattle.rh_server.specs.Servers as server
-use Rattle.rh_server.specs.States.{Server}
-use Rattle.rh_nodes.specs.Opening.{Makers}
-use Rattle.rh_nodes.specs.Readers.{reader_of}
-use Rattle.rh_nodes.specs.World.{World}
+use Rattle.law_role_inproxy.proofs.Vocabulary.{InProxy}
+use Rattle.law_role_client.proofs.Vocabulary.{ClientRole, ci}
+use Rattle.law_role_server.proofs.Vocabulary.{Server}
+use Rattle.law_node_history.proofs.Vocabulary.{reader_of, Makers, World}
+use Rattle.law_role_outproxy.proofs.Vocabulary.{OutProxy}
 use Rattle.law_peers_moments.specs.Moments.{in_behind, out_behind, server_behind}
 use Rattle.law_peers_expects.specs.OutProxyExpects.Early.{HaveLifetimes}
-use Rattle.law_node_traces.specs.Traced.Ours.{AreOurs}
-use Rattle.law_world_order.specs.Flows.{numbers_of}
-use Rattle.law_world_order.specs.Premises.{AreDistinct, AreInRange}
-use Rattle.law_world_order.specs.Pasts.{moves_of, numbers}
+use Rattle.law_node_traces.proofs.Vocabulary.{AreOurs}
+use Rattle.law_world_order.proofs.Vocabulary.{numbers_of, AreDistinct, AreInRange, moves_of, numbers}
 use Rattle.law_world_windows.specs.Hops.{is_leg, os_leg}
-use Rattle.law_world_expected.specs.Roles.{OfClient, WorldsExpect}
-use Rattle.law_world_expected.specs.Roomy.{InHasRoom, OutHasRoom, ServerHasRoom}
 use Rattle.law_world_expected.proofs.Roomy.Full.{finds_room}
 use Rattle.law_world_expected.proofs.room.worlds.no_node_lacks_room.Goals as goal
+use Rattle.law_world_expected.specs.Roles.{OfClient, WorldsExpect}
+use Rattle.law_world_expected.specs.Roomy.{InHasRoom, OutHasRoom, ServerHasRoom}
 
 pub returns : goal.returns
 returns g c = record {

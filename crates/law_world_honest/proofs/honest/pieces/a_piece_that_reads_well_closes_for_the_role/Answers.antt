@@ -1,6 +1,5 @@
-use Rattle.std.proofs.Common.{refl}
-use Rattle.rh_nodes.specs.declared.event.Event.TheVariants.{Comes}
-use Rattle.rh_nodes.specs.Telling.{tell}
+use Rattle.law_order.proofs.Vocabulary.{refl}
+use Rattle.law_node_history.proofs.Vocabulary.{Comes, tell}
 use Rattle.law_world_honest.proofs.Honesty.HeardWell.{going_is, piece_closes}
 use Rattle.law_world_honest.proofs.honest.pieces.a_piece_that_reads_well_closes_for_the_role.Goals as goal
 

@@ -1,17 +1,11 @@
-use Rattle.std.proofs.Common.{◌++◌, sym, ap, subst}
-use Rattle.std.specs.declared.option.Option.{Option}
-use Rattle.rh_sig.specs.declared.name.Pipe.{Pipe}
-use Rattle.rh_line.specs.declared.leg.Leg.{Leg}
-use Rattle.rh_shell.specs.NearEnds.{first_stage}
-use Rattle.rh_nodes.specs.declared.event.Event.TheVariants.{Comes}
-use Rattle.rh_nodes.specs.Telling.{tell}
-use Rattle.law_moves.specs.ReadBack.Reading.{Reading, reading}
-use Rattle.law_moves.specs.ReadBack.Well.{ReadsWellFrom}
+use Rattle.law_order.proofs.Vocabulary.{◌++◌, sym, ap, subst, Option}
+use Rattle.law_moves.proofs.Vocabulary.{Pipe, Leg, first_stage, Reading, reading, ReadsWellFrom}
+use Rattle.law_node_history.proofs.Vocabulary.{Comes, tell}
 use Rattle.law_node_streams.specs.Streams.{is_live}
-use Rattle.law_world_honest.specs.Honesty.Causes.{IsOfHeard}
 use Rattle.law_world_honest.proofs.Honesty.HeardWell.{going_is}
 use Rattle.law_world_honest.proofs.Honesty.WaitedHeads.{still_waits}
 use Rattle.law_world_honest.proofs.honest.pieces.what_is_heard_well_closes_for_the_role.Goals as goal
+use Rattle.law_world_honest.specs.Honesty.Causes.{IsOfHeard}
 
 pub returns : goal.returns
 returns g c = λ well node leg piece why pipe came put heard drawn strict reads seats closes.

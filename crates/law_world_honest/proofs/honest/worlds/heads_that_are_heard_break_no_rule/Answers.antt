@@ -1,5 +1,4 @@
-use Rattle.law_node_traces.specs.Traced.Ours.{deeds, rules}
-use Rattle.law_node_traces.specs.Traced.Recordings.{history_at}
+use Rattle.law_node_traces.proofs.Vocabulary.{deeds, rules, history_at}
 use Rattle.law_world_honest.proofs.Honesty.FirstHeads.{Heads, head_read}
 use Rattle.law_world_honest.proofs.honest.worlds.heads_that_are_heard_break_no_rule.Goals as goal
 

@@ -1,19 +1,13 @@
-use Rattle.std.proofs.Common.{◌≡◌, sym, subst}
-use Rattle.rh_window.specs.declared.fault.TheConstants.{FLOW_CONTROL_ACK}
+use Rattle.law_order.proofs.Vocabulary.{◌≡◌, sym, subst}
 use Rattle.rh_line.specs.declared.cause.Cause.TheVariants as cause
-use Rattle.rh_record.specs.declared.answer.Who.{Who}
-use Rattle.rh_nodes.specs.Readers.{reader_of}
-use Rattle.rh_nodes.specs.Wires.{receiver}
-use Rattle.rh_nodes.specs.World.{at}
-use Rattle.law_node_history.specs.Carried.{events_of, heard_on}
-use Rattle.law_node_history.specs.Changes.{IsFed}
-use Rattle.law_node_history.specs.Histories.{noted}
-use Rattle.law_node_traces.specs.Traced.Recordings.{history_at}
-use Rattle.law_world_honest.specs.Honesty.Honest.{IsOfNode}
+use Rattle.law_moves.proofs.Vocabulary.{FLOW_CONTROL_ACK}
+use Rattle.law_node_history.proofs.Vocabulary.{Who, reader_of, receiver, at, events_of, heard_on, IsFed, noted}
+use Rattle.law_node_traces.proofs.Vocabulary.{history_at}
 use Rattle.law_world_honest.proofs.Honesty.BadHeads.{no_bad_head}
 use Rattle.law_world_honest.proofs.Honesty.Closing.{EachRefuses, by_fed, each_of, of_acknowledgement, of_rules}
 use Rattle.law_world_honest.proofs.Honesty.Fed.{told_who}
 use Rattle.law_world_honest.proofs.honest.worlds.no_change_closes_a_node_for_bad_bytes.Goals as goal
+use Rattle.law_world_honest.specs.Honesty.Honest.{IsOfNode}
 
 pub returns-clause-frame : goal.returns-clause-frame
 returns-clause-frame g c = λ m w new ours ranges v by change node leg place fault may is.

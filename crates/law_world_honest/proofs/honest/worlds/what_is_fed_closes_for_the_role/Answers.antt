@@ -1,5 +1,5 @@
-use Rattle.law_node_history.specs.Changes.{IsFed}
-use Rattle.law_node_traces.specs.Traced.Recordings.{history_at}
+use Rattle.law_node_history.proofs.Vocabulary.{IsFed}
+use Rattle.law_node_traces.proofs.Vocabulary.{history_at}
 use Rattle.law_world_honest.proofs.Honesty.Fed.{EachCloses, fed_closes}
 use Rattle.law_world_honest.proofs.honest.worlds.what_is_fed_closes_for_the_role.Goals as goal
 

@@ -1,5 +1,4 @@
-use Rattle.law_node_traces.specs.Traced.Ours.{deeds, rules}
-use Rattle.law_node_traces.specs.Traced.Recordings.{history_at}
+use Rattle.law_node_traces.proofs.Vocabulary.{deeds, rules, history_at}
 use Rattle.law_world_honest.proofs.Honesty.Drawn.{Texts, leg_well}
 use Rattle.law_world_honest.proofs.honest.worlds.what_is_heard_reads_well.Goals as goal
 

@@ -1,7 +1,6 @@
-use Rattle.std.proofs.Common.{[], refl}
-use Rattle.rh_client.specs.Client.{rules, acts, first_client, rooms}
-use Rattle.rh_client.specs.State.{first}
-use Rattle.law_node_history.proofs.Once.{once_remembered_at_end}
+use Rattle.law_order.proofs.Vocabulary.{[], refl}
+use Rattle.law_role_client.proofs.Vocabulary.{rules, acts, first_client, rooms, first}
+use Rattle.law_node_history.proofs.Lemmas.{once_remembered_at_end}
 use Rattle.law_node_begins.specs.EndsBegin.{client_reads}
 use Rattle.law_world_honest.proofs.Refusals.Heard.{ClientLaws, heard_refusal, held}
 use Rattle.law_world_honest.proofs.Refusals.ClosedClients.{closed_refused}

@@ -1,18 +1,15 @@
-use Rattle.std.proofs.Common.{◌≡◌, ◌⊎◌, inl, inr, ℕ, List, arith, refl, subst}
-use Rattle.rh_line.specs.declared.leg.LegKind.TheVariants.{ClientIn, ClientOut, InServer, OutServer}
-use Rattle.rh_shell.specs.Shells.{Shell}
+use Rattle.law_order.proofs.Vocabulary.{◌≡◌, ◌⊎◌, inl, inr, ℕ, List, arith, refl, subst}
 use Rattle.rh_inproxy.specs.Machine as in_proxy
-use Rattle.rh_inproxy.specs.State.{InProxy}
 use Rattle.rh_outproxy.specs.Machine as out_proxy
-use Rattle.rh_outproxy.specs.OutProxy.{OutProxy}
-use Rattle.rh_nodes.specs.Readers.{reader_of}
-use Rattle.rh_nodes.specs.Settling.{leg_at}
-use Rattle.law_node_traces.specs.Traced.Refusals.{DrawsRightly}
-use Rattle.law_node_traces.specs.Traced.Recordings.{history_at}
-use Rattle.law_world_honest.specs.Refusals.Refused.{DrewRefusal}
+use Rattle.law_moves.proofs.Vocabulary.{ClientIn, ClientOut, InServer, OutServer, Shell}
+use Rattle.law_role_inproxy.proofs.Vocabulary.{InProxy}
+use Rattle.law_node_history.proofs.Vocabulary.{reader_of, leg_at}
+use Rattle.law_role_outproxy.proofs.Vocabulary.{OutProxy}
+use Rattle.law_node_traces.proofs.Vocabulary.{DrawsRightly, history_at}
 use Rattle.law_world_honest.proofs.Refusals.Losses.{in_lost_503, its_own, out_lost_503}
 use Rattle.law_world_honest.proofs.Refusals.Moments.{ProxyLaws, in_traced, out_traced}
 use Rattle.law_world_honest.proofs.refused.recordings.a_client_refused_with_503_lost_its_server.Goals as goal
+use Rattle.law_world_honest.specs.Refusals.Refused.{DrewRefusal}
 
 -- 503 is not the status of success
 no_success : (drawn : List ℕ) (status : ℕ) → status ≡ 503

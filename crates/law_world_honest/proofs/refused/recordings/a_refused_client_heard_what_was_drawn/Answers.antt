@@ -1,8 +1,7 @@
-use Rattle.std.proofs.Common.{refl}
-use Rattle.rh_text.specs.declared.ends.Dir.TheVariants.{D}
-use Rattle.rh_line.specs.declared.leg.LegKind.TheVariants.{ClientIn, ClientOut}
-use Rattle.rh_nodes.specs.Settling.{leg_at}
-use Rattle.law_node_traces.specs.Traced.Ours.{deeds, rules}
+use Rattle.law_order.proofs.Vocabulary.{refl}
+use Rattle.law_moves.proofs.Vocabulary.{D, ClientIn, ClientOut}
+use Rattle.law_node_history.proofs.Vocabulary.{leg_at}
+use Rattle.law_node_traces.proofs.Vocabulary.{deeds, rules}
 use Rattle.law_world_honest.proofs.Refusals.Drawn.{drawn_refused}
 use Rattle.law_world_honest.proofs.refused.recordings.a_refused_client_heard_what_was_drawn.Goals as goal
 

@@ -1,36 +1,24 @@
-use Rattle.std.proofs.Common.{◌≡◌, ℕ, List, [], refl, ap, ◌∙◌, subst}
-use mathlib.Core.List.{IsPrefix}
-use Rattle.rh_text.specs.declared.ends.Dir.TheVariants.{U}
-use Rattle.rh_line.specs.declared.cause.Cause.TheVariants.{HttpRefused}
-use Rattle.rh_line.specs.declared.leg.LegKind.TheVariants.{ClientIn, ClientOut}
-use Rattle.law_moves.specs.Carrying.{spelled}
-use Rattle.law_moves.specs.Laws.{ClosedWith}
-use Rattle.rh_shell.specs.Shells.{Shell}
-use Rattle.law_moves.specs.Wires.{of_leg}
-use Rattle.rh_nodes.specs.Readers.{reader_of}
-use Rattle.rh_nodes.specs.Settling.{leg_at}
-use Rattle.rh_client.specs.declared.state.ClientRole.{ClientRole}
-use Rattle.rh_client.specs.Client as client
+use Rattle.law_order.proofs.Vocabulary.{◌≡◌, ℕ, List, [], refl, ap, ◌∙◌, subst, IsPrefix}
 use Rattle.rh_inproxy.specs.Machine as in_proxy
-use Rattle.rh_inproxy.specs.State.{InProxy}
 use Rattle.rh_inproxy.specs.State as in_state
-use Rattle.rh_outproxy.specs.declared.out_proxy.TheConstants.{ROOMS}
 use Rattle.rh_outproxy.specs.Machine as out_proxy
-use Rattle.rh_outproxy.specs.OutProxy.{OutProxy, new_proxy}
-use Rattle.law_node_history.specs.Carried.{drawn_on, end_drawn_on, heard_on}
-use Rattle.law_moves.specs.Turns.{RefusesInTurn}
-use Rattle.law_peers_routes.specs.Downwards.{proxy_reads}
+use Rattle.rh_client.specs.Client as client
+use Rattle.law_moves.proofs.Vocabulary.{U, HttpRefused, ClientIn, ClientOut, Shell, spelled, ClosedWith, of_leg, RefusesInTurn}
+use Rattle.law_role_inproxy.proofs.Vocabulary.{InProxy}
+use Rattle.law_role_client.proofs.Vocabulary.{ClientRole}
+use Rattle.law_node_history.proofs.Vocabulary.{reader_of, leg_at, drawn_on, end_drawn_on, heard_on}
+use Rattle.law_node_history.proofs.Lemmas.{cast_kept}
+use Rattle.law_role_outproxy.proofs.Vocabulary.{ROOMS, OutProxy, new_proxy}
 use Rattle.law_node_begins.specs.ProxiesBegin.Pipes.{in_pipe}
-use Rattle.law_node_traces.specs.Traced.Ours.{deeds, rules}
-use Rattle.law_node_traces.specs.Traced.Recordings.{history_at}
-use Rattle.law_node_history.proofs.Leading.{cast_kept}
-use Rattle.law_world_honest.specs.Refusals.Refused.{BeginsRefused}
-use Rattle.law_world_honest.proofs.Refusals.Lost.{has_503}
+use Rattle.law_node_traces.proofs.Vocabulary.{deeds, rules, history_at}
+use Rattle.law_peers_routes.specs.Downwards.{proxy_reads}
 use Rattle.law_world_order.proofs.FirstTexts.Asking.{head_is, whole_requests}
 use Rattle.law_world_order.proofs.FirstTexts.OutTexts.{puts_200}
-use Rattle.law_world_honest.proofs.Refusals.Refusals.{none_refused, put_none}
 use Rattle.law_world_order.proofs.FirstTexts.Taken.{in_taken, none_echoes, out_taken}
+use Rattle.law_world_honest.proofs.Refusals.Lost.{has_503}
+use Rattle.law_world_honest.proofs.Refusals.Refusals.{none_refused, put_none}
 use Rattle.law_world_honest.proofs.refused.recordings.a_refused_client_lost_its_server.Goals as goal
+use Rattle.law_world_honest.specs.Refusals.Refused.{BeginsRefused}
 
 pub returns : goal.returns
 returns g c =

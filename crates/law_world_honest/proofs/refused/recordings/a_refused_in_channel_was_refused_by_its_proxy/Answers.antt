@@ -1,19 +1,14 @@
-use Rattle.std.proofs.Common.{inl, inr, ap, refl, ◌∙◌, subst, ⊎_elim}
-use Rattle.rh_line.specs.declared.leg.LegKind.TheVariants.{ClientIn}
-use Rattle.rh_shell.specs.Shells.{Shell}
+use Rattle.law_order.proofs.Vocabulary.{inl, inr, ap, refl, ◌∙◌, subst, ⊎_elim}
 use Rattle.rh_inproxy.specs.Machine as in_proxy
-use Rattle.rh_inproxy.specs.State.{InProxy}
-use Rattle.rh_nodes.specs.Readers.{reader_of}
-use Rattle.rh_nodes.specs.Settling.{leg_at}
-use Rattle.law_moves.specs.Wires.{of_leg}
-use Rattle.law_node_history.specs.Carried.{drawn_on}
-use Rattle.law_node_history.proofs.Leading.{cast_kept}
-use Rattle.law_node_traces.specs.Traced.Ours.{deeds, rules}
-use Rattle.law_node_traces.specs.Traced.Recordings.{history_at}
+use Rattle.law_moves.proofs.Vocabulary.{ClientIn, Shell, of_leg}
+use Rattle.law_role_inproxy.proofs.Vocabulary.{InProxy}
+use Rattle.law_node_history.proofs.Vocabulary.{reader_of, leg_at, drawn_on}
+use Rattle.law_node_history.proofs.Lemmas.{cast_kept}
+use Rattle.law_node_traces.proofs.Vocabulary.{deeds, rules, history_at}
 use Rattle.law_world_order.proofs.FirstTexts.InTexts.{echoes_alone}
-use Rattle.law_world_honest.specs.Refusals.Refused.{BeginsRefused}
 use Rattle.law_world_honest.proofs.Refusals.Refusals.{by_drawn, echo_success}
 use Rattle.law_world_honest.proofs.refused.recordings.a_refused_in_channel_was_refused_by_its_proxy.Goals as goal
+use Rattle.law_world_honest.specs.Refusals.Refused.{BeginsRefused}
 
 pub returns : goal.returns
 returns g c = λ m w new ours ranges v by n status h.

@@ -1,15 +1,9 @@
-use Rattle.std.proofs.Common.{refl, ⊎_elim}
-use Rattle.rh_text.specs.declared.ends.Dir.TheVariants.{D}
-use Rattle.rh_line.specs.declared.leg.LegKind.TheVariants.{ClientOut}
-use Rattle.rh_shell.specs.Shells.{begun}
-use Rattle.rh_outproxy.specs.declared.out_proxy.TheConstants.{ROOMS}
+use Rattle.law_order.proofs.Vocabulary.{refl, ⊎_elim}
 use Rattle.rh_outproxy.specs.Machine as out_proxy
-use Rattle.rh_outproxy.specs.OutProxy.{new_proxy}
-use Rattle.rh_nodes.specs.Settling.{leg_at}
-use Rattle.law_moves.specs.Wires.{of_leg}
-use Rattle.law_node_history.specs.Carried.{drawn_on, happened, heard_on}
-use Rattle.law_node_traces.specs.Traced.Ours.{deeds, rules}
-use Rattle.law_node_traces.specs.Traced.Recordings.{history_at}
+use Rattle.law_moves.proofs.Vocabulary.{D, ClientOut, begun, of_leg}
+use Rattle.law_node_history.proofs.Vocabulary.{leg_at, drawn_on, happened, heard_on}
+use Rattle.law_role_outproxy.proofs.Vocabulary.{ROOMS, new_proxy}
+use Rattle.law_node_traces.proofs.Vocabulary.{deeds, rules, history_at}
 use Rattle.law_world_order.proofs.FirstTexts.OutTexts.{puts_200}
 use Rattle.law_world_honest.proofs.Refusals.Drawn.{heard_refused, refused_more}
 use Rattle.law_world_honest.proofs.Refusals.Refusals.{by_drawn, put_none}

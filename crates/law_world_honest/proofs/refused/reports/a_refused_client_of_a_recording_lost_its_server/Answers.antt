@@ -1,8 +1,8 @@
-use Rattle.rh_line.specs.declared.leg.LegKind.TheVariants.{ClientIn, ClientOut}
-use Rattle.rh_nodes.specs.Settling.{leg_at}
-use Rattle.rh_world.specs.declared.config.WorldConfig.{WorldConfig}
+use Rattle.law_moves.proofs.Vocabulary.{ClientIn, ClientOut}
+use Rattle.law_node_history.proofs.Vocabulary.{leg_at}
 use Rattle.rh_world.specs.Roles as roles
 use Rattle.law_node_traces.proofs.Traced.ByChanges.{lines_by_changes}
+use Rattle.law_world_reports.proofs.Vocabulary.{WorldConfig}
 use Rattle.law_world_order.proofs.Recorded.{in_range, new, ours}
 use Rattle.law_world_order.proofs.FirstTexts.Taken.{recorded_port}
 use Rattle.law_world_honest.proofs.Refusals.Reporting.{an_in_proxy, an_out_proxy, reported_loss}

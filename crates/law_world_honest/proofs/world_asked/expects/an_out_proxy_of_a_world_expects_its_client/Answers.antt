@@ -1,4 +1,4 @@
-use Rattle.law_node_traces.specs.Traced.Recordings.{history_at}
+use Rattle.law_node_traces.proofs.Vocabulary.{history_at}
 use Rattle.law_world_honest.proofs.WorldAsked.Expecting.{flow_expects}
 use Rattle.law_world_honest.proofs.world_asked.expects.an_out_proxy_of_a_world_expects_its_client.Goals as goal
 

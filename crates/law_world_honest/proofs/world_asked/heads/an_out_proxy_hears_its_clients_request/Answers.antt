@@ -1,26 +1,16 @@
-use Rattle.std.proofs.Common.{ℕ, subst}
-use Rattle.std.specs.List.{AllByRecursion}
-use mathlib.Core.List.{IsPrefix}
-use Rattle.rh_text.specs.declared.ends.Dir.TheVariants.{U}
-use Rattle.rh_line.specs.declared.leg.LegKind.TheVariants.{ClientOut}
-use Rattle.rh_shell.specs.Shells.{Shell}
-use Rattle.rh_nodes.specs.Opening.{Makers}
-use Rattle.rh_nodes.specs.Settling.{leg_at}
-use Rattle.rh_nodes.specs.World.{World}
-use Rattle.rh_client.specs.declared.state.ClientRole.{ClientRole}
+use Rattle.law_order.proofs.Vocabulary.{ℕ, subst, AllByRecursion, IsPrefix}
 use Rattle.rh_client.specs.Client as client
-use Rattle.rh_inproxy.specs.State.{InProxy}
-use Rattle.rh_outproxy.specs.OutProxy.{OutProxy}
-use Rattle.rh_server.specs.States.{Server}
-use Rattle.law_node_history.specs.Carried.{end_drawn_on, heard_on}
-use Rattle.law_node_history.specs.Histories.{IsNew}
-use Rattle.law_node_traces.specs.Traced.Cookies.{ByChanges}
-use Rattle.law_node_traces.specs.Traced.Ours.{AreOurs, deeds, rules}
-use Rattle.law_node_traces.specs.Traced.Recordings.{history_at}
-use Rattle.law_world_order.specs.Flows.{IsFlowing, numbers_of}
-use Rattle.law_world_honest.specs.WorldAsked.{IsOwnHead}
+use Rattle.law_moves.proofs.Vocabulary.{U, ClientOut, Shell}
+use Rattle.law_role_inproxy.proofs.Vocabulary.{InProxy}
+use Rattle.law_role_client.proofs.Vocabulary.{ClientRole}
+use Rattle.law_role_server.proofs.Vocabulary.{Server}
+use Rattle.law_node_history.proofs.Vocabulary.{Makers, leg_at, World, end_drawn_on, heard_on, IsNew}
+use Rattle.law_role_outproxy.proofs.Vocabulary.{OutProxy}
+use Rattle.law_node_traces.proofs.Vocabulary.{ByChanges, AreOurs, deeds, rules, history_at}
+use Rattle.law_world_order.proofs.Vocabulary.{IsFlowing, numbers_of}
 use Rattle.law_world_honest.proofs.WorldAsked.OwnHeads.{heads_own, heads_read}
 use Rattle.law_world_honest.proofs.world_asked.heads.an_out_proxy_hears_its_clients_request.Goals as goal
+use Rattle.law_world_honest.specs.WorldAsked.{IsOwnHead}
 
 pub returns : goal.returns
 returns g c = record {

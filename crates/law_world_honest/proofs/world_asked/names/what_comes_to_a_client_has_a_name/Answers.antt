@@ -1,9 +1,7 @@
-use Rattle.rh_text.specs.declared.ends.Dir.TheVariants.{D}
-use Rattle.rh_line.specs.declared.leg.LegKind.TheVariants.{ClientOut}
 use Rattle.rh_record.specs.declared.answer.Who.TheVariants as who
-use Rattle.rh_nodes.specs.Settling.{leg_at}
-use Rattle.law_node_traces.specs.Traced.Ours.{deeds, rules}
-use Rattle.law_node_traces.specs.Traced.Recordings.{history_at}
+use Rattle.law_moves.proofs.Vocabulary.{D, ClientOut}
+use Rattle.law_node_history.proofs.Vocabulary.{leg_at}
+use Rattle.law_node_traces.proofs.Vocabulary.{deeds, rules, history_at}
 use Rattle.law_world_order.proofs.Heard.{as_first, from_out}
 use Rattle.law_world_honest.proofs.WorldAsked.Named.{Texts, reads_named}
 use Rattle.law_world_honest.proofs.world_asked.names.what_comes_to_a_client_has_a_name.Goals as goal

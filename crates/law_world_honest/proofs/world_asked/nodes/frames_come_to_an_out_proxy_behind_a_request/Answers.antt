@@ -1,18 +1,10 @@
-use Rattle.std.proofs.Common.{◌≡◌, ℕ, ap, ◌∙◌, subst}
-use Rattle.std.specs.Prelude.{Some, is_some, true}
-use Rattle.rh_line.specs.declared.leg.LegKind.TheVariants.{ClientOut}
-use Rattle.rh_shell.specs.declared.course.Course.TheVariants.{Going}
+use Rattle.law_order.proofs.Vocabulary.{◌≡◌, ℕ, ap, ◌∙◌, subst, Some, is_some, true}
 use Rattle.rh_shell.specs.declared.stage.Stage.TheVariants as stage
-use Rattle.rh_shell.specs.Shells.{Shell, begun, end_at}
-use Rattle.rh_outproxy.specs.declared.out_proxy.TheConstants.{ROOMS}
-use Rattle.rh_outproxy.specs.Machine.{rules as out_rules}
-use Rattle.rh_outproxy.specs.OutProxy.{OutProxy, new_proxy}
-use Rattle.rh_nodes.specs.Settling.{leg_at}
-use Rattle.law_moves.specs.Moving.{after_events}
-use Rattle.law_node_history.specs.Carried.{AreAccepted, ComesUpOnce}
-use Rattle.law_node_history.proofs.Leading.{cast_kept}
-use Rattle.law_node_traces.specs.Traced.Ours.{deeds, rules}
-use Rattle.law_node_traces.specs.Traced.Recordings.{history_at}
+use Rattle.law_moves.proofs.Vocabulary.{ClientOut, Going, Shell, begun, end_at, after_events}
+use Rattle.law_node_history.proofs.Vocabulary.{leg_at, AreAccepted, ComesUpOnce}
+use Rattle.law_node_history.proofs.Lemmas.{cast_kept}
+use Rattle.law_role_outproxy.proofs.Vocabulary.{ROOMS, rules as out_rules, OutProxy, new_proxy}
+use Rattle.law_node_traces.proofs.Vocabulary.{deeds, rules, history_at}
 use Rattle.law_world_honest.proofs.world_asked.nodes.frames_come_to_an_out_proxy_behind_a_request.Goals as goal
 
 pub returns : goal.returns

@@ -1,17 +1,14 @@
-use Rattle.std.proofs.Common.{subst}
-use Rattle.rh_inproxy.specs.State.{InProxy}
-use Rattle.rh_outproxy.specs.OutProxy.{OutProxy}
-use Rattle.rh_client.specs.declared.state.ClientRole.{ClientRole}
-use Rattle.rh_server.specs.States.{Server}
-use Rattle.rh_nodes.specs.Opening.{Makers}
-use Rattle.rh_nodes.specs.Readers.{reader_of}
-use Rattle.rh_nodes.specs.World.{World}
-use Rattle.law_moves.specs.Moves.{EndPassage}
+use Rattle.law_order.proofs.Vocabulary.{subst}
+use Rattle.law_moves.proofs.Vocabulary.{EndPassage}
+use Rattle.law_role_inproxy.proofs.Vocabulary.{InProxy}
+use Rattle.law_role_client.proofs.Vocabulary.{ClientRole}
+use Rattle.law_role_server.proofs.Vocabulary.{Server}
+use Rattle.law_node_history.proofs.Vocabulary.{reader_of, Makers, World}
+use Rattle.law_role_outproxy.proofs.Vocabulary.{OutProxy}
 use Rattle.law_peers_moments.specs.Moments.{server_behind}
 use Rattle.law_peers_moments.specs.GoingRound.{GoRound}
-use Rattle.law_node_traces.specs.Traced.Cookies.{ByChanges}
-use Rattle.law_node_traces.specs.Traced.Ours.{AreOurs, deeds, rules}
-use Rattle.law_world_order.specs.Pasts.{HasMoment, moves_of, numbers}
+use Rattle.law_node_traces.proofs.Vocabulary.{ByChanges, AreOurs, deeds, rules}
+use Rattle.law_world_order.proofs.Vocabulary.{HasMoment, moves_of, numbers}
 use Rattle.law_world_order.proofs.at_moments.rounds.replacements_of_a_world_go_round.Goals as goal
 
 pub returns : goal.returns

@@ -1,4 +1,4 @@
-use Rattle.rh_nodes.specs.Company.{rules_of}
+use Rattle.law_node_history.proofs.Vocabulary.{rules_of}
 use Rattle.law_world_reports.proofs.Closed.Licensed.{line_licenses}
 use Rattle.law_world_reports.proofs.closes.licences.each_close_shows.Goals as goal
 

@@ -1,6 +1,5 @@
-use Rattle.rh_line.specs.declared.cause.Cause.TheVariants.{Silent}
-use Rattle.rh_world.specs.declared.any_world.AnyWorld.TheVariants.{Before}
-use Rattle.rh_world.specs.Any.{after, prepared}
+use Rattle.law_moves.proofs.Vocabulary.{Silent}
+use Rattle.law_world_reports.proofs.Vocabulary.{Before, after, prepared}
 use Rattle.law_world_reports.proofs.Closed.Recorded.{reached_in}
 use Rattle.law_world_reports.proofs.Closed.Silent.{silent_in}
 use Rattle.law_world_reports.proofs.closes.recordings.a_node_of_a_recording_falls_silent.Goals as goal

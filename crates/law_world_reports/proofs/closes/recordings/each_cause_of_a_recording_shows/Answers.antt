@@ -1,5 +1,4 @@
-use Rattle.rh_world.specs.declared.any_world.AnyWorld.TheVariants.{Before}
-use Rattle.rh_world.specs.Any.{after, prepared}
+use Rattle.law_world_reports.proofs.Vocabulary.{Before, after, prepared}
 use Rattle.law_world_reports.proofs.Closed.Reported.{report_shows}
 use Rattle.law_world_reports.proofs.closes.recordings.each_cause_of_a_recording_shows.Goals as goal
 

@@ -1,6 +1,5 @@
-use Rattle.rh_line.specs.declared.cause.Cause.TheVariants.{HttpRefused}
-use Rattle.rh_world.specs.declared.any_world.AnyWorld.TheVariants.{Before}
-use Rattle.rh_world.specs.Any.{after, prepared}
+use Rattle.law_moves.proofs.Vocabulary.{HttpRefused}
+use Rattle.law_world_reports.proofs.Vocabulary.{Before, after, prepared}
 use Rattle.law_world_reports.proofs.Closed.Recorded.{reached_in}
 use Rattle.law_world_reports.proofs.Closed.Refused.{refused_in}
 use Rattle.law_world_reports.proofs.closes.recordings.only_a_client_of_a_recording_is_refused.Goals as goal

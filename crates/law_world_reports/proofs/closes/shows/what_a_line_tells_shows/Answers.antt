@@ -1,4 +1,4 @@
-use Rattle.rh_nodes.specs.Steps.{step_line}
+use Rattle.law_node_history.proofs.Vocabulary.{step_line}
 use Rattle.law_world_reports.proofs.Closed.Lines.{goes_step_line}
 use Rattle.law_world_reports.proofs.closes.shows.what_a_line_tells_shows.Goals as goal
 

@@ -1,7 +1,7 @@
-use Rattle.std.proofs.Common.{refl}
+use Rattle.law_order.proofs.Vocabulary.{refl}
 use Rattle.rh_world.specs.Roles as roles
-use Rattle.law_world_reports.specs.Ordering.Counted.{CountsCapped}
 use Rattle.law_world_reports.proofs.Ordering.Recorded.{roles_hold}
+use Rattle.law_world_reports.proofs.Vocabulary.{CountsCapped}
 use Rattle.law_world_reports.proofs.ordered.counts.a_recording_counts.Goals as goal
 
 pub returns : goal.returns

@@ -1,6 +1,5 @@
-use Rattle.rh_client.specs.declared.state.ClientRole.{ClientRole}
-use Rattle.rh_client.specs.State.{first}
 use Rattle.rh_client.specs.Client as client
+use Rattle.law_role_client.proofs.Vocabulary.{ClientRole, first}
 use Rattle.law_world_reports.proofs.Ordering.UntilClosing.{gives_until_closing}
 use Rattle.law_world_reports.proofs.ordered.ends.a_client_gives_until_it_is_told_to_close.Goals as goal
 

@@ -1,5 +1,5 @@
-use Rattle.rh_server.specs.States.{Server, is_closing}
 use Rattle.rh_server.specs.Servers as server
+use Rattle.law_role_server.proofs.Vocabulary.{Server, is_closing}
 use Rattle.law_world_reports.proofs.Ordering.UntilClosing.{gives_until_closing}
 use Rattle.law_world_reports.proofs.ordered.ends.a_server_gives_until_it_is_told_to_close.Goals as goal
 

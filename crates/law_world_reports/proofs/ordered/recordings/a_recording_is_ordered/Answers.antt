@@ -1,4 +1,4 @@
-use Rattle.std.proofs.Common.{refl}
+use Rattle.law_order.proofs.Vocabulary.{refl}
 use Rattle.rh_world.specs.Roles as roles
 use Rattle.law_world_reports.proofs.Ordering.Recorded.{new, ours, run_ordered}
 use Rattle.law_world_reports.proofs.ordered.recordings.a_recording_is_ordered.Goals as goal

@@ -1,12 +1,10 @@
-use Rattle.std.proofs.Common.{sym, subst}
-use Rattle.rh_record.specs.Events.Events.{events, offered}
-use Rattle.rh_client.specs.declared.state.ClientRole.{ClientRole}
-use Rattle.rh_server.specs.States.{Server, is_closing}
-use Rattle.rh_nodes.specs.Steps.{told}
-use Rattle.law_node_history.specs.Histories.{nothing}
-use Rattle.law_node_traces.specs.Traced.Ours.{deeds, rules}
-use Rattle.law_world_reports.specs.Ordering.Ends.{GivesUntilClosing}
+use Rattle.law_order.proofs.Vocabulary.{sym, subst}
+use Rattle.law_role_client.proofs.Vocabulary.{ClientRole}
+use Rattle.law_role_server.proofs.Vocabulary.{Server, is_closing}
+use Rattle.law_node_history.proofs.Vocabulary.{events, offered, told, nothing}
+use Rattle.law_node_traces.proofs.Vocabulary.{deeds, rules}
 use Rattle.law_world_reports.proofs.Ordering.Ordering.{Telling, in_order, none_taken_after, none_given_after, all_at_clean_end}
+use Rattle.law_world_reports.proofs.Vocabulary.{GivesUntilClosing}
 use Rattle.law_world_reports.proofs.ordered.reports.a_report_is_ordered.Goals as goal
 
 pub returns : goal.returns

@@ -1,4 +1,4 @@
-use Rattle.rh_nodes.specs.Steps.{step, step_line}
+use Rattle.law_node_history.proofs.Vocabulary.{step, step_line}
 use Rattle.law_world_ways.proofs.EndsInTime.Behind.{NoLeg}
 use Rattle.law_world_ways.proofs.EndsInTime.Both.{first_up}
 use Rattle.law_world_ways.proofs.EndsInTime.Goes.{ends_in_time, goes_none, in_time_then}

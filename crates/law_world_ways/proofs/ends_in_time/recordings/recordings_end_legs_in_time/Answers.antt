@@ -1,4 +1,4 @@
-use Rattle.rh_world.specs.declared.any_world.AnyWorld.TheVariants.{Before}
+use Rattle.law_world_reports.proofs.Vocabulary.{Before}
 use Rattle.law_world_ways.proofs.EndsInTime.Recorded.{none_lose, recording_in_time}
 use Rattle.law_world_ways.proofs.ends_in_time.recordings.recordings_end_legs_in_time.Goals as goal
 

@@ -1,4 +1,4 @@
-use Rattle.rh_nodes.specs.Settling.{round, settle}
+use Rattle.law_node_history.proofs.Vocabulary.{round, settle}
 use Rattle.law_world_ways.proofs.EndsInTime.Goes.{ends_in_time}
 use Rattle.law_world_ways.proofs.EndsInTime.Rounds.{round_in_time, settle_in_time}
 use Rattle.law_world_ways.proofs.ends_in_time.settling.settling_ends_legs_in_time.Goals as goal

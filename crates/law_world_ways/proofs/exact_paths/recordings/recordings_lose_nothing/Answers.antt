@@ -1,7 +1,6 @@
-use Rattle.rh_world.specs.declared.any_world.AnyWorld.TheVariants.{Before}
-use Rattle.rh_world.specs.Any.{after}
 use Rattle.rh_world.specs.Roles as roles
 use Rattle.law_node_traces.proofs.Traced.ByChanges.{lines_by_changes}
+use Rattle.law_world_reports.proofs.Vocabulary.{Before, after}
 use Rattle.law_world_order.proofs.FirstTexts.Taken.{recorded_port}
 use Rattle.law_world_order.proofs.Recorded.{in_range, new, ours}
 use Rattle.law_world_ways.proofs.ExactPaths.Recorded.{Laws, each_keeps}

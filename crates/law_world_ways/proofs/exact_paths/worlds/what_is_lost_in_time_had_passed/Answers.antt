@@ -1,22 +1,17 @@
-use Rattle.std.proofs.Common.{subst}
-use Rattle.rh_inproxy.specs.State.{InProxy}
-use Rattle.rh_outproxy.specs.OutProxy.{OutProxy}
-use Rattle.rh_client.specs.declared.state.ClientRole.{ClientRole}
-use Rattle.rh_server.specs.States.{Server}
-use Rattle.rh_nodes.specs.Opening.{Makers}
-use Rattle.rh_nodes.specs.World.{World}
-use Rattle.law_node_history.specs.Histories.{IsNew, all_noted, nothing}
-use Rattle.law_node_traces.specs.Traced.Ours.{AreOurs, deeds, rules}
-use Rattle.law_world_order.specs.Directions.{down_route_of, up_route_of}
-use Rattle.law_world_order.specs.Flows.{numbers_of}
-use Rattle.law_world_order.specs.Premises.{AreInRange}
-use Rattle.law_world_order.specs.FirstTexts.{IsPort}
-use Rattle.law_world_ways.specs.OnPaths.Ways.{AreOnTheirWay, down_lost, up_lost}
-use Rattle.law_world_ways.specs.ExactWays.Pdus.{NoneStopsButBehindEnd}
+use Rattle.law_order.proofs.Vocabulary.{subst}
+use Rattle.law_role_inproxy.proofs.Vocabulary.{InProxy}
+use Rattle.law_role_client.proofs.Vocabulary.{ClientRole}
+use Rattle.law_role_server.proofs.Vocabulary.{Server}
+use Rattle.law_node_history.proofs.Vocabulary.{Makers, World, IsNew, all_noted, nothing}
+use Rattle.law_role_outproxy.proofs.Vocabulary.{OutProxy}
+use Rattle.law_node_traces.proofs.Vocabulary.{AreOurs, deeds, rules}
+use Rattle.law_world_order.proofs.Vocabulary.{down_route_of, up_route_of, numbers_of, AreInRange, IsPort}
 use Rattle.law_world_ways.proofs.ExactPaths.DownLegs.{none_stops_down}
 use Rattle.law_world_ways.proofs.ExactPaths.UpLegs.{none_stops_up}
 use Rattle.law_world_ways.proofs.ExactPaths.AtFronts.{NodeLaws, WorldLaws}
 use Rattle.law_world_ways.proofs.exact_paths.worlds.what_is_lost_in_time_had_passed.Goals as goal
+use Rattle.law_world_ways.specs.OnPaths.Ways.{AreOnTheirWay, down_lost, up_lost}
+use Rattle.law_world_ways.specs.ExactWays.Pdus.{NoneStopsButBehindEnd}
 
 pub returns : goal.returns
 returns g c = record {

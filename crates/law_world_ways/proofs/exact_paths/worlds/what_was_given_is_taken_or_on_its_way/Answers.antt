@@ -1,6 +1,6 @@
-use Rattle.law_node_history.specs.Histories.{all_noted, nothing}
-use Rattle.law_node_traces.specs.Traced.Ours.{deeds, rules}
-use Rattle.law_world_order.specs.Flows.{numbers_of}
+use Rattle.law_node_history.proofs.Vocabulary.{all_noted, nothing}
+use Rattle.law_node_traces.proofs.Vocabulary.{deeds, rules}
+use Rattle.law_world_order.proofs.Vocabulary.{numbers_of}
 use Rattle.law_world_ways.proofs.exact_paths.worlds.what_was_given_is_taken_or_on_its_way.Goals as goal
 
 pub returns : goal.returns

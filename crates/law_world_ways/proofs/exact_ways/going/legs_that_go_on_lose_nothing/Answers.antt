@@ -1,20 +1,17 @@
-use Rattle.std.proofs.Common.{◌≡◌, ◌++◌, ℕ, Bool, true, false, if◌then◌else◌, List, [], Some, None, refl, sym, ap, ◌∙◌}
-use Rattle.std.specs.declared.option.Option.{Option}
-use Rattle.law_order.specs.Items.{Item}
-use Rattle.law_order.specs.Paths.{path}
-use Rattle.rh_shell.specs.Rules.{Message}
-use Rattle.rh_nodes.specs.Readers.{reader_of}
-use Rattle.law_role_inproxy.specs.Order.{item_came}
-use Rattle.law_role_client.specs.Order.{down_items, has_leg}
-use Rattle.law_role_server.specs.Order.{in_items}
-use Rattle.law_role_outproxy.specs.Order.{from_server}
+use Rattle.law_order.proofs.Vocabulary.{◌≡◌, ◌++◌, ℕ, Bool, true, false, if◌then◌else◌, List, [], Some, None, refl, sym, ap, ◌∙◌, Option, Item, path}
+use Rattle.law_moves.proofs.Vocabulary.{Message}
+use Rattle.law_role_inproxy.proofs.Vocabulary.{item_came}
+use Rattle.law_role_client.proofs.Vocabulary.{down_items, has_leg}
+use Rattle.law_role_server.proofs.Vocabulary.{in_items}
+use Rattle.law_node_history.proofs.Vocabulary.{reader_of}
+use Rattle.law_role_outproxy.proofs.Vocabulary.{from_server}
 use Rattle.law_peers_routes.specs.Upwards as goes_up
-use Rattle.law_world_order.specs.Directions.{down_route_of, up_route_of}
 use Rattle.law_world_order.proofs.Marked.{RouteLaws, down_is_route, up_is_route}
-use Rattle.law_world_ways.specs.OnPaths.OnWay.{is_lost, items_on_way}
-use Rattle.law_world_ways.specs.OnPaths.Ways.{down_far, down_lost, down_near, down_on, up_far, up_lost, up_near, up_on}
+use Rattle.law_world_order.proofs.Vocabulary.{down_route_of, up_route_of}
 use Rattle.law_world_ways.proofs.ExactWays.Stops.{exact_way}
 use Rattle.law_world_ways.proofs.exact_ways.going.legs_that_go_on_lose_nothing.Goals as goal
+use Rattle.law_world_ways.specs.OnPaths.OnWay.{is_lost, items_on_way}
+use Rattle.law_world_ways.specs.OnPaths.Ways.{down_far, down_lost, down_near, down_on, up_far, up_lost, up_near, up_on}
 
 -- nothing stands on a leg that is lost
 none_on_way : (view : Message → List Item) (o : Option (List Message)) → is_lost o ≡ true

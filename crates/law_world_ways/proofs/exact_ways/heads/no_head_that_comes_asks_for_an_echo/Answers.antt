@@ -1,11 +1,11 @@
-use Rattle.std.proofs.Common.{true, false}
+use Rattle.law_order.proofs.Vocabulary.{true, false}
 use Rattle.rh_inproxy.specs.Machine as in_proxy
 use Rattle.rh_inproxy.specs.State as in_state
 use Rattle.rh_outproxy.specs.Machine as out_proxy
-use Rattle.rh_outproxy.specs.OutProxy.{new_proxy}
-use Rattle.law_node_history.specs.Carried.{heard_on}
+use Rattle.law_node_history.proofs.Vocabulary.{heard_on}
+use Rattle.law_role_outproxy.proofs.Vocabulary.{new_proxy}
 use Rattle.law_node_begins.specs.ProxiesBegin.Pipes.{in_pipe, out_pipe}
-use Rattle.law_node_traces.specs.Traced.Recordings.{history_at}
+use Rattle.law_node_traces.proofs.Vocabulary.{history_at}
 use Rattle.law_world_ways.proofs.ExactWays.HeadTexts.{no_echoes}
 use Rattle.law_world_ways.proofs.exact_ways.heads.no_head_that_comes_asks_for_an_echo.Goals as goal
 

@@ -1,15 +1,14 @@
 use Rattle.rh_inproxy.specs.Machine as in_proxy
 use Rattle.rh_inproxy.specs.State as in_state
-use Rattle.rh_outproxy.specs.declared.out_proxy.TheConstants.{ROOMS}
 use Rattle.rh_outproxy.specs.Machine as out_proxy
-use Rattle.rh_outproxy.specs.OutProxy.{OutProxy, new_proxy}
 use Rattle.rh_client.specs.Client as client
 use Rattle.rh_client.specs.State as client_state
 use Rattle.rh_server.specs.Servers as server
-use Rattle.rh_server.specs.States.{Server}
-use Rattle.law_node_causes.specs.Numbers.{AreNumbered, ClientIsNumbered}
+use Rattle.law_role_server.proofs.Vocabulary.{Server}
 use Rattle.law_node_causes.proofs.ClientLegs.{first_is}
 use Rattle.law_node_causes.proofs.InProxyLegs.{first_numbered}
+use Rattle.law_node_causes.specs.Numbers.{AreNumbered, ClientIsNumbered}
+use Rattle.law_role_outproxy.proofs.Vocabulary.{ROOMS, OutProxy, new_proxy}
 use Rattle.law_world_ways.proofs.ExactWays.CameUp.{end_knows, node_knows}
 use Rattle.law_world_ways.proofs.exact_ways.keeping.a_leg_that_came_up_is_known.Goals as goal
 

@@ -1,25 +1,17 @@
-use Rattle.std.proofs.Common.{◌≡◌, ap, ◌∙◌, subst}
-use Rattle.rh_shell.specs.Shells.{Shell}
+use Rattle.law_order.proofs.Vocabulary.{◌≡◌, ap, ◌∙◌, subst}
 use Rattle.rh_inproxy.specs.Machine as in_proxy
-use Rattle.rh_inproxy.specs.State.{InProxy}
 use Rattle.rh_outproxy.specs.Machine as out_proxy
-use Rattle.rh_outproxy.specs.OutProxy.{OutProxy}
-use Rattle.rh_client.specs.declared.state.ClientRole.{ClientRole}
 use Rattle.rh_client.specs.Client as client
 use Rattle.rh_server.specs.Servers as server
-use Rattle.rh_server.specs.States.{Server}
-use Rattle.rh_nodes.specs.Opening.{Makers}
-use Rattle.rh_nodes.specs.World.{World}
-use Rattle.law_node_history.specs.Carried.{AreAccepted, AreAcceptedAtEnd}
-use Rattle.law_node_history.specs.Histories.{IsNew}
-use Rattle.law_node_history.proofs.Leading.{cast_kept}
-use Rattle.law_node_traces.specs.Traced.Cookies.{ByChanges}
-use Rattle.law_node_traces.specs.Traced.Numbers.{is_made}
-use Rattle.law_node_traces.specs.Traced.Ours.{AreOurs, deeds, rules}
-use Rattle.law_node_traces.specs.Traced.Recordings.{history_at}
-use Rattle.law_world_order.specs.Flows.{numbers_of}
-use Rattle.law_world_order.specs.Premises.{AreInRange}
-use Rattle.law_world_order.specs.FirstTexts.{IsPort}
+use Rattle.law_moves.proofs.Vocabulary.{Shell}
+use Rattle.law_role_inproxy.proofs.Vocabulary.{InProxy}
+use Rattle.law_role_client.proofs.Vocabulary.{ClientRole}
+use Rattle.law_role_server.proofs.Vocabulary.{Server}
+use Rattle.law_node_history.proofs.Vocabulary.{Makers, World, AreAccepted, AreAcceptedAtEnd, IsNew}
+use Rattle.law_node_history.proofs.Lemmas.{cast_kept}
+use Rattle.law_role_outproxy.proofs.Vocabulary.{OutProxy}
+use Rattle.law_node_traces.proofs.Vocabulary.{ByChanges, is_made, AreOurs, deeds, rules, history_at}
+use Rattle.law_world_order.proofs.Vocabulary.{numbers_of, AreInRange, IsPort}
 use Rattle.law_world_ways.proofs.ExactWays.ReadBy.{read_by}
 use Rattle.law_world_ways.proofs.ExactWays.NoLoss.{Accepted, AreRead, NoEchoes, NodeLaws, down_goes, up_goes}
 use Rattle.law_world_ways.proofs.exact_ways.unlost.what_no_leg_lost_is_on_its_way.Goals as goal

@@ -1,25 +1,15 @@
-use Rattle.std.proofs.Common.{◌≡◌, ℕ, false, true≢false, sym, ap, ◌∙◌, subst}
-use mathlib.Core.List.{IsPrefix}
-use Rattle.rh_text.specs.declared.ends.Dir.TheVariants.{U}
-use Rattle.rh_line.specs.declared.leg.Leg.{Leg}
-use Rattle.rh_line.specs.declared.leg.LegKind.TheVariants.{InServer}
+use Rattle.law_order.proofs.Vocabulary.{◌≡◌, ℕ, false, true≢false, sym, ap, ◌∙◌, subst, IsPrefix}
 use Rattle.rh_record.specs.declared.answer.Who.TheVariants as who
-use Rattle.rh_shell.specs.Shells.{Shell, same_leg}
-use Rattle.rh_nodes.specs.Opening.{Makers}
-use Rattle.rh_nodes.specs.Readers.{reader_of}
-use Rattle.rh_nodes.specs.World.{World}
-use Rattle.rh_client.specs.declared.state.ClientRole.{ClientRole}
 use Rattle.rh_client.specs.Client as client
-use Rattle.rh_inproxy.specs.State.{InProxy}
-use Rattle.rh_outproxy.specs.OutProxy.{OutProxy}
-use Rattle.rh_server.specs.States.{Server}
-use Rattle.law_node_history.specs.Carried.{end_drawn_on, heard_on}
-use Rattle.law_node_history.specs.Histories.{IsNew}
-use Rattle.law_node_history.proofs.Wired.{same_itself}
+use Rattle.law_moves.proofs.Vocabulary.{U, Leg, InServer, Shell, same_leg}
+use Rattle.law_role_inproxy.proofs.Vocabulary.{InProxy}
+use Rattle.law_role_client.proofs.Vocabulary.{ClientRole}
+use Rattle.law_role_server.proofs.Vocabulary.{Server}
+use Rattle.law_node_history.proofs.Vocabulary.{reader_of, Makers, World, end_drawn_on, heard_on, IsNew}
+use Rattle.law_node_history.proofs.Lemmas.{same_itself}
+use Rattle.law_role_outproxy.proofs.Vocabulary.{OutProxy}
 use Rattle.law_node_begins.specs.ProxiesBegin.Pipes.{co, is}
-use Rattle.law_node_traces.specs.Traced.Cookies.{ByChanges}
-use Rattle.law_node_traces.specs.Traced.Ours.{AreOurs, deeds, rules}
-use Rattle.law_node_traces.specs.Traced.Recordings.{history_at}
+use Rattle.law_node_traces.proofs.Vocabulary.{ByChanges, AreOurs, deeds, rules, history_at}
 use Rattle.law_world_ways.proofs.LiveIntakes.FirstTexts.{RequestLaws, apart_in, in_begins, out_begins}
 use Rattle.law_world_ways.proofs.live_intakes.heads.no_bytes_that_come_ask_for_an_echo.Goals as goal
 

@@ -1,18 +1,18 @@
-use Rattle.rh_shell.specs.Shells.{begun}
 use Rattle.rh_inproxy.specs.Machine as in_proxy
 use Rattle.rh_inproxy.specs.State as in_state
-use Rattle.rh_outproxy.specs.declared.out_proxy.TheConstants.{ROOMS}
 use Rattle.rh_outproxy.specs.Machine as out_proxy
-use Rattle.rh_outproxy.specs.OutProxy.{new_proxy}
 use Rattle.rh_client.specs.Client as client
 use Rattle.rh_client.specs.State as client_state
 use Rattle.rh_server.specs.Servers as server
-use Rattle.law_node_history.specs.Carried.{happened, heard_on}
+use Rattle.law_moves.proofs.Vocabulary.{begun}
+use Rattle.law_node_history.proofs.Vocabulary.{happened, heard_on}
+use Rattle.law_role_outproxy.proofs.Vocabulary.{ROOMS, new_proxy}
 use Rattle.law_node_begins.specs.EndsBegin.{client_reads, server_reads}
 use Rattle.law_node_begins.specs.ProxiesBegin.Pipes.{in_pipe, out_pipe}
+use Rattle.law_node_traces.proofs.Traced.Remembering.{in_wanted, out_wanted}
 use Rattle.law_world_ways.proofs.LiveIntakes.LiveNodes.{end_read, node_read}
 use Rattle.law_world_ways.proofs.LiveIntakes.TakenHeads.{client_brings, in_brings, out_brings, server_brings}
-use Rattle.law_world_ways.proofs.LiveIntakes.UpOnce.{end_once, in_wanted, node_once, out_wanted}
+use Rattle.law_world_ways.proofs.LiveIntakes.UpOnce.{end_once, node_once}
 use Rattle.law_world_ways.proofs.live_intakes.nodes.what_a_node_keeps_is_read.Goals as goal
 
 pub returns : goal.returns

@@ -1,23 +1,23 @@
-use Rattle.std.proofs.Common.{refl}
+use Rattle.law_order.proofs.Vocabulary.{refl}
 use Rattle.rh_inproxy.specs.Machine as in_proxy
 use Rattle.rh_inproxy.specs.State as in_state
-use Rattle.rh_outproxy.specs.declared.out_proxy.TheConstants.{ROOMS}
 use Rattle.rh_outproxy.specs.Machine as out_proxy
-use Rattle.rh_outproxy.specs.OutProxy.{OutProxy, new_proxy}
 use Rattle.rh_client.specs.Client as client
 use Rattle.rh_client.specs.State as client_state
 use Rattle.rh_server.specs.Servers as server
-use Rattle.rh_server.specs.States.{Server}
-use Rattle.law_node_causes.specs.Numbers.{AreNumbered, ClientIsNumbered}
+use Rattle.law_role_server.proofs.Vocabulary.{Server}
 use Rattle.law_node_causes.proofs.ClientLegs.{first_is}
 use Rattle.law_node_causes.proofs.InProxyLegs.{first_numbered}
+use Rattle.law_node_causes.specs.Numbers.{AreNumbered, ClientIsNumbered}
+use Rattle.law_role_outproxy.proofs.Vocabulary.{ROOMS, OutProxy, new_proxy}
 use Rattle.law_node_begins.specs.ProxiesBegin.Pipes.{in_pipe}
-use Rattle.law_node_traces.specs.Traced.Ours.{deeds, rules}
-use Rattle.law_peers_routes.specs.Downwards.{client_reads, proxy_reads, server_reads}
+use Rattle.law_node_traces.proofs.Vocabulary.{deeds, rules}
 use Rattle.law_peers_routes.proofs.Upwards.Unread.{refusal_unread}
+use Rattle.law_peers_routes.specs.Downwards.{client_reads, proxy_reads, server_reads}
 use Rattle.law_world_order.proofs.Flowing.{Streaming, out_reads}
 use Rattle.law_world_order.proofs.Starting.{Beginning}
-use Rattle.law_world_ways.proofs.OnPaths.DrawnFlows.{AllDraw, DrawLaws, Legalities, drawn_directions}
+use Rattle.law_world_order.proofs.Legal.{Legalities}
+use Rattle.law_world_ways.proofs.OnPaths.DrawnFlows.{AllDraw, DrawLaws, drawn_directions}
 use Rattle.law_world_ways.proofs.OnPaths.Forgotten.{end_drawn, node_drawn}
 use Rattle.law_world_ways.proofs.paths.drawn.what_was_forgotten_was_drawn.Goals as goal
 

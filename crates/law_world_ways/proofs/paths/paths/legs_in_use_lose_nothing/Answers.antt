@@ -1,9 +1,8 @@
-use Rattle.std.proofs.Common.{◌++◌, List, ℕ, sym, ap, ◌∙◌}
-use Rattle.law_order.specs.Paths.{path}
-use Rattle.law_world_order.specs.Directions.{down_route_of, up_route_of}
-use Rattle.law_world_ways.specs.OnPaths.Ways.{down_on, up_on}
+use Rattle.law_order.proofs.Vocabulary.{◌++◌, List, ℕ, sym, ap, ◌∙◌, path}
+use Rattle.law_world_order.proofs.Vocabulary.{down_route_of, up_route_of}
 use Rattle.law_world_ways.proofs.OnPaths.InUse.{none_stops_down, none_stops_up}
 use Rattle.law_world_ways.proofs.paths.paths.legs_in_use_lose_nothing.Goals as goal
+use Rattle.law_world_ways.specs.OnPaths.Ways.{down_on, up_on}
 
 pub returns : goal.returns
 returns g c = record {

@@ -1,10 +1,9 @@
-use Rattle.rh_shell.specs.Shells.{end_at}
-use Rattle.rh_nodes.specs.Wires.{in_flight, receiver, sender}
-use Rattle.law_node_history.specs.Carried.{wire_at}
-use Rattle.law_world_ways.specs.OnPaths.Legs.{is_cut, was_told, was_up}
-use Rattle.law_world_ways.specs.OnPaths.OnWay.{left_on, read_on}
+use Rattle.law_moves.proofs.Vocabulary.{end_at}
+use Rattle.law_node_history.proofs.Vocabulary.{in_flight, receiver, sender, wire_at}
 use Rattle.law_world_ways.proofs.OnPaths.Used.{closed_read, unread_way, used_leg}
 use Rattle.law_world_ways.proofs.paths.standing.what_stands_on_a_leg_is_read_in_its_bytes.Goals as goal
+use Rattle.law_world_ways.specs.OnPaths.Legs.{is_cut, was_told, was_up}
+use Rattle.law_world_ways.specs.OnPaths.OnWay.{left_on, read_on}
 
 pub returns : goal.returns
 returns g c = record {

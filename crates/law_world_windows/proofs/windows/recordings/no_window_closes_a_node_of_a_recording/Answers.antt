@@ -1,15 +1,15 @@
-use Rattle.std.proofs.Common.{refl}
+use Rattle.law_order.proofs.Vocabulary.{refl}
 use Rattle.rh_line.specs.declared.cause.Cause.TheVariants as cause
-use Rattle.law_node_history.specs.Carried.{happened}
-use Rattle.rh_world.specs.declared.config.WorldConfig.{WorldConfig}
+use Rattle.law_node_history.proofs.Vocabulary.{happened}
 use Rattle.rh_world.specs.Roles as roles
-use Rattle.law_node_traces.specs.Traced.Recordings.{history_at}
-use Rattle.law_world_order.specs.Flows.{numbers_of}
+use Rattle.law_node_traces.proofs.Vocabulary.{history_at}
+use Rattle.law_world_reports.proofs.Vocabulary.{WorldConfig}
 use Rattle.law_world_order.proofs.Recorded.{new, ours}
 use Rattle.law_world_order.proofs.Distinct.{own_distinct}
+use Rattle.law_world_order.proofs.Vocabulary.{numbers_of}
 use Rattle.law_world_honest.proofs.Honesty.Recorded.{of_recording_apart}
-use Rattle.law_world_windows.specs.ClientHops.{HasOneWindow}
 use Rattle.law_world_windows.proofs.windows.recordings.no_window_closes_a_node_of_a_recording.Goals as goal
+use Rattle.law_world_windows.specs.ClientHops.{HasOneWindow}
 
 -- its in proxies have the window that was set, whatever their numbers
 one_window : (config : WorldConfig) → HasOneWindow (numbers_of (ours config))

@@ -1,8 +1,6 @@
-use Rattle.std.proofs.Common.{subst}
+use Rattle.law_order.proofs.Vocabulary.{subst}
 use Rattle.rh_line.specs.declared.cause.Cause.TheVariants as cause
-use Rattle.rh_nodes.specs.declared.event.Event.{Event}
-use Rattle.rh_nodes.specs.declared.event.Event.TheVariants.{Comes}
-use Rattle.rh_nodes.specs.Telling.{tell}
+use Rattle.law_node_history.proofs.Vocabulary.{Event, Comes, tell}
 use Rattle.law_node_causes.specs.Closings.{ClosesWith}
 use Rattle.law_world_honest.proofs.Honesty.HeardWell.{going_is}
 use Rattle.law_world_windows.proofs.Windowed.Exceeded.{piece_is}

@@ -1,23 +1,16 @@
 use Rattle.rh_line.specs.declared.cause.Cause.TheVariants as cause
-use Rattle.rh_inproxy.specs.State.{InProxy}
-use Rattle.rh_outproxy.specs.OutProxy.{OutProxy}
-use Rattle.rh_client.specs.declared.state.ClientRole.{ClientRole}
-use Rattle.rh_server.specs.States.{Server}
-use Rattle.rh_nodes.specs.Opening.{Makers}
-use Rattle.rh_nodes.specs.World.{World}
-use Rattle.law_node_history.specs.Carried.{happened}
-use Rattle.law_node_history.specs.Changes.{Change, MayChange}
-use Rattle.law_node_history.specs.Histories.{IsNew}
-use Rattle.law_node_traces.specs.Traced.Cookies.{ByChanges}
-use Rattle.law_node_traces.specs.Traced.Ours.{AreOurs, deeds, rules}
-use Rattle.law_node_traces.specs.Traced.Recordings.{history_at}
-use Rattle.law_world_order.specs.Flows.{numbers_of}
-use Rattle.law_world_order.specs.Premises.{AreDistinct, AreInRange}
+use Rattle.law_role_inproxy.proofs.Vocabulary.{InProxy}
+use Rattle.law_role_client.proofs.Vocabulary.{ClientRole}
+use Rattle.law_role_server.proofs.Vocabulary.{Server}
+use Rattle.law_node_history.proofs.Vocabulary.{Makers, World, happened, Change, MayChange, IsNew}
+use Rattle.law_role_outproxy.proofs.Vocabulary.{OutProxy}
+use Rattle.law_node_traces.proofs.Vocabulary.{ByChanges, AreOurs, deeds, rules, history_at}
+use Rattle.law_world_order.proofs.Vocabulary.{numbers_of, AreDistinct, AreInRange}
 use Rattle.law_world_honest.proofs.Honesty.Closing.{EachComes, each_of}
-use Rattle.law_world_windows.specs.Hops.{os_leg}
-use Rattle.law_world_windows.specs.ClientHops.{HasOneWindow}
 use Rattle.law_world_windows.proofs.Windowed.Closing.{EachAmiss, EachExceeds, EachRefusesOn, NoHop, no_range, no_window}
 use Rattle.law_world_windows.proofs.windows.worlds.no_window_closes_a_node.Goals as goal
+use Rattle.law_world_windows.specs.Hops.{os_leg}
+use Rattle.law_world_windows.specs.ClientHops.{HasOneWindow}
 
 pub returns : goal.returns
 returns g c = record {

@@ -1,7 +1,7 @@
 -- what was fed is reported
 use Rattle.std.proofs.Common.{refl, sym, ap, ◌∙◌, arith, Ok, Some}
 use Rattle.rh_record.specs.declared.answer.Answer.TheVariants.{Move}
-use Rattle.rh_nodes.specs.Company.{rules_of}
+use Rattle.rh_company.specs.Company.{rules_of}
 use Rattle.rh_nodes.specs.Settling.{carried}
 use Rattle.rh_nodes.proofs.Told.{tells_failed}
 use Rattle.rh_nodes.proofs.Pushed.{tells_pushed, carried_is}

@@ -1,6 +1,6 @@
 -- four things, one after the other
 use Rattle.rh_line.specs.declared.leg.LegKind.TheVariants.{ClientOut, OutServer, ClientIn, InServer}
-use Rattle.rh_nodes.specs.Company.{rules_of}
+use Rattle.rh_company.specs.Company.{rules_of}
 use Rattle.rh_nodes.specs.Settling.{carry_kind}
 use Rattle.rh_nodes.proofs.Fours.{four_all, four_first, four_second, four_third}
 use Rattle.rh_nodes.proofs.nodes.Nodes.carry_all.Goals as goal

@@ -1,7 +1,7 @@
 -- one direction, and then the other
 use Rattle.rh_nodes.specs.Settling.{carry}
 use Rattle.rh_text.specs.declared.ends.Dir.TheVariants.{U, D}
-use Rattle.rh_nodes.specs.Company.{rules_of}
+use Rattle.rh_company.specs.Company.{rules_of}
 use Rattle.rh_nodes.proofs.Told.{tells_then, tells_handed}
 use Rattle.rh_nodes.proofs.nodes.Nodes.carry_both.Goals as goal
 

@@ -1,7 +1,7 @@
 -- nothing is in flight
 use Rattle.std.proofs.Common.{sym, ap, ◌∙◌}
-use Rattle.rh_nodes.specs.Company.{rules_of}
-use Rattle.rh_nodes.specs.Legs.{is_clear}
+use Rattle.rh_wires.specs.Legs.{is_clear}
+use Rattle.rh_company.specs.Company.{rules_of}
 use Rattle.rh_nodes.specs.World.{World}
 use Rattle.rh_nodes.proofs.NoBytes.{carry_clear}
 use Rattle.rh_nodes.proofs.nodes.Nodes.carry_bytes.Goals as goal

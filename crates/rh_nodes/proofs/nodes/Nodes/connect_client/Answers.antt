@@ -1,8 +1,8 @@
 -- the cookie that was drawn
 use Rattle.std.proofs.Common.{◌≡◌, OnOk, ap, ◌∙◌, subst}
 use Rattle.rh_rts.specs.declared.command.Cookie.{Cookie}
-use Rattle.rh_nodes.specs.Company.{rules_of}
-use Rattle.rh_nodes.specs.Cookies.{Cookies, draw}
+use Rattle.rh_company.specs.Company.{rules_of}
+use Rattle.rh_company.specs.Cookies.{Cookies, draw}
 use Rattle.rh_nodes.specs.Opening.{connect_with}
 use Rattle.rh_nodes.specs.World.{World}
 use Rattle.rh_nodes.proofs.nodes.Nodes.connect_client.Goals as goal

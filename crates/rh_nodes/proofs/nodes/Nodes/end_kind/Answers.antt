@@ -1,11 +1,11 @@
 -- one number after the other
 use Rattle.std.proofs.Common.{◌<◌, ℕ, IsTrue, length, get_or, ap, subst, arith}
 use Rattle.rh_text.specs.declared.ends.Side.TheVariants.{Client, Server}
-use Rattle.rh_nodes.specs.declared.legs.Legs.{Legs}
-use Rattle.rh_nodes.specs.Company.{rules_of}
-use Rattle.rh_nodes.specs.Legs as legs
+use Rattle.rh_wires.specs.declared.legs.Legs.{Legs}
+use Rattle.rh_wires.specs.Legs as legs
+use Rattle.rh_wires.specs.Wires.{blank, is_low}
+use Rattle.rh_company.specs.Company.{rules_of}
 use Rattle.rh_nodes.specs.Settling.{end_one, leg_at}
-use Rattle.rh_nodes.specs.Wires.{blank, is_low}
 use Rattle.rh_nodes.specs.World.{World}
 use Rattle.rh_nodes.proofs.Lows.{low_ask, end_one_low}
 use Rattle.rh_nodes.proofs.Told.{reached_first, reached_more, reached_handed}

@@ -1,5 +1,5 @@
 -- what was done at the numbers so far was reported
-use Rattle.rh_nodes.specs.Company.{rules_of}
+use Rattle.rh_company.specs.Company.{rules_of}
 use Rattle.rh_nodes.specs.Reports.{each}
 use Rattle.rh_nodes.specs.Settling.{end_one, leg_at}
 use Rattle.rh_nodes.proofs.Told.{Reached}

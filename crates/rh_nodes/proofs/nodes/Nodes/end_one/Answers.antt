@@ -1,7 +1,7 @@
 -- the end of a leg is reported
 use Rattle.std.proofs.Common.{refl, sym, ◌∙◌}
 use Rattle.rh_record.specs.declared.answer.Answer.TheVariants.{EndLeg}
-use Rattle.rh_nodes.specs.Company.{rules_of}
+use Rattle.rh_company.specs.Company.{rules_of}
 use Rattle.rh_nodes.proofs.Told.{tells_failed}
 use Rattle.rh_nodes.proofs.Pushed.{tells_pushed, ended_is}
 use Rattle.rh_nodes.proofs.nodes.Nodes.end_one.Goals as goal

@@ -1,5 +1,5 @@
 -- four things, one after the other
-use Rattle.rh_nodes.specs.Company.{rules_of}
+use Rattle.rh_company.specs.Company.{rules_of}
 use Rattle.rh_nodes.specs.Opening.{makers_of}
 use Rattle.rh_nodes.specs.Settling.{open_client_outs, open_out_servers, open_client_ins, open_in_servers}
 use Rattle.rh_nodes.proofs.Fours.{four_all, four_first, four_second, four_third}

@@ -3,10 +3,10 @@ use Rattle.std.proofs.Common.{◌≡◌, ◌<◌, Bool, true, nat_lt, ap, subst,
 use Rattle.std.specs.Prelude.{IfOk}
 use Rattle.std.proofs.lemmas.Bool.{lt-ltb}
 use Rattle.rh_record.specs.declared.answer.Who.TheVariants as who
-use Rattle.rh_nodes.specs.Company as company
-use Rattle.rh_nodes.specs.Company.{rules_of}
-use Rattle.rh_nodes.specs.Numbered.{ask}
-use Rattle.rh_nodes.specs.Places.{is_absent}
+use Rattle.rh_wires.specs.Numbered.{ask}
+use Rattle.rh_company.specs.Company as company
+use Rattle.rh_company.specs.Company.{rules_of}
+use Rattle.rh_company.specs.Places.{is_absent}
 use Rattle.rh_nodes.specs.World.{World}
 use Rattle.rh_nodes.proofs.Opened.{all_three, made_out}
 use Rattle.rh_nodes.proofs.nodes.Nodes.open_client_out.Goals as goal

@@ -1,7 +1,7 @@
 -- the proxy was made, and may have the leg up
 use Rattle.std.proofs.Common.{◌≡◌, true}
 use Rattle.rh_shell.specs.Shells as shell
-use Rattle.rh_nodes.specs.Company.{rules_of}
+use Rattle.rh_company.specs.Company.{rules_of}
 use Rattle.rh_nodes.proofs.Opened.{opened_in}
 use Rattle.rh_nodes.proofs.nodes.Nodes.open_in_to_new.Goals as goal
 

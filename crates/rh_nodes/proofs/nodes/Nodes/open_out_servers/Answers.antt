@@ -1,10 +1,10 @@
 -- one number after the other
 use Rattle.std.proofs.Common.{◌<◌, ℕ, IsTrue, length, get_or, ap, subst, arith}
 use Rattle.rh_line.specs.declared.leg.LegKind.TheVariants.{OutServer}
-use Rattle.rh_nodes.specs.declared.place.Place.TheVariants.{Absent}
-use Rattle.rh_nodes.specs.Company.{rules_of}
+use Rattle.rh_company.specs.declared.place.Place.TheVariants.{Absent}
+use Rattle.rh_company.specs.Company.{rules_of}
+use Rattle.rh_company.specs.Places.{is_idle}
 use Rattle.rh_nodes.specs.Opening.{makers_of}
-use Rattle.rh_nodes.specs.Places.{is_idle}
 use Rattle.rh_nodes.specs.Settling.{open_next, leg_at}
 use Rattle.rh_nodes.specs.World.{World}
 use Rattle.rh_nodes.proofs.Idles.{open_out_idle}

@@ -1,6 +1,6 @@
 -- what was done at the numbers so far was reported
 use Rattle.rh_line.specs.declared.leg.LegKind.TheVariants.{OutServer}
-use Rattle.rh_nodes.specs.Company.{rules_of}
+use Rattle.rh_company.specs.Company.{rules_of}
 use Rattle.rh_nodes.specs.Opening.{makers_of}
 use Rattle.rh_nodes.specs.Reports.{each}
 use Rattle.rh_nodes.specs.Settling.{open_next, leg_at}

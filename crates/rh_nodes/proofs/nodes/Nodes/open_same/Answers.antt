@@ -1,8 +1,8 @@
 -- the client wants the leg, and the proxy before may have it up
 use Rattle.std.proofs.Common.{◌≡◌, true, ap}
 use Rattle.rh_record.specs.declared.answer.Who.TheVariants as who
-use Rattle.rh_nodes.specs.Company as company
-use Rattle.rh_nodes.specs.Company.{rules_of}
+use Rattle.rh_company.specs.Company as company
+use Rattle.rh_company.specs.Company.{rules_of}
 use Rattle.rh_nodes.specs.Opening.{is_client_in, may_open_same}
 use Rattle.rh_nodes.specs.World.{World}
 use Rattle.rh_nodes.proofs.Opened.{opened_same_to}

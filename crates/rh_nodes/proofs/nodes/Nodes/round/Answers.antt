@@ -1,5 +1,5 @@
 -- four things, one after the other
-use Rattle.rh_nodes.specs.Company.{rules_of}
+use Rattle.rh_company.specs.Company.{rules_of}
 use Rattle.rh_nodes.specs.Giving.{deeds_of}
 use Rattle.rh_nodes.specs.Opening.{makers_of}
 use Rattle.rh_nodes.specs.Settling.{open_all, carry_all, take_both, end_all}

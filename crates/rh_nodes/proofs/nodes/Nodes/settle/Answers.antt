@@ -2,7 +2,7 @@
 use Rattle.std.proofs.Common.{◌≡◌, ℕ, ◌+◌, ◌-◌, suc, length, [], ◌∷◌, ap, sym, subst, ◌∙◌, arith}
 use Rattle.rh_record.specs.declared.answer.Answer.TheVariants.{Quiet, Spent}
 use Rattle.rh_text.specs.Writing.{Writes}
-use Rattle.rh_nodes.specs.Company.{rules_of}
+use Rattle.rh_company.specs.Company.{rules_of}
 use Rattle.rh_nodes.specs.Giving.{deeds_of}
 use Rattle.rh_nodes.specs.Opening.{makers_of}
 use Rattle.rh_nodes.specs.Settling.{round, rounds_from, settle}

@@ -1,6 +1,6 @@
 -- what is left to be done and reported is the rest of the whole
 use Rattle.std.proofs.Common.{◌-◌}
-use Rattle.rh_nodes.specs.Company.{rules_of}
+use Rattle.rh_company.specs.Company.{rules_of}
 use Rattle.rh_nodes.specs.Giving.{deeds_of}
 use Rattle.rh_nodes.specs.Opening.{makers_of}
 use Rattle.rh_nodes.specs.Settling.{round, rounds_from, settle}

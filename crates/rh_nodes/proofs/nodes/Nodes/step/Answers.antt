@@ -1,5 +1,5 @@
 -- the line, and then the nodes that it closed
-use Rattle.rh_nodes.specs.Company.{rules_of}
+use Rattle.rh_company.specs.Company.{rules_of}
 use Rattle.rh_nodes.specs.Giving.{deeds_of}
 use Rattle.rh_nodes.specs.Opening.{makers_of}
 use Rattle.rh_nodes.specs.Steps.{step_line, tell_closed}

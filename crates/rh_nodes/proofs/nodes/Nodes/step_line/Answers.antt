@@ -2,7 +2,7 @@
 use Rattle.std.proofs.Common.{sym, ap, ◌∙◌}
 use Rattle.std.specs.declared.option.Option.{Option}
 use Rattle.rh_record.specs.declared.answer.Answer.{Answer}
-use Rattle.rh_nodes.specs.Company.{rules_of}
+use Rattle.rh_company.specs.Company.{rules_of}
 use Rattle.rh_nodes.specs.Giving.{deeds_of}
 use Rattle.rh_nodes.specs.Opening.{makers_of}
 use Rattle.rh_nodes.specs.Steps.{reported, step_line}

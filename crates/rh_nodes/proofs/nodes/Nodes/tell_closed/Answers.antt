@@ -1,6 +1,6 @@
 -- a front of the lines was added
 use Rattle.std.proofs.Common.{sym, ap, ◌∙◌}
-use Rattle.rh_nodes.specs.Closings.{lines}
+use Rattle.rh_company.specs.Closings.{lines}
 use Rattle.rh_nodes.specs.Steps.{tell_closed}
 use Rattle.rh_nodes.specs.World.{World}
 use Rattle.rh_nodes.proofs.Told.{tells_front}

@@ -1,8 +1,8 @@
 -- all nodes were told
 use Rattle.std.proofs.Common.{◌≤◌, ap, ◌∙◌, arith}
 use Rattle.rh_record.specs.declared.answer.Who.TheVariants as who
-use Rattle.rh_nodes.specs.declared.event.Event.TheVariants.{Passes}
-use Rattle.rh_nodes.specs.Company.{rules_of}
+use Rattle.rh_company.specs.declared.event.Event.TheVariants.{Passes}
+use Rattle.rh_company.specs.Company.{rules_of}
 use Rattle.rh_nodes.specs.Time.{at_moment}
 use Rattle.rh_nodes.specs.World.{World, tell}
 use Rattle.rh_nodes.proofs.Times.{all_told, ticked}

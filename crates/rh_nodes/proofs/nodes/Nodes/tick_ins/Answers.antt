@@ -1,9 +1,9 @@
 -- nothing happens at the places before the first one that isn't idle
 use Rattle.std.proofs.Common.{◌<◌, ℕ, IsTrue, get_or, sym, subst, ◌∙◌}
 use Rattle.rh_record.specs.declared.answer.Who.TheVariants as who
-use Rattle.rh_nodes.specs.declared.place.Place.TheVariants.{Absent}
-use Rattle.rh_nodes.specs.Company.{rules_of}
-use Rattle.rh_nodes.specs.Places.{is_idle}
+use Rattle.rh_company.specs.declared.place.Place.TheVariants.{Absent}
+use Rattle.rh_company.specs.Company.{rules_of}
+use Rattle.rh_company.specs.Places.{is_idle}
 use Rattle.rh_nodes.specs.World.{World, tell}
 use Rattle.rh_nodes.proofs.Idles.{tell_in_idle}
 use Rattle.rh_nodes.proofs.Times.{for_each_idle}

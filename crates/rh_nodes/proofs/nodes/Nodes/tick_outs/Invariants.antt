@@ -1,7 +1,7 @@
 -- the proxies so far were told
 use Rattle.std.proofs.Common.{◌≡◌}
 use Rattle.rh_record.specs.declared.answer.Who.TheVariants as who
-use Rattle.rh_nodes.specs.Company.{rules_of}
+use Rattle.rh_company.specs.Company.{rules_of}
 use Rattle.rh_nodes.specs.Time.{for_each}
 use Rattle.rh_nodes.specs.World.{tell}
 use Rattle.rh_nodes.proofs.nodes.Nodes.tick_outs.Given as goal

@@ -2,7 +2,7 @@
 use Rattle.std.proofs.Common.{◌≡◌, ◌-◌, ◌++◌, ◌∷◌, [], length, arith, ap, ◌∙◌, refl}
 use Rattle.std.proofs.lemmas.List.{length-append, length_push}
 use Rattle.rh_world.specs.Pieces.{Received}
-use Rattle.rh_nodes.proofs.Rings.{filled, pushed}
+use Rattle.rh_wires.proofs.Rings.{filled, pushed}
 use Rattle.rh_world.proofs.PieceLaws.{pieces_push, added_push}
 use Rattle.rh_world.proofs.received.Received.push.Goals as goal
 

@@ -1,0 +1,16 @@
+use Rattle.rh_world.specs.Roles as roles
+use Rattle.law_world_reports.proofs.Naming.Made.{makes_going}
+use Rattle.law_world_reports.proofs.Naming.Reporting.{Reports, reports_closes}
+use Rattle.law_world_reports.proofs.close_lines.each_close_of_a_recording_is_reported.Goals as goal
+
+pub returns : goal.returns
+returns c =
+    let reports : Reports = record {
+      works = c.a_line_is_changes.ensures.unreported roles.rules roles.makers roles.deeds;
+      reported =
+          c.what_is_reported_closed_was_closed.ensures.reported roles.rules roles.makers
+          roles.deeds;
+      stands =
+          c.what_stands_closed_was_closed.ensures roles.rules roles.makers roles.deeds makes_going;
+    } in
+    reports_closes reports

@@ -1,0 +1,125 @@
+-- the hops that lie on one leg are kept at each moment
+use Rattle.std.proofs.Common.{ℕ, ◌≤◌, List, Some, arith, subst}
+use mathlib.Core.List.{IsPrefix}
+use Rattle.rh_text.specs.declared.ends.Dir.{Dir}
+use Rattle.rh_text.specs.declared.ends.Dir.TheVariants.{U, D}
+use Rattle.rh_sig.specs.declared.name.Pipe.TheVariants.{IsU, IsD, OsU, OsD}
+use Rattle.rh_line.specs.declared.leg.Leg.{Leg}
+use Rattle.rh_inproxy.specs.State.{InProxy}
+use Rattle.rh_outproxy.specs.OutProxy.{OutProxy}
+use Rattle.rh_client.specs.declared.state.ClientRole.{ClientRole}
+use Rattle.rh_server.specs.States.{Server}
+use Rattle.rh_shell.specs.Rules.{Rules, Message}
+use Rattle.rh_wires.specs.Wires.{receiver, sender}
+use Rattle.rh_nodes.specs.Opening.{Makers}
+use Rattle.rh_nodes.specs.World.{World}
+use Rattle.law_order.proofs.Prefixes.{prefix_trans}
+use Rattle.law_moves.specs.Moves.{Passage}
+use Rattle.law_moves.specs.ReadBack.Reading.{all_read_of, messages_read}
+use Rattle.law_moves.specs.Wires.{of_leg}
+use Rattle.law_node_history.specs.Carried.{drawn_by, end_node, events_of, happened, heard_on}
+use Rattle.law_node_history.specs.Histories.{History}
+use Rattle.law_node_traces.specs.Traced.Cookies.{ByChanges}
+use Rattle.law_node_traces.specs.Traced.Ours.{AreOurs, deeds, rules}
+use Rattle.law_node_traces.specs.Traced.Recordings.{history_at}
+use Rattle.law_world_order.specs.Flows.{IsFlowing, numbers_of}
+use Rattle.law_world_order.specs.Premises.{AreInRange}
+use Rattle.law_world_windows.specs.Hops.{ReceivesWithin, SendsWithin, greatest_edge, is_leg, os_leg, pdu_bytes}
+use Rattle.law_world_windows.specs.KeptHops.{HopsAreKept, IsKept}
+use Rattle.law_peers_moments.proofs.Read.{read_bytes}
+use Rattle.law_world_windows.proofs.Hop.{front_bytes, front_edges, read_edges}
+use Rattle.law_world_windows.proofs.HopsKept.{HopLaws, in_came, in_sends, in_way, out_receives, out_way, server_receives, server_sends, server_way}
+use Rattle.law_world_windows.proofs.Moment.{Laws}
+use Rattle.law_world_windows.proofs.Stopping.{way_read}
+
+-- ---- a hop of which each end knows what was put at the other
+
+came_of_put : (came put : List Message) → IsPrefix came (all_read_of put)
+    → pdu_bytes came ≤ pdu_bytes put
+came_of_put came put ahead =
+    let a = front_bytes came (all_read_of put) ahead in
+    let b = read_bytes put in omega (arith, a, b)
+
+edge_of_put : (came put : List Message) → IsPrefix came (all_read_of put)
+    → greatest_edge came ≤ greatest_edge put
+edge_of_put came put back =
+    let a = front_edges came (all_read_of put) back in
+    let b = read_edges put in omega (arith, a, b)
+
+kept : {S T : Type 0} (sends : Rules S) (receives : Rules T) (leg : Leg) (p : Passage S)
+    (q : Passage T) → IsPrefix (of_leg leg q.came) (all_read_of (of_leg leg p.put))
+    → IsPrefix (of_leg leg p.came) (all_read_of (of_leg leg q.put)) → SendsWithin sends leg p
+    → ReceivesWithin receives leg q → IsKept leg p q
+kept sends receives leg p q ahead back within told = record {
+  received = came_of_put (of_leg leg q.came) (of_leg leg p.put) ahead;
+  sent = within.within;
+  edge = edge_of_put (of_leg leg p.came) (of_leg leg q.put) back;
+  acks = told.acks;
+}
+
+-- ---- in a world
+
+module _ {K : Type 0} (hop : HopLaws) (m : Makers K InProxy OutProxy)
+    (w : World K ClientRole Server InProxy OutProxy) (ours : AreOurs m w.company w.cast)
+    (ranges : AreInRange (numbers_of ours)) (law : Laws m w ours)
+    (v : World K ClientRole Server InProxy OutProxy) (by : ByChanges rules m deeds w v) where
+  abbrev h : History
+  h = history_at m w v by.leads
+
+  abbrev flowing : IsFlowing (numbers_of ours) w v h
+  flowing = law.flowing v by
+
+  -- what was heard on a leg was drawn there
+  drawn : (leg : Leg) (way : Dir)
+      → IsPrefix (heard_on leg (events_of h (end_node v.readers leg (receiver way))))
+      (drawn_by rules m deeds w.company w.cast h (end_node v.readers leg (sender way)) leg)
+  drawn leg way =
+      subst (λ (k : K).
+      IsPrefix (heard_on leg (events_of h (end_node v.readers leg (receiver way))))
+      (drawn_by rules m deeds w.company k h (end_node v.readers leg (sender way)) leg))
+      flowing.cast (law.drawn v h (law.known v by.leads).traced leg way)
+
+  is_kept : (n : ℕ) → IsKept (is_leg n) (flowing.flows.ins n).passage
+      flowing.flows.server.passage.passage
+  is_kept n =
+      let leg = is_leg n in
+      let p = (flowing.flows.ins n).passage in
+      let q = flowing.flows.server.passage.passage in
+      let at_server = heard_on leg (happened h.server) in
+      let at_proxy = heard_on leg (h.ins n) in
+      kept _ _ leg p q
+      (prefix_trans (of_leg leg q.came) (messages_read (Some IsU) at_server)
+      (all_read_of (of_leg leg p.put)) (flowing.flows.server.read leg)
+      (way_read hop.readings (Some IsU) (of_leg leg p.put) at_server
+      (in_way hop m w ours ranges v h flowing n at_server (drawn leg U))))
+      (prefix_trans (of_leg leg p.came) (messages_read (Some IsD) at_proxy)
+      (all_read_of (of_leg leg q.put)) (in_came hop m w ours ranges v h flowing n)
+      (way_read hop.readings (Some IsD) (of_leg leg q.put) at_proxy
+      (server_way hop m w ours ranges v h flowing leg at_proxy (flowing.begun.server_in n)
+      (drawn leg D))))
+      (in_sends hop m w ours ranges v h flowing n)
+      (server_receives hop m w ours ranges v h flowing n)
+
+  os_kept : (n : ℕ) → IsKept (os_leg n) flowing.flows.server.passage.passage
+      (flowing.flows.outs n).passage
+  os_kept n =
+      let leg = os_leg n in
+      let p = flowing.flows.server.passage.passage in
+      let q = (flowing.flows.outs n).passage in
+      let at_server = heard_on leg (happened h.server) in
+      let at_proxy = heard_on leg (h.outs n) in
+      kept _ _ leg p q
+      (prefix_trans (of_leg leg q.came) (messages_read (Some OsD) at_proxy)
+      (all_read_of (of_leg leg p.put)) ((flowing.flows.outs n).read leg)
+      (way_read hop.readings (Some OsD) (of_leg leg p.put) at_proxy
+      (server_way hop m w ours ranges v h flowing leg at_proxy (flowing.begun.server_out n)
+      (drawn leg D))))
+      (prefix_trans (of_leg leg p.came) (messages_read (Some OsU) at_server)
+      (all_read_of (of_leg leg q.put)) (flowing.flows.server.read leg)
+      (way_read hop.readings (Some OsU) (of_leg leg q.put) at_server
+      (out_way hop m w ours ranges v h flowing n at_server (drawn leg U))))
+      (server_sends hop m w ours ranges v h flowing n)
+      (out_receives hop m w ours ranges v h flowing n)
+
+  pub hops_are_kept : HopsAreKept m w ours v by
+  hops_are_kept = record { flowing = flowing; up = is_kept; down = os_kept }

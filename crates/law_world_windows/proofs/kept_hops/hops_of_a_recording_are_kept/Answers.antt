@@ -1,0 +1,14 @@
+use Rattle.rh_world.specs.Roles as roles
+use Rattle.law_world_order.proofs.Recorded.{in_range, new, ours}
+use Rattle.law_world_windows.proofs.HopsRecorded.{RecordedLaws, lines_keep}
+use Rattle.law_world_windows.proofs.kept_hops.hops_of_a_recording_are_kept.Goals as goal
+
+pub returns : goal.returns
+returns c =
+    let law : RecordedLaws = record {
+      settings = c.windows_hold_in_a_world_of_roles.ensures.cast;
+      hops = λ config range world by.
+          c.hops_on_one_leg_are_kept.ensures roles.makers (roles.begun config) (new config)
+          (ours config) (in_range config range) world by;
+    } in
+    lines_keep law

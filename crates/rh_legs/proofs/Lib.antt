@@ -1,0 +1,4 @@
+mod Replying
+mod Calling
+mod Reading
+mod Writing

@@ -1,0 +1,47 @@
+-- each call is one more of the writer
+use Rattle.std.proofs.Common.{◌≤◌, length, rules, subst}
+use Rattle.std.specs.Io.KnownBytes.{Appends}
+use Rattle.rh_legs.proofs.Writing.{writes-drawn, writes-asked, written-finished, written-stopped, written-failed, front-of}
+use Rattle.rh_legs.proofs.writer.write_leg.Goals as goal
+
+pub returns-in_default-clause-written : goal.returns-in_default-clause-written
+returns-in_default-clause-written g c =
+    let came = c.in_default.ensures.err in
+    written-failed _ _ _ _ _ _ _ _ _ _ _ _ came.0 _ _ c.writes.invariant.writing
+    c.draw-piece.ensures.acts
+    (subst (λ bytes. came.0 ≤ length bytes) c.bytes.ensures.bytes came.1)
+    (front-of _ _ _ _ _ c.bytes.ensures.bytes came.2)
+    c.act.ensures.acts
+
+pub returns-then-is_finished-clause-written : goal.returns-then-is_finished-clause-written
+returns-then-is_finished-clause-written g c =
+    let drew = writes-drawn _ _ _ _ _ _ _ _ _ _ _ _ c.writes.invariant.writing
+    c.draw-piece.ensures.acts (subst (Appends _ _) c.bytes.ensures.bytes c.in-Ok.ensures.ok) in
+    let asks = c.is_finished.ensures.acts in
+    written-finished _ _ _ _ _ _ _ _ _ asks.0 drew asks.1 (asks.2 c.if-is_finished.true)
+
+pub returns-then-is_stopped-clause-written : goal.returns-then-is_stopped-clause-written
+returns-then-is_stopped-clause-written g c =
+    let drew = writes-drawn _ _ _ _ _ _ _ _ _ _ _ _ c.writes.invariant.writing
+    c.draw-piece.ensures.acts (subst (Appends _ _) c.bytes.ensures.bytes c.in-Ok.ensures.ok) in
+    written-stopped _ _ _ _ _ _ _ _
+    (writes-asked _ _ _ _ _ _ _ _ _ _ drew c.is_finished.ensures.acts.1)
+
+pub writes-preserved-then-is_empty : goal.writes-preserved-then-is_empty
+writes-preserved-then-is_empty g c =
+    let drew = writes-drawn _ _ _ _ _ _ _ _ _ _ _ _ c.writes.invariant.writing
+    c.draw-piece.ensures.acts (subst (Appends _ _) c.bytes.ensures.bytes c.in-Ok.ensures.ok) in
+    record {
+      writing = writes-asked _ _ _ _ _ _ _ _ _ _ drew c.is_finished.ensures.acts.1;
+      turn = search rules;
+      faults = search rules;
+    }
+
+pub writes-preserved : goal.writes-preserved
+writes-preserved g c =
+    record {
+      writing = writes-drawn _ _ _ _ _ _ _ _ _ _ _ _ c.writes.invariant.writing
+          c.draw-piece.ensures.acts (subst (Appends _ _) c.bytes.ensures.bytes c.in-Ok.ensures.ok);
+      turn = search rules;
+      faults = search rules;
+    }

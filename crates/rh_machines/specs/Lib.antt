@@ -1,0 +1,2 @@
+pub mod HandingBack
+pub mod Machines

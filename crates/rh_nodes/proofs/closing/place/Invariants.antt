@@ -1,7 +1,0 @@
--- the place among those that are left
-use Rattle.std.proofs.Common.{◌≡◌, ◌+◌, drop}
-use Rattle.rh_nodes.specs.Closings.{place}
-use Rattle.rh_nodes.proofs.closing.place.Given as goal
-
-abbrev pub invariant-loop-at : goal.invariant-loop-at
-invariant-loop-at l = l.at + place l.who (drop l.at l.list) ≡ place l.who l.list

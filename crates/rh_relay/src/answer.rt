@@ -1,0 +1,37 @@
+//! What the jobs of a node answer.
+
+use crate::actor::Actor;
+use crate::slot::Served;
+use rh_legs::NodeEnd;
+use rh_machines::Node;
+use rh_net::Net;
+
+/// What a job answers: its node, who acted, why it ended, and what it had of the outside.
+#[derive(Drop)]
+pub struct Done<M: Node, S: Drop, W: Drop, N: Net>
+where
+    M::State: Drop,
+    N::In: Drop,
+    N::Out: Drop,
+{
+    /// The place of its node.
+    pub(crate) node: usize,
+    pub(crate) actor: Actor<M>,
+    pub(crate) end: NodeEnd,
+    pub(crate) had: Had<S, W, N::In, N::Out>,
+}
+
+/// What a job had of the outside.
+#[derive(Drop)]
+pub enum Had<S: Drop, W: Drop, I: Drop, O: Drop> {
+    /// A keeper: the leg of a caller whose first read failed.
+    Failed(Option<(I, O)>),
+    /// A slot's reader: the legs that it read, in order.
+    Read(Vec<Served<I>>),
+    /// A slot's writer: the legs that it wrote, in order.
+    Wrote(Vec<Served<O>>),
+    /// The giver.
+    Input(S),
+    /// The taker.
+    Output(W),
+}

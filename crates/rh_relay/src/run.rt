@@ -1,0 +1,366 @@
+//! Nodes that run over legs.
+
+ghost use Rattle.std.specs.Prelude.{◌≡◌, ℕ, ◌<◌, length, slice_get, Some};
+
+use crate::actor::Actor;
+use crate::answer::Done;
+use crate::desk::{Books, Desk};
+use crate::gathering::Back;
+use crate::making::Shared;
+use crate::plan::{Outside, Plan};
+use crate::queue::Queue;
+use crate::work::Work;
+use rh_io::NoMemory;
+use rh_jobs::{SpawnRefused, Spawner};
+use rh_legs::{Gate, NodeEnd};
+use rh_machines::{Node, Role};
+use rh_net::{Clock, Cookies, Net, Ready, ShutSink};
+use std::alloc::Global;
+use std::sync::{Arc, Wait};
+use std::time;
+
+/// How a run ended, and its outside. The streams are there, but where jobs that had them were not
+/// run.
+#[derive(Drop)]
+pub struct Ran<S: Drop, W: Drop, N: Drop, C: Drop, K: Drop> {
+    /// How each node ended, in the order of the configurations.
+    pub ends: Vec<NodeEnd>,
+    pub input: Option<S>,
+    pub output: Option<W>,
+    pub net: N,
+    pub clock: C,
+    pub cookies: K,
+}
+
+// The nodes of a run, before it: their jobs, who gathers each one's end, and the streams that no
+// job has.
+struct Nodes<
+    M: Node,
+    S: Ready + Drop,
+    W: ShutSink + Drop,
+    N: Net + Drop,
+    C: Clock + Drop,
+    K: Cookies + Drop,
+    G: Gate + Drop,
+    R: Wait + Drop,
+>
+where
+    M::State: Drop,
+    N::In: Drop,
+    N::Out: Drop,
+    N::Way: Drop,
+{
+    jobs: Vec<Work<M, S, W, N, C, K, G, R>>,
+    actors: Vec<Actor<M>>,
+    streams: Option<(S, W)>,
+}
+
+// Whether a role has an input and an output.
+fn is_end(role: Role) -> bool {
+    match role {
+        Role::Client | Role::Server => true,
+        Role::InProxy | Role::OutProxy => false,
+    }
+}
+
+// Makes a node for each configuration, with a way each. The first one of an end has the streams.
+fn make_nodes<
+    M: Node,
+    S: Ready + Drop,
+    W: ShutSink + Drop,
+    N: Net + Drop,
+    C: Clock + Drop,
+    K: Cookies + Drop,
+    G: Gate + Drop,
+    R: Wait + Copy + Drop,
+>(
+    shared: &Shared<N, C, K, G, R>,
+    configs: &[M::Config],
+    plan: &Plan,
+    ways: Vec<N::Way>,
+    streams: (S, W),
+) -> Result<Nodes<M, S, W, N, C, K, G, R>, NoMemory>
+where
+    M::State: Drop,
+    N::In: Drop,
+    N::Out: Drop,
+    N::Way: Drop,
+    requires configs { (at : ℕ) (config : M.Config) → slice_get configs.now at ≡ Some config
+        → M.can_make config }
+{
+    let mut streams = Some(streams);
+    let mut jobs = Vec::new(shared.alloc);
+    let mut actors = Vec::new(shared.alloc);
+    for way in ways {
+        let at = actors.len();
+        if at < configs.len() {
+            let config = &configs[at];
+            let theirs = if is_end(M::ROLE) {
+                streams.take()
+            } else {
+                None
+            };
+            let actor = shared.add_node::<M, S, W>(&mut jobs, at, config, plan, way, theirs)?;
+            actors.push(actor)?;
+        }
+    }
+    Ok(Nodes {
+        jobs,
+        actors,
+        streams,
+    })
+}
+
+// How each node ended, by its machine and by its jobs. What these had of the outside is handed
+// back.
+fn gather<M: Node, S: Ready + Drop, W: ShutSink + Drop, N: Net + Drop, R: Wait>(
+    rt: &R,
+    alloc: Global,
+    actors: Vec<Actor<M>>,
+    dones: Vec<Done<M, S, W, N>>,
+    back: &mut Back<S, W, N>,
+) -> Result<Vec<NodeEnd>, NoMemory>
+where
+    M::State: Drop,
+    N::In: Drop,
+    N::Out: Drop,
+{
+    let mut ends = ends_of(rt, alloc, actors)?;
+    for done in dones {
+        let Done { node, end, had, .. } = done;
+        if node < ends.len() {
+            ends[node] = ends[node].or(end);
+        }
+        back.take(had);
+    }
+    Ok(ends)
+}
+
+// How the machines of nodes ended.
+fn ends_of<M: Node, R: Wait>(
+    rt: &R,
+    alloc: Global,
+    actors: Vec<Actor<M>>,
+) -> Result<Vec<NodeEnd>, NoMemory>
+where
+    M::State: Drop,
+{
+    let mut ends = Vec::new(alloc);
+    for actor in actors {
+        let mut actor = actor;
+        ends.push(actor.end(rt))?;
+    }
+    Ok(ends)
+}
+
+// The same end for so many nodes.
+fn all_end(alloc: Global, count: usize, end: NodeEnd) -> Result<Vec<NodeEnd>, NoMemory> {
+    let mut ends = Vec::new(alloc);
+    for _ in 0..count {
+        ends.push(end)?;
+    }
+    Ok(ends)
+}
+
+// Runs the nodes, and gathers how they ended.
+fn run_nodes<
+    M: Node + Send + 'static,
+    S: Ready + Send + Drop + 'static,
+    W: ShutSink + Send + Drop + 'static,
+    N: Net + Send + Drop + 'static,
+    C: Clock + Send + Drop + 'static,
+    K: Cookies + Send + Drop + 'static,
+    P: Spawner,
+    G: Gate + Send + Sync + Drop + 'static,
+    R: Wait + time::Clock + Copy + Send + Drop + 'static,
+>(
+    shared: Shared<N, C, K, G, R>,
+    nodes: Nodes<M, S, W, N, C, K, G, R>,
+    spawner: &mut P,
+) -> Result<Ran<S, W, N, C, K>, NoMemory>
+where
+    M::State: Send + Drop + 'static,
+    M::Config: 'static,
+    N::In: Ready + Send + Drop + 'static,
+    N::Out: Send + Drop + 'static,
+    N::Way: Send + Drop + 'static,
+    N::Came: 'static,
+{
+    let Shared {
+        rt,
+        alloc,
+        desk,
+        ..
+    } = shared;
+    let Nodes {
+        jobs,
+        actors,
+        streams,
+    } = nodes;
+    match spawner.all(jobs) {
+        Ok(dones) => finish(&rt, alloc, desk, actors, dones, streams),
+        Err((SpawnRefused::Failed, jobs)) => {
+            drop(jobs);
+            refused(&rt, alloc, desk, actors.len())
+        }
+        Err((SpawnRefused::NoMemory, _)) => Err(NoMemory),
+    }
+}
+
+// The outside of nodes whose jobs were not run.
+fn refused<S: Drop, W: Drop, N: Net + Drop, C: Clock + Drop, K: Cookies + Drop, R: Wait>(
+    rt: &R,
+    alloc: Global,
+    desk: Desk<N, C, K>,
+    count: usize,
+) -> Result<Ran<S, W, N, C, K>, NoMemory> {
+    let Books {
+        net,
+        clock,
+        cookies,
+    } = desk.close(rt);
+    Ok(Ran {
+        ends: all_end(alloc, count, NodeEnd::SpawnFault)?,
+        input: None,
+        output: None,
+        net,
+        clock,
+        cookies,
+    })
+}
+
+// Gathers what the jobs answered.
+fn finish<
+    M: Node,
+    S: Ready + Drop,
+    W: ShutSink + Drop,
+    N: Net + Drop,
+    C: Clock + Drop,
+    K: Cookies + Drop,
+    R: Wait,
+>(
+    rt: &R,
+    alloc: Global,
+    desk: Desk<N, C, K>,
+    actors: Vec<Actor<M>>,
+    dones: Vec<Done<M, S, W, N>>,
+    streams: Option<(S, W)>,
+) -> Result<Ran<S, W, N, C, K>, NoMemory>
+where
+    M::State: Drop,
+    N::In: Drop,
+    N::Out: Drop,
+{
+    let Books {
+        net,
+        clock,
+        cookies,
+    } = desk.close(rt);
+    let (input, output) = match streams {
+        Some((input, output)) => (Some(input), Some(output)),
+        None => (None, None),
+    };
+    let mut back = Back { net, input, output };
+    let ends = gather(rt, alloc, actors, dones, &mut back)?;
+    let Back { net, input, output } = back;
+    Ok(Ran {
+        ends,
+        input,
+        output,
+        net,
+        clock,
+        cookies,
+    })
+}
+
+/// Runs a node for each configuration, all at the same time, and answers how they ended, in that
+/// order, with the outside.
+///
+/// A node has a keeper, two jobs for each slot and, at an end, a giver and a taker, each on a thread
+/// of its own. `gate` is passed by what reads and writes legs. Fails where there is no memory, and
+/// the outside is lost then.
+pub fn run_node<
+    M: Node + Send + 'static,
+    S: Ready + Send + Drop + 'static,
+    W: ShutSink + Send + Drop + 'static,
+    N: Net + Send + Drop + 'static,
+    C: Clock + Send + Drop + 'static,
+    K: Cookies + Send + Drop + 'static,
+    P: Spawner,
+    G: Gate + Send + Sync + Drop + 'static,
+    R: Wait + time::Clock + Copy + Send + Drop + 'static,
+>(
+    rt: R,
+    alloc: Global,
+    configs: &[M::Config],
+    plan: &Plan,
+    outside: Outside<S, W, N, C, K>,
+    spawner: &mut P,
+    gate: Arc<G, Global>,
+) -> Result<Ran<S, W, N, C, K>, NoMemory>
+where
+    M::State: Send + Drop + 'static,
+    M::Config: 'static,
+    N::In: Ready + Send + Drop + 'static,
+    N::Out: Send + Drop + 'static,
+    N::Way: Send + Drop + 'static,
+    N::Came: 'static,
+    requires configs { (at : ℕ) (config : M.Config) → slice_get configs.now at ≡ Some config
+        → M.can_make config }
+{
+    let Outside {
+        input,
+        output,
+        mut net,
+        clock,
+        cookies,
+    } = outside;
+    let Some(ways) = ways_of(alloc, &mut net, plan, configs.len())? else {
+        return Ok(Ran {
+            ends: all_end(alloc, configs.len(), NodeEnd::NetFault)?,
+            input: Some(input),
+            output: Some(output),
+            net,
+            clock,
+            cookies,
+        });
+    };
+    let books = Books {
+        net,
+        clock,
+        cookies,
+    };
+    let shared = Shared {
+        rt,
+        alloc,
+        desk: Desk::new(alloc, books)?,
+        queue: Arc::new(alloc, Queue::new(configs.len() as u64))?,
+        gate,
+    };
+    let streams = (input, output);
+    let nodes = make_nodes::<M, S, W, N, C, K, G, R>(&shared, configs, plan, ways, streams)?;
+    run_nodes(shared, nodes, spawner)
+}
+
+// Has the net listen where the plan says so, and takes a way for each node; `None` where the net
+// failed.
+fn ways_of<N: Net>(
+    alloc: Global,
+    net: &mut N,
+    plan: &Plan,
+    count: usize,
+) -> Result<Option<Vec<N::Way>>, NoMemory> {
+    if let Some(at) = &plan.at {
+        if net.listen(at).is_err() {
+            return Ok(None);
+        }
+    }
+    let mut ways = Vec::new(alloc);
+    for _ in 0..count {
+        let Ok(way) = net.way() else {
+            return Ok(None);
+        };
+        ways.push(way)?;
+    }
+    Ok(Some(ways))
+}

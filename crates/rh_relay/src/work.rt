@@ -1,0 +1,258 @@
+//! The jobs of a node.
+
+use crate::actor::Actor;
+use crate::answer::{Done, Had};
+use crate::giving::{GivingRooms, give_all};
+use crate::hand_over::HandOver;
+use crate::keeper::Keeper;
+use crate::slot::{Served, ToRead, ToWrite, read_slot, write_slot};
+use crate::taking::take_all;
+use rh_jobs::Job;
+use rh_legs::{Gate, NodeEnd};
+use rh_machines::{BlockRoom, Node, PieceRoom};
+use rh_net::{Clock, Cookies, Net, Ready, ShutSink};
+use std::alloc::Global;
+use std::sync::{Arc, Wait};
+use std::time;
+
+/// What a slot's job serves: its legs, in the order in which the keeper hands them over.
+#[derive(Drop)]
+pub struct Serving<T: Drop, K: Drop, G: Drop> {
+    pub(crate) legs: Arc<HandOver<T>, Global>,
+    pub(crate) gate: Arc<G, Global>,
+    pub(crate) room: PieceRoom,
+    pub(crate) kept: Vec<Served<K>>,
+}
+
+/// What one job of a node does.
+#[derive(Drop)]
+pub enum Task<
+    M: Node,
+    S: Ready + Drop,
+    W: ShutSink + Drop,
+    N: Net + Drop,
+    C: Clock + Drop,
+    K: Cookies + Drop,
+    G: Gate + Drop,
+>
+where
+    M::State: Drop,
+    N::In: Drop,
+    N::Out: Drop,
+    N::Way: Drop,
+{
+    /// Keeps the node.
+    Keep(Global, Keeper<M, N, C, K>),
+    /// Reads the legs of a slot.
+    Read(Actor<M>, Serving<ToRead<N::In>, N::In, G>),
+    /// Writes the legs of a slot.
+    Write(Actor<M>, Serving<ToWrite<N::Out>, N::Out, G>),
+    /// Gives the PDUs of the input.
+    Give(Actor<M>, S, GivingRooms),
+    /// Takes PDUs, and writes them to the output.
+    Take(Actor<M>, W, BlockRoom),
+}
+
+/// One job of a node.
+#[derive(Drop)]
+pub struct Work<
+    M: Node,
+    S: Ready + Drop,
+    W: ShutSink + Drop,
+    N: Net + Drop,
+    C: Clock + Drop,
+    K: Cookies + Drop,
+    G: Gate + Drop,
+    R: Wait + Drop,
+>
+where
+    M::State: Drop,
+    N::In: Drop,
+    N::Out: Drop,
+    N::Way: Drop,
+{
+    pub(crate) rt: R,
+    /// The place of its node.
+    pub(crate) node: usize,
+    pub(crate) task: Task<M, S, W, N, C, K, G>,
+}
+
+impl<
+    M: Node + Send,
+    S: Ready + Send + Drop,
+    W: ShutSink + Send + Drop,
+    N: Net + Send + Drop,
+    C: Clock + Send + Drop,
+    K: Cookies + Send + Drop,
+    G: Gate + Send + Sync + Drop,
+    R: Wait + time::Clock + Send + Drop,
+> Job for Work<M, S, W, N, C, K, G, R>
+where
+    M::State: Send + Drop,
+    N::In: Ready + Send + Drop,
+    N::Out: Send + Drop,
+    N::Way: Send + Drop,
+{
+    type Out = Done<M, S, W, N>;
+
+    ghost answers = { λ _ _. Unit {0} };
+
+    fn run(self) -> Done<M, S, W, N> {
+        let Work { rt, node, task } = self;
+        match task {
+            Task::Keep(alloc, keeper) => keep::<M, S, W, N, C, K, R>(&rt, node, alloc, keeper),
+            Task::Read(actor, serving) => read::<M, S, W, N, G, R>(&rt, node, actor, serving),
+            Task::Write(actor, serving) => write::<M, S, W, N, G, R>(&rt, node, actor, serving),
+            Task::Give(actor, input, rooms) => {
+                give::<M, S, W, N, R>(&rt, node, actor, input, rooms)
+            }
+            Task::Take(actor, output, room) => {
+                take::<M, S, W, N, R>(&rt, node, actor, output, room)
+            }
+        }
+    }
+}
+
+// Keeps a node.
+fn keep<
+    M: Node,
+    S: Ready + Drop,
+    W: ShutSink + Drop,
+    N: Net + Drop,
+    C: Clock + Drop,
+    K: Cookies + Drop,
+    R: Wait + time::Clock,
+>(rt: &R, node: usize, alloc: Global, keeper: Keeper<M, N, C, K>) -> Done<M, S, W, N>
+where
+    M::State: Drop,
+    N::In: Ready + Drop,
+    N::Out: Drop,
+    N::Way: Drop,
+{
+    let mut keeper = keeper;
+    let end = keeper.run(alloc, rt);
+    let Keeper { actor, failed, .. } = keeper;
+    Done {
+        node,
+        actor,
+        end,
+        had: Had::Failed(failed),
+    }
+}
+
+// Reads the legs of a slot.
+fn read<M: Node, S: Ready + Drop, W: ShutSink + Drop, N: Net + Drop, G: Gate + Drop, R: Wait>(
+    rt: &R,
+    node: usize,
+    actor: Actor<M>,
+    serving: Serving<ToRead<N::In>, N::In, G>,
+) -> Done<M, S, W, N>
+where
+    M::State: Drop,
+    N::In: Drop,
+    N::Out: Drop,
+{
+    let mut actor = actor;
+    let Serving {
+        legs,
+        gate,
+        room,
+        mut kept,
+    } = serving;
+    let end = match read_slot::<M, R, N::In, G>(rt, &mut actor, &legs, &gate, room, &mut kept) {
+        Ok(()) => NodeEnd::Ended,
+        Err(_) => NodeEnd::NoMemory,
+    };
+    actor.stop_at(rt, end);
+    Done {
+        node,
+        actor,
+        end,
+        had: Had::Read(kept),
+    }
+}
+
+// Writes the legs of a slot.
+fn write<M: Node, S: Ready + Drop, W: ShutSink + Drop, N: Net + Drop, G: Gate + Drop, R: Wait>(
+    rt: &R,
+    node: usize,
+    actor: Actor<M>,
+    serving: Serving<ToWrite<N::Out>, N::Out, G>,
+) -> Done<M, S, W, N>
+where
+    M::State: Drop,
+    N::In: Drop,
+    N::Out: Drop,
+{
+    let mut actor = actor;
+    let Serving {
+        legs,
+        gate,
+        room,
+        mut kept,
+    } = serving;
+    let end = match write_slot::<M, R, N::Out, G>(rt, &mut actor, &legs, &gate, room, &mut kept) {
+        Ok(()) => NodeEnd::Ended,
+        Err(_) => NodeEnd::NoMemory,
+    };
+    actor.stop_at(rt, end);
+    Done {
+        node,
+        actor,
+        end,
+        had: Had::Wrote(kept),
+    }
+}
+
+// Gives the PDUs of the input.
+fn give<M: Node, S: Ready + Drop, W: ShutSink + Drop, N: Net + Drop, R: Wait>(
+    rt: &R,
+    node: usize,
+    actor: Actor<M>,
+    input: S,
+    rooms: GivingRooms,
+) -> Done<M, S, W, N>
+where
+    M::State: Drop,
+    N::In: Drop,
+    N::Out: Drop,
+{
+    let mut actor = actor;
+    let mut input = input;
+    let end = give_all(rt, &mut actor, &mut input, rooms);
+    actor.stop_at(rt, end);
+    Done {
+        node,
+        actor,
+        end,
+        had: Had::Input(input),
+    }
+}
+
+// Takes PDUs, and writes them to the output, which is shut then.
+fn take<M: Node, S: Ready + Drop, W: ShutSink + Drop, N: Net + Drop, R: Wait>(
+    rt: &R,
+    node: usize,
+    actor: Actor<M>,
+    output: W,
+    room: BlockRoom,
+) -> Done<M, S, W, N>
+where
+    M::State: Drop,
+    N::In: Drop,
+    N::Out: Drop,
+{
+    let mut actor = actor;
+    let mut output = output;
+    let end = take_all(rt, &mut actor, &mut output, room);
+    output.shut();
+    if end == NodeEnd::WriteFault {
+        actor.stop_at(rt, end);
+    }
+    Done {
+        node,
+        actor,
+        end,
+        had: Had::Output(output),
+    }
+}

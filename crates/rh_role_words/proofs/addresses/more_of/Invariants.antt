@@ -1,0 +1,10 @@
+-- those found stand before the rest
+use Rattle.std.proofs.Common.{◌≡◌, vec_len}
+use Rattle.rh_role_words.proofs.Joining.{StandBefore}
+use Rattle.rh_role_words.proofs.addresses.more_of.Given as goal
+
+abbrev pub invariant-more : goal.invariant-more
+invariant-more l = record {
+  before : StandBefore l.text l.rest l.more.items;
+  count : vec_len l.more ≡ l.at;
+}

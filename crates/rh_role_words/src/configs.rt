@@ -1,0 +1,137 @@
+//! What the nodes of a role are made with.
+
+ghost use Rattle.std.specs.Prelude.{◌≡◌, ℕ, ◌≤◌, IfOk, slice_get, Some};
+ghost use Rattle.rh_inproxy.specs.declared.state.InProxyConfig.{InProxyConfig};
+ghost use Rattle.rh_outproxy.specs.declared.state.OutProxyConfig.{OutProxyConfig};
+ghost use Rattle.rh_inproxy.specs.State.{IsConfig};
+ghost use Rattle.rh_window.specs.Sides.{IsWindow};
+ghost use Rattle.rh_sig.specs.Values.{IsLifetime, IsTimeout};
+
+use crate::addresses::HostPort;
+use rh_http::{ClientConfig, Host};
+use rh_inproxy::InProxyConfig;
+use rh_io::NoMemory;
+use rh_outproxy::OutProxyConfig;
+use rh_rts::Cookie;
+use rh_server::ServerConfig;
+use std::alloc::Global;
+
+/// The address of a client that a running in proxy tells: it knows none.
+const UNKNOWN_ADDRESS: [u8; 4] = [0; 4];
+
+/// The numbers of a node.
+#[derive(Clone, Copy, Debug)]
+pub struct Limits {
+    /// The size of each receive window, in bytes: 8,192 to 262,144.
+    pub window: u32,
+    /// The lifetime of a channel, in bytes: 131,072 to 2,147,483,648.
+    pub lifetime: u32,
+    /// The connection timeout of a proxy, in milliseconds: 120,000 to 14,400,000.
+    pub timeout: u32,
+    /// The keepalive of a client, in milliseconds: 60,000 and above, or 0 for 300,000.
+    pub keepalive: u32,
+    ghost is_window: { IsWindow window },
+    ghost is_lifetime: { IsLifetime lifetime },
+    ghost is_timeout: { IsTimeout timeout },
+}
+
+/// The numbers that a role has where nothing else is said.
+pub const DEFAULT_LIMITS: Limits = Limits {
+    window: 65_536,
+    lifetime: 1_073_741_824,
+    timeout: 120_000,
+    keepalive: 300_000,
+};
+
+impl Limits {
+    /// What a client is made with, by the cookies of its connection and of its group.
+    pub(crate) fn client(
+        &self,
+        cookies: (Cookie, Cookie),
+        server: HostPort,
+        proxy_host: Host,
+    ) -> ClientConfig
+        ensures { IsWindow result.window }
+    {
+        let (connection, group) = cookies;
+        ClientConfig {
+            connection,
+            group,
+            window: self.window,
+            lifetime: self.lifetime,
+            keepalive: self.keepalive,
+            host: server.host,
+            port: server.port,
+            proxy_host,
+        }
+    }
+
+    /// What a server is made with.
+    pub(crate) fn server(&self) -> ServerConfig
+        ensures { IsWindow result.window }
+    {
+        ServerConfig {
+            window: self.window,
+        }
+    }
+
+    fn in_proxy(&self, number: u32) -> InProxyConfig
+        requires { 1 ≤ number }
+        ensures { IsConfig result }
+    {
+        InProxyConfig {
+            number,
+            window: self.window,
+            timeout: self.timeout,
+            address: UNKNOWN_ADDRESS,
+        }
+    }
+
+    fn out_proxy(&self, number: u32) -> OutProxyConfig
+        requires { 1 ≤ number }
+        ensures { (1 ≤ result.number) × IsWindow result.window × IsLifetime result.lifetime
+            × IsTimeout result.timeout }
+    {
+        OutProxyConfig {
+            number,
+            window: self.window,
+            lifetime: self.lifetime,
+            timeout: self.timeout,
+        }
+    }
+
+    /// What the nodes of an in proxy are made with, the one of channel 1 first. Fails where there
+    /// is no memory.
+    pub(crate) fn in_proxies(
+        &self,
+        alloc: Global,
+        count: u32,
+    ) -> Result<Vec<InProxyConfig>, NoMemory>
+        ensures { IfOk result (λ configs. (at : ℕ) (config : InProxyConfig)
+            → slice_get configs.items at ≡ Some config → IsConfig config) }
+    {
+        let mut configs = Vec::new(alloc);
+        for before in 0..count {
+            configs.push(self.in_proxy(before.saturating_add(1)))?;
+        }
+        Ok(configs)
+    }
+
+    /// What the nodes of an out proxy are made with, likewise.
+    pub(crate) fn out_proxies(
+        &self,
+        alloc: Global,
+        count: u32,
+    ) -> Result<Vec<OutProxyConfig>, NoMemory>
+        ensures { IfOk result (λ configs. (at : ℕ) (config : OutProxyConfig)
+            → slice_get configs.items at ≡ Some config
+            → (1 ≤ config.number) × IsWindow config.window × IsLifetime config.lifetime
+            × IsTimeout config.timeout) }
+    {
+        let mut configs = Vec::new(alloc);
+        for before in 0..count {
+            configs.push(self.out_proxy(before.saturating_add(1)))?;
+        }
+        Ok(configs)
+    }
+}

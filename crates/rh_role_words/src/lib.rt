@@ -1,0 +1,15 @@
+//! The words of the roles, without the program: which words are which role's, what runs of them, and
+//! how each run ends.
+#![tactic(auto)]
+
+pub mod addresses;
+pub mod configs;
+pub mod form;
+pub mod running;
+pub mod status;
+
+pub use addresses::{HostPort, HostPorts};
+pub use configs::{DEFAULT_LIMITS, Limits};
+pub use form::{RoleForm, role_form_of};
+pub use running::{Running, run_role};
+pub use status::{RoleStatus, status_of_ends};

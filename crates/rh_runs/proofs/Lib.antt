@@ -1,0 +1,3 @@
+mod Own
+pub mod Running
+mod Standing

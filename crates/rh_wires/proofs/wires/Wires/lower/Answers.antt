@@ -1,0 +1,14 @@
+-- by lemmas over plain variables
+use Rattle.std.proofs.Common.{◌∙◌}
+use Rattle.rh_wires.proofs.Keeping.{idle_set, change_at}
+use Rattle.rh_wires.proofs.wires.Wires.lower.Goals as goal
+
+pub invariant_of-self : goal.invariant_of-self
+invariant_of-self c =
+    (idle_set _ _ _ _ _ _ _ c.min-self-inside.ensures c.self.invariant.0, c.self.invariant.1)
+
+pub returns-then-at-len : goal.returns-then-at-len
+returns-then-at-len c =
+    change_at _ _ _ _ _ _ _ c.self.view_is
+    (c.len.ensures ∙ c.self.inside.list.ok.0) c.if-at-len.true
+    c.index_mut.ensures.value c.lower.ensures

@@ -1,0 +1,69 @@
+//! Lists that have an item for each number, and a blank one for each number behind their end.
+
+ghost use Rattle.std.specs.Prelude.{◌≡◌, ◌≤◌, ℕ, OnOk, get_or, vec_len, max};
+ghost use Rattle.rh_wires.specs.Numbered.{AreIdle, grown};
+
+use std::alloc::AllocError;
+
+/// What may stand at a number.
+pub trait Item: Drop {
+    ghost use Rattle.std.specs.Prelude.{◌≡◌, Bool};
+
+    ghost blank: { Self };
+
+    ghost is_idle: { Self → Bool };
+
+    /// What stands at a number where nothing was put.
+    fn blank() -> Self
+        ensures { result ≡ blank };
+
+    /// Whether the item need not be looked for.
+    fn is_idle(&self) -> bool
+        ensures { result ≡ is_idle self.now };
+}
+
+impl Item for u32 {
+    ghost use Rattle.std.specs.Prelude.{◌==◌};
+
+    ghost blank = { 0 };
+
+    ghost is_idle = { λ n. n == 0 };
+
+    fn blank() -> u32 {
+        0
+    }
+
+    fn is_idle(&self) -> bool {
+        *self == 0
+    }
+}
+
+/// Adds blank items up to a length, where there are fewer. Fails where there is no memory; some may
+/// be added then.
+pub fn grow<T: Item>(list: &mut Vec<T>, len: usize) -> Result<(), AllocError>
+    ensures done { OnOk result (list.new.items ≡ grown len T.blank list.old.items) }
+    ensures same { (k : ℕ) → get_or list.new.items k T.blank ≡ get_or list.old.items k T.blank }
+    ensures long { OnOk result (len ≤ vec_len list.new) }
+    ensures most { vec_len list.new ≤ max len (vec_len list.old) }
+{
+    'items: while list.len() < len {
+        list.push(T::blank())?;
+    }
+    Ok(())
+}
+
+/// The first number at or behind `from` at which an item isn't idle, or one behind the last.
+pub fn first_from<T: Item>(list: &[T], from: usize) -> usize
+    requires { AreIdle T.is_idle T.blank from list.now }
+    ensures idle { AreIdle T.is_idle T.blank result list.now }
+    ensures later { from ≤ result }
+{
+    let mut at = from;
+    'items: while at < list.len() {
+        if !list[at].is_idle() {
+            return at;
+        }
+        at += 1;
+    }
+    at
+}

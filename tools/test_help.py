@@ -1,0 +1,124 @@
+#!/usr/bin/env python3
+"""Tests that --help, the page on recordings and the sources tell the same, numbers included.
+
+No program is run: the page of --help is put together from the rows of statuses and the macro that
+make it in the program. What the built program writes is tested by test_statuses.py.
+"""
+import pathlib
+import re
+import unittest
+
+TOP = pathlib.Path(__file__).resolve().parent.parent
+WORDS = TOP / "crates/rh_words"
+PAGE = TOP / "docs/RECORDINGS.md"
+# The constants that --help tells of, and where they stand.
+CONSTANTS = {
+    "MOST_GIVEN": WORDS / "src/generating/count.rt",
+    "MOST_INPUT": WORDS / "src/word.rt",
+    "MOST_BYTES": TOP / "crates/rh_show/src/reader.rt",
+}
+# What --help tells of each, and the page.
+TOLD = {
+    "MOST_GIVEN": ["a generated recording of n PDUs (1 to {})"],
+    "MOST_BYTES": ["A line for show has 1 to {} bytes in hex"],
+    "MOST_INPUT": ["input too long (above {} bytes)"],
+}
+ON_PAGE = {
+    "MOST_GIVEN": ["`make` with a number from 1 to {}."],
+    "MOST_BYTES": ["each is hex of 1 to {} bytes"],
+    "MOST_INPUT": [
+        "A whole recording has at most {} bytes.",
+        "The whole text has at most {} bytes",
+        "More than {} bytes came.",
+    ],
+}
+NUMBER = re.compile(r"\d+(?:,\d{3})*")
+
+
+def constant(name):
+    """The value of a constant, as the texts write it: in groups of three digits."""
+    text = CONSTANTS[name].read_text()
+    [value] = re.findall(rf"^pub const {name}: \w+ = ([\d_]+);", text, re.MULTILINE)
+    return f"{int(value.replace('_', '')):,}"
+
+
+def statuses():
+    """The rows of the program's statuses: number, text, and what --help tells behind it."""
+    text = (WORDS / "src/status.rt").read_text()
+    rows = re.search(r"\$rows! \{(.*?)\}", text, re.DOTALL)[1]
+    return re.findall(r'^\s*\w+ (\d+) "(.*)" "(.*)";$', rows, re.MULTILINE)
+
+
+def help_page():
+    """What --help writes."""
+    text = (WORDS / "src/help.rt").read_text()
+    front, row = re.search(r'concat!\(\s*"(.*?)",\s*\$\((.*?)\)\*', text, re.DOTALL).groups()
+    if row.split() != ['"', '",', "$number,", '"', '",', "$name,", "$more,", '"\\n",']:
+        raise ValueError(f"a row of a status is made otherwise: {row}")
+    rows = (f"  {number}  {name}{more}\n" for number, name, more in statuses())
+    return front.replace("\\\\", "\\") + "".join(rows)
+
+
+def rows_of_page():
+    """The statuses on the page: number, text, and when."""
+    table = PAGE.read_text().split("\n| Status | Standard error | When |\n|---|---|---|\n")[1]
+    for line in table.split("\n\n")[0].split("\n"):
+        yield [cell.strip() for cell in line.strip("|").split("|")]
+
+
+def definition(name):
+    """What the definition of a status gives for each: its variant, and the number or the text."""
+    text = (WORDS / "specs/Statuses.antt").read_text()
+    value = r'(?:codes )?"?([^"\n]*)"?'
+    return re.findall(rf"^{name} \(?(\w+)(?: \w+\))? = {value}$", text, re.MULTILINE)
+
+
+class Statuses(unittest.TestCase):
+    def test_page(self):
+        done, *rows = rows_of_page()
+        self.assertEqual(done[:2], ["0", ""])
+        told = [(number, text.strip("`").partition(" <")[0]) for number, text, _ in rows]
+        self.assertEqual(told, [(number, name) for number, name, _ in statuses()])
+
+    def test_what_stands_behind_a_text(self):
+        for (number, text, when), (_, name, more) in zip(list(rows_of_page())[1:], statuses()):
+            # A line is told in the text itself, and a number as in the sentence beside it.
+            self.assertEqual("<" in text, "<" in more, number)
+            for count in NUMBER.findall(more):
+                self.assertIn(count, NUMBER.findall(when), name)
+
+    def test_definition(self):
+        numbers, texts = dict(definition("status_number")), dict(definition("status_name"))
+        self.assertEqual(numbers.pop("Done"), "0")
+        self.assertEqual(texts.pop("Done"), "done")
+        told = sorted((number, texts[status]) for status, number in numbers.items())
+        self.assertEqual(told, sorted((number, name) for number, name, _ in statuses()))
+
+
+class Texts(unittest.TestCase):
+    def told(self, sentences):
+        return [it.format(constant(name)) for name, its in sentences.items() for it in its]
+
+    def test_constants(self):
+        for text, sentences in (help_page(), TOLD), (PAGE.read_text(), ON_PAGE):
+            for sentence in self.told(sentences):
+                self.assertEqual(text.count(sentence), 1, sentence)
+
+    def test_all_numbers(self):
+        """No other number stands in --help than those, the statuses and the protocol's version."""
+        rest = help_page()
+        for number, name, _ in statuses():
+            rest = rest.replace(f"\n  {number}  {name}", f"\n{name}")
+        for sentence in [*self.told(TOLD), "HTTP version 2", "status other than 0"]:
+            rest = rest.replace(sentence, "")
+        self.assertEqual(NUMBER.findall(rest), [])
+
+    def test_words(self):
+        """The page's row of wrong words names each form that --help tells."""
+        forms = re.findall(r"^  rh_cli (\S+)(?: <n>)?  ", help_page(), re.MULTILINE)
+        [when] = [when for _, text, when in rows_of_page() if text == "`usage`"]
+        self.assertEqual(sorted(forms), sorted(re.findall(r"`(\S+)`", when)))
+
+
+if __name__ == "__main__":
+    unittest.main()
