@@ -1,14 +1,13 @@
 //! Packets that wait: merged, refused, passed by.
 
+use Deed::{Adds, Clears, Counts, Forwards, IsEmpty, NoneOf, Refuses, Takes, TakesOf};
+use Origin::{Forwarded, Own};
+use Packet::{Ack, EndA1, EndA2, OutA9, OutA10};
 use rh_rts::Cookie;
 use rh_shell::{Due, FORWARDED_ROOM, Gate, OWN_ROOM, Origin, Waiting};
 use rh_sig::Named;
 use std::alloc::{AllocError, Global};
 use std::test::Fail;
-
-use Deed::{Adds, Clears, Counts, Forwards, IsEmpty, NoneOf, Refuses, Takes, TakesOf};
-use Origin::{Forwarded, Own};
-use Packet::{Ack, EndA1, EndA2, OutA9, OutA10};
 
 /// Lets packets go that came from there.
 #[derive(Drop)]

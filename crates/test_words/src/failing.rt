@@ -90,7 +90,11 @@ fn a_failing_input_or_output_is_told(rt: HostRuntime) -> Result<(), Fail> {
     // A short one, and texts for several reads and several writes.
     let short = "rh 1 direct\ntake s\ntake s\n";
     let long = settling(&rt)?;
-    let packets = lines(&rt, "050014031000000018000000000000000000010007000000\n", 9000)?;
+    let packets = lines(
+        &rt,
+        "050014031000000018000000000000000000010007000000\n",
+        9000,
+    )?;
     let steps = lines(&rt, "server\nstate\n", 9000)?;
     assert!(rt; fails::<Recording, Replay>(&rt, short.as_bytes(), 1, 1)?);
     assert!(rt; fails::<Recording, Replay>(&rt, long.as_bytes(), 2, 3)?);

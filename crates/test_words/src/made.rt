@@ -16,7 +16,10 @@ fn pdus_have_their_sizes_and_numbers(rt: HostRuntime) -> Result<(), Fail> {
         let front = [
             5, 0, 0, 3, 16, 0, 0, 0, a, b, 0, 0, c, d, 0, 0, c, c, c, c, c, c, c, c,
         ];
-        assert!(rt; pdu.len() == size && pdu.as_slice().starts_with(&front), "{number}");
+        assert!(rt;
+            pdu.len() == size && pdu.as_slice().starts_with(&front),
+            "{number}"
+        );
     }
     Ok(())
 }

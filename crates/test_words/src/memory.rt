@@ -39,7 +39,10 @@ fn a_text_in_memory_is_answered_whole_where_there_is_room(rt: HostRuntime) -> Re
         let all = output.written() == whole.as_bytes();
         let front = whole.as_bytes().starts_with(output.written());
         let (done, fault) = (ended == Status::Done, ended == Status::WriteFault);
-        assert!(rt; front && all == (lacks == 0) && done == all && fault != all, "{word} {room}");
+        assert!(rt;
+            front && all == (lacks == 0) && done == all && fault != all,
+            "{word} {room}"
+        );
     }
     Ok(())
 }

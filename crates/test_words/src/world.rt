@@ -27,8 +27,7 @@ fn a_world_takes_lines_until_it_is_full(rt: HostRuntime) -> Result<(), Fail> {
     world.last(&mut report)?;
     let mut text = String::new(rt.alloc());
     write_report(&report, &mut text)?;
-    let wanted =
-        "give c bad Cut 1\nsend cs u 0\nup given 0 taken 0\ndown given 0 taken 0\n";
+    let wanted = "give c bad Cut 1\nsend cs u 0\nup given 0 taken 0\ndown given 0 taken 0\n";
     assert_eq!(rt; text.as_str(), wanted);
     report.clear();
     assert!(rt; report.answers().is_empty());
