@@ -4,7 +4,7 @@ use rh_http::Host;
 use std::marker::Model;
 
 /// A server: its host and its port. Contracts see the text of the host.
-#[derive(Debug, Drop)]
+#[derive(Drop)]
 pub struct Target {
     host: Host,
     port: u16,

@@ -18,7 +18,7 @@ use rh_text::{Bytes, Part as Piece, push_ascii, write_parts};
 use std::alloc::AllocError;
 
 /// What is answered to a line.
-#[derive(Debug, Drop)]
+#[derive(Drop)]
 pub enum Told {
     /// Nothing is written: a comment or a setting.
     Silent,

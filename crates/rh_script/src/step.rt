@@ -62,7 +62,7 @@ pub enum Act {
 }
 
 /// One line of a script.
-#[derive(Debug, Drop)]
+#[derive(Drop)]
 pub enum Step {
     /// A comment: `#`, and whatever stands behind it.
     Note,

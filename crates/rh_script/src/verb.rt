@@ -3,7 +3,7 @@
 use rh_record::words::split_word;
 
 /// The first word of a line that has more.
-#[derive(Clone, Copy, Debug, PartialEq, Eq)]
+#[derive(Clone, Copy)]
 pub(crate) enum Verb {
     Case,
     Set,
@@ -24,7 +24,7 @@ pub(crate) enum Verb {
 }
 
 /// A line of one word.
-#[derive(Clone, Copy, Debug, PartialEq, Eq)]
+#[derive(Clone, Copy)]
 pub(crate) enum Lone {
     Client,
     Server,
