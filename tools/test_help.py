@@ -13,7 +13,7 @@ WORDS = TOP / "crates/rh_words"
 PAGE = TOP / "docs/RECORDINGS.md"
 # The constants that --help tells of, and where they stand.
 CONSTANTS = {
-    "MOST_GIVEN": WORDS / "src/generating/count.rt",
+    "MOST_GIVEN": TOP / "crates/rh_generate/src/count.rt",
     "MOST_INPUT": WORDS / "src/word.rt",
     "MOST_BYTES": TOP / "crates/rh_show/src/reader.rt",
 }

@@ -5,4 +5,3 @@ mod Settling
 mod Writing
 mod FormLaws
 mod Memory
-pub mod Generated

@@ -11,8 +11,8 @@ use Rattle.rh_text.specs.Lines.{Rules, IsText, FirstBad}
 use Rattle.rh_record.specs.Places.{recording}
 use Rattle.rh_show.specs.Lines.{packets}
 use Rattle.rh_script.specs.Scripts.{script}
-use Rattle.rh_words.specs.Generated.Making.{IsCount}
-use Rattle.rh_words.specs.Generated.Summaries.{summary, summary_text}
+use Rattle.rh_generate.specs.Making.{IsCount}
+use Rattle.rh_generate.specs.Summaries.{summary, summary_text}
 use Rattle.rh_words.specs.declared.form.Form.{Form}
 use Rattle.rh_words.specs.declared.form.Form.TheVariants.{Replay, Show, Play, Make, Help, Version}
 use Rattle.rh_words.specs.declared.status.Status.{Status}

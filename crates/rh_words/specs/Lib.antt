@@ -9,4 +9,3 @@ pub mod Play
 pub mod Plays
 pub mod Forms
 pub mod Memory
-pub mod Generated

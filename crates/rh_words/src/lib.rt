@@ -4,7 +4,6 @@
 
 pub mod claims;
 pub mod form;
-pub mod generating;
 pub mod help;
 pub mod in_memory;
 pub mod output;
@@ -19,15 +18,12 @@ pub mod word;
 
 pub use claims::{Claims, Plain};
 pub use form::{Form, form_of};
-pub use generating::{
-    MakeCount, Summary, a_pdu_is_made, a_recording_is_made, a_summary_is_of_the_report, make, pdu,
-    write_summary,
-};
 pub use help::HELP;
 pub use in_memory::run_in_memory;
 pub use play::Play;
 pub use program::run_program;
 pub use replay::Replay;
+pub use rh_generate::{MakeCount, Summary, make, pdu, write_summary};
 pub use running::{VERSION, run};
 pub use show::Show;
 pub use status::Status;

@@ -1,12 +1,12 @@
 //! The words that read nothing write a text whole.
 
 ghost use Rattle.std.specs.Prelude.{◌≡◌, ◌≢◌, IfOk, string_bytes};
-ghost use Rattle.rh_words.specs.Generated.Making.{IsCount};
-ghost use Rattle.rh_words.specs.Generated.Summaries.{summary, summary_text};
+ghost use Rattle.rh_generate.specs.Making.{IsCount};
+ghost use Rattle.rh_generate.specs.Summaries.{summary, summary_text};
 ghost use Rattle.rh_words.specs.Forms.{Tells};
 
-use crate::generating::{MakeCount, make, write_summary};
 use crate::status::Status;
+use rh_generate::{MakeCount, make, write_summary};
 use rh_io::{Sink, SinkFailed, write_whole};
 use std::alloc::{AllocError, Global};
 

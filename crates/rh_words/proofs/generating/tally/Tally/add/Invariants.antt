@@ -1,7 +1,0 @@
--- what was added are the answers before the place
-use Rattle.std.proofs.Common.{◌≡◌, take}
-use Rattle.rh_words.specs.Generated.Tallies.{with}
-use Rattle.rh_words.proofs.generating.tally.Tally.add.Given as goal
-
-abbrev pub invariant-loop-answer : goal.invariant-loop-answer
-invariant-loop-answer l = l.self ≡ with l.fn.self (take l.answer-index l.answers)
