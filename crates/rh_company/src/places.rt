@@ -10,7 +10,7 @@ use crate::place::Place;
 use rh_line::{Cause, Leg};
 use rh_rts::Cookie;
 use rh_shell::{Role, Shell};
-use rh_wires::{first_from, grow};
+use rh_wires::{grow, skip_idle};
 use std::alloc::{AllocError, Global};
 use std::marker::Model;
 
@@ -59,15 +59,18 @@ impl<R: Role> Places<R> {
         self.list.len() as u64
     }
 
-    /// All places of a number below this one are idle.
+    /// The number of the first place that isn't idle, or one above the greatest that was used. Each
+    /// place that is idle for good is looked at once: the search begins where the last one ended, or
+    /// at a place that changed since.
     pub fn first(&mut self) -> u64
         ensures same { self.new ≡ self.old }
         ensures idle { (k : ℕ) → k < result → IsTrue (seen.is_idle (get_or self.old k Absent)) }
         ensures within { result ≤ length self.old }
+        ensures stands { result < length self.old
+            → seen.is_idle (get_or self.old result Absent) ≡ false }
     {
-        let first = first_from(&self.list, self.first);
-        self.first = first;
-        first.min(self.list.len()) as u64
+        skip_idle(&self.list, &mut self.first);
+        self.first.min(self.list.len()) as u64
     }
 
     /// Whether no proxy of this number was made.

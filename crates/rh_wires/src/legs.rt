@@ -1,6 +1,6 @@
 //! All legs of the virtual connection.
 
-ghost use Rattle.std.specs.Prelude.{◌≡◌, ◌≤◌, ◌<◌, ◌^◌, ℕ, length, get_or, IsTrue, IfOk, OnOk};
+ghost use Rattle.std.specs.Prelude.{◌≡◌, ◌≤◌, ◌<◌, ◌^◌, ℕ, false, length, get_or, IsTrue, IfOk, OnOk};
 ghost use Rattle.rh_wires.specs.Wires.{blank, is_low};
 ghost use Rattle.rh_wires.specs.Legs as seen;
 
@@ -51,12 +51,15 @@ impl Legs {
         self.of(kind).len()
     }
 
-    /// All legs of the kind and of a number below this one are down for both ends.
+    /// The number of the first leg of the kind that isn't down for both ends, or one above the
+    /// greatest that was used. Each leg that is over for good is looked at once.
     pub fn first(&mut self, kind: LegKind) -> u64
         ensures same { self.new ≡ self.old }
         ensures down { (k : ℕ) → k < result
             → IsTrue (is_low (get_or (seen.of kind self.old) k blank)) }
         ensures within { result ≤ length (seen.of kind self.old) }
+        ensures stands { result < length (seen.of kind self.old)
+            → is_low (get_or (seen.of kind self.old) result blank) ≡ false }
     {
         match kind {
             LegKind::ClientOut => self.client_out.first(),

@@ -13,6 +13,6 @@ pub mod wires;
 
 pub use counts::Counts;
 pub use legs::Legs;
-pub use numbered::{Item, first_from, grow};
+pub use numbered::{Item, grow, skip_idle};
 pub use readers::Readers;
 pub use wire::{receiver, sender};

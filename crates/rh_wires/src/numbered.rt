@@ -1,6 +1,6 @@
 //! Lists that have an item for each number, and a blank one for each number behind their end.
 
-ghost use Rattle.std.specs.Prelude.{◌≡◌, ◌≤◌, ℕ, OnOk, get_or, vec_len, max};
+ghost use Rattle.std.specs.Prelude.{◌≡◌, ◌≤◌, ◌<◌, ℕ, false, OnOk, get_or, length, vec_len, max};
 ghost use Rattle.rh_wires.specs.Numbered.{AreIdle, grown};
 
 use std::alloc::AllocError;
@@ -52,18 +52,16 @@ pub fn grow<T: Item>(list: &mut Vec<T>, len: usize) -> Result<(), AllocError>
     Ok(())
 }
 
-/// The first number at or behind `from` at which an item isn't idle, or one behind the last.
-pub fn first_from<T: Item>(list: &[T], from: usize) -> usize
-    requires { AreIdle T.is_idle T.blank from list.now }
-    ensures idle { AreIdle T.is_idle T.blank result list.now }
-    ensures later { from ≤ result }
+/// Moves a mark on to the first number at or behind it at which an item isn't idle, or one behind
+/// the last. Items that were skipped are not looked at again from there.
+pub fn skip_idle<T: Item>(list: &[T], mark: &mut usize)
+    requires { AreIdle T.is_idle T.blank mark.old list.now }
+    ensures idle { AreIdle T.is_idle T.blank mark.new list.now }
+    ensures later { mark.old ≤ mark.new }
+    ensures stands { mark.new < length list.now
+        → T.is_idle (get_or list.now mark.new T.blank) ≡ false }
 {
-    let mut at = from;
-    'items: while at < list.len() {
-        if !list[at].is_idle() {
-            return at;
-        }
-        at += 1;
+    'items: while *mark < list.len() && list[*mark].is_idle() {
+        *mark += 1;
     }
-    at
 }

@@ -4,7 +4,7 @@ ghost use Rattle.std.specs.Prelude.{◌≡◌, ◌≤◌, ◌<◌, ◌+◌, ◌^
 ghost use Rattle.rh_wires.specs.Numbered.{ask, act, change, grown};
 ghost use Rattle.rh_wires.specs.Wires as seen;
 
-use crate::numbered::{first_from, grow};
+use crate::numbered::{grow, skip_idle};
 use crate::wire::Wire;
 use rh_text::{Bytes, Dir, Side};
 use std::alloc::{AllocError, Global};
@@ -53,15 +53,18 @@ impl Wires {
         self.list.len() as u64
     }
 
-    /// All legs of a number below this one are down for both ends.
+    /// The number of the first leg that isn't down for both ends, or one above the greatest number
+    /// that was used. Each leg that is over for good is looked at once: the search begins where the
+    /// last one ended, or at a leg that changed since.
     pub(crate) fn first(&mut self) -> u64
         ensures same { self.new ≡ self.old }
         ensures down { (k : ℕ) → k < result → IsTrue (seen.is_low (get_or self.old k seen.blank)) }
         ensures within { result ≤ length self.old }
+        ensures stands { result < length self.old
+            → seen.is_low (get_or self.old result seen.blank) ≡ false }
     {
-        let first = first_from(&self.list, self.first);
-        self.first = first;
-        first.min(self.list.len()) as u64
+        skip_idle(&self.list, &mut self.first);
+        self.first.min(self.list.len()) as u64
     }
 
     /// Whether a leg is up for an end.
