@@ -1,6 +1,6 @@
 //! Rings of items that grow before they are filled, so that filling them takes no memory.
 
-ghost use Rattle.std.specs.Prelude.{◌≡◌, ◌+◌, ◌≤◌, IfOk, OnOk, OnErr, length, take, drop};
+ghost use Rattle.std.specs.Prelude.{◌≡◌, ◌≢◌, ◌+◌, ◌*◌, ◌≤◌, IfOk, OnOk, OnErr, length, max, take, drop};
 
 use circular_buffer::HeapCircularBuffer;
 use rh_text::Bytes;
@@ -23,7 +23,9 @@ fn widened<T: Copy>(
     Ok(wider)
 }
 
-/// Makes room for `count` items more. The room at least doubles where it doesn't suffice.
+/// Makes room for `count` items more. Room that suffices stays, and other room at least doubles:
+/// an item is copied a constant number of times on average, and the room is at most twice what was
+/// ever asked for.
 ///
 /// # Errors
 /// `AllocError`: there was no memory, or the count of items would pass 2^64; nothing has changed.
@@ -35,6 +37,11 @@ pub fn make_room<T: Copy>(
     ensures items { ring.new.items ≡ ring.old.items }
     ensures room { OnOk result (length ring.new.items + count ≤ ring.new.capacity) }
     ensures within { length ring.new.items ≤ ring.new.capacity }
+    ensures stays { length ring.old.items + count ≤ ring.old.capacity → ring.new ≡ ring.old }
+    ensures doubles { ring.new.capacity ≢ ring.old.capacity
+        → 2 * ring.old.capacity ≤ ring.new.capacity }
+    ensures most { ring.new.capacity
+        ≤ max ring.old.capacity (2 * (length ring.old.items + count)) }
 {
     let room = ring.capacity();
     if count > room - ring.len() {
