@@ -1,7 +1,7 @@
 //! The bytes in flight in one direction of a leg.
 
-ghost use Rattle.std.specs.Prelude.{◌≡◌, ◌==◌, ◌++◌, ◌≤◌, [], length, take, drop, IfOk, IfSome, MatchOption, OnOk, OnErr};
-ghost use Rattle.rh_wires.specs.Flights.{items_of};
+ghost use Rattle.std.specs.Prelude.{◌≡◌, ◌==◌, ◌++◌, ◌≤◌, [], length, take, drop, vec_len, IfOk, IfSome, MatchOption, OnOk, OnErr};
+ghost use Rattle.rh_wires.specs.Flights.{items_of, IsLean};
 
 use rh_text::Bytes;
 use std::alloc::{AllocError, Global};
@@ -11,24 +11,41 @@ use std::mem::replace;
 /// Bytes that were drawn at one end and not fed at the other, in order. It has no memory where none
 /// were drawn.
 ///
-/// What is fed whole is handed over in the memory in which it stands.
+/// What is fed whole is handed over in the memory in which it stands. The list has at most twice as
+/// many bytes as are in flight.
 #[derive(Drop)]
 pub struct Flight {
     /// Bytes that were drawn.
     drawn: Option<Vec<u8>>,
-    /// How many of them were fed, from the front on.
+    /// How many of them were fed, from the front on: at most half.
     fed: usize,
 }
 
 impl Model for Flight {
-    ghost use Rattle.std.specs.Prelude.{List, ℕ, ◌≤◌, length, drop};
-    ghost use Rattle.rh_wires.specs.Flights.{items_of};
+    ghost use Rattle.std.specs.Prelude.{List, ℕ, drop};
+    ghost use Rattle.rh_wires.specs.Flights.{items_of, IsLean};
 
     ghost Value = { List ℕ };
 
     ghost view = { λ a. drop a.fed (items_of a.drawn) };
 
-    ghost invariant = { λ a. a.fed ≤ length (items_of a.drawn) };
+    ghost invariant = { λ a. IsLean a.fed (items_of a.drawn) };
+}
+
+/// Drops the first bytes, which were fed, once they are more than half of those that are held.
+/// Answers how many were fed of those that are held then.
+fn drop_fed(alloc: Global, drawn: &mut Vec<u8>, fed: usize) -> Result<usize, AllocError>
+    requires { fed ≤ vec_len drawn.old }
+    ensures left { IfOk result (λ held. drop held drawn.new.items ≡ drop fed drawn.old.items) }
+    ensures lean { IfOk result (λ held. IsLean held drawn.new.items) }
+    ensures err { OnErr result (drawn.new.items ≡ drawn.old.items) }
+{
+    if fed <= drawn.len() / 2 {
+        return Ok(fed);
+    }
+    let (_, left) = drawn.as_slice().split_at(fed);
+    *drawn = Vec::from_slice(alloc, left)?;
+    Ok(0)
 }
 
 impl Flight {
@@ -52,26 +69,11 @@ impl Flight {
         }
     }
 
-    /// Gives the bytes that are left memory of their own where most were fed.
-    fn compact(&mut self, alloc: Global) -> Result<(), AllocError>
-        ensures { self.new ≡ self.old }
-    {
-        if let Some(drawn) = &mut self.drawn {
-            if self.fed > drawn.len() / 2 {
-                let (_, left) = drawn.as_slice().split_at(self.fed);
-                *drawn = Vec::from_slice(alloc, left)?;
-                self.fed = 0;
-            }
-        }
-        Ok(())
-    }
-
     /// Adds bytes behind the others.
     pub(crate) fn push(&mut self, alloc: Global, bytes: &[u8]) -> Result<(), AllocError>
         ensures done { OnOk result (self.new ≡ self.old ++ bytes.now) }
         ensures err { OnErr result (self.new ≡ self.old) }
     {
-        self.compact(alloc)?;
         let Some(drawn) = &mut self.drawn else {
             self.drawn = Some(Vec::from_slice(alloc, bytes)?);
             return Ok(());
@@ -107,17 +109,15 @@ impl Flight {
     }
 
     /// The first bytes were fed: `count` of them, or all where there are fewer.
-    fn pass(&mut self, count: usize)
-        ensures { self.new ≡ drop count self.old }
+    fn pass(&mut self, alloc: Global, count: usize) -> Result<(), AllocError>
+        ensures done { OnOk result (self.new ≡ drop count self.old) }
+        ensures err { OnErr result (self.new ≡ self.old) }
     {
         if let Some(drawn) = &mut self.drawn {
-            if drawn.len() - self.fed <= count {
-                drawn.clear();
-                self.fed = 0;
-            } else {
-                self.fed += count;
-            }
+            let fed = self.fed + count.min(drawn.len() - self.fed);
+            self.fed = drop_fed(alloc, drawn, fed)?;
         }
+        Ok(())
     }
 
     /// Takes the first bytes out: `count` of them, or all where there are fewer.
@@ -130,7 +130,7 @@ impl Flight {
             return Ok(whole);
         }
         let front = self.front(alloc, count)?;
-        self.pass(count);
+        self.pass(alloc, count)?;
         Ok(front)
     }
 }
