@@ -31,7 +31,7 @@ impl From<AllocError> for Unfinished {
 }
 
 /// Writes what was gathered where that is at least so many bytes, and keeps its room for more.
-/// Fewer stay, and nothing is written.
+/// Fewer stay, and nothing is written. So fewer wait behind it.
 pub fn pass_on<W: Sink>(
     gathered: &mut String,
     least: usize,
@@ -40,6 +40,7 @@ pub fn pass_on<W: Sink>(
     ensures ok { OnOk result (Gathers (string_bytes gathered.old) (string_bytes gathered.new)
         (out W.written W.takes output.old) (out W.written W.takes output.new)) }
     ensures all { OnOk result (least ≡ 0 → string_bytes gathered.new ≡ []) }
+    ensures below { 0 < least → OnOk result (length (string_bytes gathered.new) < least) }
     ensures waits { length (string_bytes gathered.old) < least
         → (string_bytes gathered.new ≡ string_bytes gathered.old) × (output.new ≡ output.old) }
     ensures err { OnErr result (Stops (string_bytes gathered.old)

@@ -1,9 +1,11 @@
 //! Replays a recording.
 
-ghost use Rattle.std.specs.Prelude.{◌≡◌, ◌≢◌, ◌≤◌, ◌<◌, ◌+◌, ◌==◌, ◌∷◌, ◌++◌, Err, IfOk, OnOk, OnErr, length, string_bytes};
+ghost use Rattle.std.specs.Prelude.{◌≡◌, ◌≢◌, ◌≤◌, ◌<◌, ◌+◌, ◌==◌, ◌∷◌, ◌++◌, Err, true, IfOk, OnOk, OnErr, length, string_bytes};
 ghost use Rattle.rh_io.specs.Counts.{Rose};
 ghost use Rattle.rh_record.specs.Report.{report_text};
 ghost use Rattle.rh_record.specs.declared.line.Line.TheVariants.{Settle};
+ghost use Rattle.rh_record.specs.declared.answer.Answer.{Answer};
+ghost use Rattle.rh_world.specs.declared.any_world.AnyWorld.{AnyWorld};
 ghost use Rattle.rh_world.specs.Any as seen;
 ghost use Rattle.rh_words.specs.Outputs.{out, Gathers, Stops};
 
@@ -36,6 +38,7 @@ fn gather<W: Sink>(report: &Report, gathered: &mut String, output: &mut W) -> Re
         (string_bytes gathered.old ++ report_text report.now)
         (string_bytes gathered.new)
         (out W.written W.takes output.old) (out W.written W.takes output.new)) }
+    ensures below { OnOk result (length (string_bytes gathered.new) < PIECE) }
     ensures err { OnErr result (Stops
         (string_bytes gathered.old ++ report_text report.now)
         (W.written output.old) (W.written output.new)) }
@@ -48,6 +51,113 @@ fn gather<W: Sink>(report: &Report, gathered: &mut String, output: &mut W) -> Re
 {
     write_report(report, gathered)?;
     pass_on(gathered, PIECE, output)
+}
+
+/// Settles in so many rounds at most, and passes on what each reports before the next is done: of
+/// no two rounds answers are held at once. A direct world doesn't settle.
+fn settle<W: Sink>(
+    alloc: Global,
+    world: &mut AnyWorld,
+    report: &mut Report,
+    rounds: u32,
+    gathered: &mut String,
+    output: &mut W,
+) -> Result<(), Unfinished>
+    ensures world { OnOk result (world.new ≡ (seen.step world.old (Settle rounds)).0) }
+    ensures given { OnOk result (seen.given world.new ≤ seen.given world.old + 1) }
+    ensures ok { OnOk result (Gathers
+        (string_bytes gathered.old ++ report_text (seen.step world.old (Settle rounds)).1)
+        (string_bytes gathered.new)
+        (out W.written W.takes output.old) (out W.written W.takes output.new)) }
+    ensures below { length (string_bytes gathered.old) < PIECE
+        → OnOk result (length (string_bytes gathered.new) < PIECE) }
+    ensures held { OnOk result (seen.settles world.old ≡ true → (last : Answer) × (now : AnyWorld)
+        × (report.new ≡ last ∷ (seen.end_line now).1)) }
+    ensures err { OnErr result (Stops
+        (string_bytes gathered.old ++ report_text (seen.step world.old (Settle rounds)).1)
+        (W.written output.old) (W.written output.new)) }
+    ensures failed { result ≡ Err Unfinished.WriteFault
+        → Rose (W.faults output.old) (W.faults output.new) }
+    ensures no_failure { result ≢ Err Unfinished.WriteFault
+        → W.faults output.new ≡ W.faults output.old }
+    ensures takes { length
+        (string_bytes gathered.old ++ report_text (seen.step world.old (Settle rounds)).1)
+        ≤ W.takes output.old → result ≢ Err Unfinished.WriteFault }
+{
+    if !world.begin(alloc)? {
+        return Ok(());
+    }
+    'rounds: for count in 0..rounds {
+        if round::<W>(alloc, world, report, gathered, output)? {
+            return end_line::<W>(world, report, Answer::Quiet(count), gathered, output);
+        }
+    }
+    end_line::<W>(world, report, Answer::Spent(rounds), gathered, output)
+}
+
+/// Does a round of a settling, passes on what it reports, and answers whether that is nothing. The
+/// round's answers alone are held behind it, and less than a piece of text, 65,536 bytes.
+fn round<W: Sink>(
+    alloc: Global,
+    world: &mut AnyWorld,
+    report: &mut Report,
+    gathered: &mut String,
+    output: &mut W,
+) -> Result<bool, Unfinished>
+    ensures world { OnOk result (world.new ≡ (seen.round world.old).0) }
+    ensures quiet { IfOk result (λ quiet. quiet ≡ (length (seen.round world.old).1 == 0)) }
+    ensures ok { OnOk result (Gathers
+        (string_bytes gathered.old ++ report_text (seen.round world.old).1)
+        (string_bytes gathered.new)
+        (out W.written W.takes output.old) (out W.written W.takes output.new)) }
+    ensures below { OnOk result (length (string_bytes gathered.new) < PIECE) }
+    ensures held { OnOk result (report.new ≡ (seen.round world.old).1) }
+    ensures err { OnErr result (Stops
+        (string_bytes gathered.old ++ report_text (seen.round world.old).1)
+        (W.written output.old) (W.written output.new)) }
+    ensures failed { result ≡ Err Unfinished.WriteFault
+        → Rose (W.faults output.old) (W.faults output.new) }
+    ensures no_failure { result ≢ Err Unfinished.WriteFault
+        → W.faults output.new ≡ W.faults output.old }
+    ensures takes { length (string_bytes gathered.old ++ report_text (seen.round world.old).1)
+        ≤ W.takes output.old → result ≢ Err Unfinished.WriteFault }
+{
+    report.clear();
+    world.round(alloc, report)?;
+    gather::<W>(report, gathered, output)?;
+    Ok(report.answers().is_empty())
+}
+
+/// Passes on a line's last answer of its own and what stands behind it.
+fn end_line<W: Sink>(
+    world: &mut AnyWorld,
+    report: &mut Report,
+    answer: Answer,
+    gathered: &mut String,
+    output: &mut W,
+) -> Result<(), Unfinished>
+    ensures world { OnOk result (world.new ≡ (seen.end_line world.old).0) }
+    ensures ok { OnOk result (Gathers
+        (string_bytes gathered.old ++ report_text (answer ∷ (seen.end_line world.old).1))
+        (string_bytes gathered.new)
+        (out W.written W.takes output.old) (out W.written W.takes output.new)) }
+    ensures below { OnOk result (length (string_bytes gathered.new) < PIECE) }
+    ensures held { OnOk result (report.new ≡ answer ∷ (seen.end_line world.old).1) }
+    ensures err { OnErr result (Stops
+        (string_bytes gathered.old ++ report_text (answer ∷ (seen.end_line world.old).1))
+        (W.written output.old) (W.written output.new)) }
+    ensures failed { result ≡ Err Unfinished.WriteFault
+        → Rose (W.faults output.old) (W.faults output.new) }
+    ensures no_failure { result ≢ Err Unfinished.WriteFault
+        → W.faults output.new ≡ W.faults output.old }
+    ensures takes { length (string_bytes gathered.old
+        ++ report_text (answer ∷ (seen.end_line world.old).1))
+        ≤ W.takes output.old → result ≢ Err Unfinished.WriteFault }
+{
+    report.clear();
+    report.push(answer)?;
+    world.end_line(report)?;
+    gather::<W>(report, gathered, output)
 }
 
 impl Replay {
@@ -66,6 +176,8 @@ impl Replay {
             (string_bytes gathered.old ++ report_text (seen.step self.old line.now).1)
             (string_bytes gathered.new)
             (out W.written W.takes output.old) (out W.written W.takes output.new)) }
+        ensures below { length (string_bytes gathered.old) < PIECE
+            → OnOk result (length (string_bytes gathered.new) < PIECE) }
         ensures err { OnErr result (Stops
             (string_bytes gathered.old ++ report_text (seen.step self.old line.now).1)
             (W.written output.old) (W.written output.new)) }
@@ -78,105 +190,11 @@ impl Replay {
             ≤ W.takes output.old → result ≢ Err Unfinished.WriteFault }
     {
         if let Line::Settle { rounds } = line {
-            return self.settle::<W>(alloc, *rounds, gathered, output);
+            let (world, report) = (&mut self.world, &mut self.report);
+            return settle::<W>(alloc, world, report, *rounds, gathered, output);
         }
         self.report.clear();
         self.world.step(alloc, line, &mut self.report)?;
-        gather::<W>(&self.report, gathered, output)
-    }
-
-    /// Settles in so many rounds at most, and passes on what each reports before the next is done.
-    /// A direct world doesn't settle.
-    fn settle<W: Sink>(
-        &mut self,
-        alloc: Global,
-        rounds: u32,
-        gathered: &mut String,
-        output: &mut W,
-    ) -> Result<(), Unfinished>
-        ensures world { OnOk result (self.new ≡ (seen.step self.old (Settle rounds)).0) }
-        ensures given { OnOk result (seen.given self.new ≤ seen.given self.old + 1) }
-        ensures ok { OnOk result (Gathers
-            (string_bytes gathered.old ++ report_text (seen.step self.old (Settle rounds)).1)
-            (string_bytes gathered.new)
-            (out W.written W.takes output.old) (out W.written W.takes output.new)) }
-        ensures err { OnErr result (Stops
-            (string_bytes gathered.old ++ report_text (seen.step self.old (Settle rounds)).1)
-            (W.written output.old) (W.written output.new)) }
-        ensures failed { result ≡ Err Unfinished.WriteFault
-            → Rose (W.faults output.old) (W.faults output.new) }
-        ensures no_failure { result ≢ Err Unfinished.WriteFault
-            → W.faults output.new ≡ W.faults output.old }
-        ensures takes { length
-            (string_bytes gathered.old ++ report_text (seen.step self.old (Settle rounds)).1)
-            ≤ W.takes output.old → result ≢ Err Unfinished.WriteFault }
-    {
-        if !self.world.begin(alloc)? {
-            return Ok(());
-        }
-        'rounds: for count in 0..rounds {
-            if self.round::<W>(alloc, gathered, output)? {
-                return self.end_line::<W>(Answer::Quiet(count), gathered, output);
-            }
-        }
-        self.end_line::<W>(Answer::Spent(rounds), gathered, output)
-    }
-
-    /// Does a round of a settling, passes on what it reports, and answers whether that is nothing.
-    fn round<W: Sink>(
-        &mut self,
-        alloc: Global,
-        gathered: &mut String,
-        output: &mut W,
-    ) -> Result<bool, Unfinished>
-        ensures world { OnOk result (self.new ≡ (seen.round self.old).0) }
-        ensures quiet { IfOk result (λ quiet. quiet ≡ (length (seen.round self.old).1 == 0)) }
-        ensures ok { OnOk result (Gathers
-            (string_bytes gathered.old ++ report_text (seen.round self.old).1)
-            (string_bytes gathered.new)
-            (out W.written W.takes output.old) (out W.written W.takes output.new)) }
-        ensures err { OnErr result (Stops
-            (string_bytes gathered.old ++ report_text (seen.round self.old).1)
-            (W.written output.old) (W.written output.new)) }
-        ensures failed { result ≡ Err Unfinished.WriteFault
-            → Rose (W.faults output.old) (W.faults output.new) }
-        ensures no_failure { result ≢ Err Unfinished.WriteFault
-            → W.faults output.new ≡ W.faults output.old }
-        ensures takes { length (string_bytes gathered.old ++ report_text (seen.round self.old).1)
-            ≤ W.takes output.old → result ≢ Err Unfinished.WriteFault }
-    {
-        self.report.clear();
-        self.world.round(alloc, &mut self.report)?;
-        gather::<W>(&self.report, gathered, output)?;
-        Ok(self.report.answers().is_empty())
-    }
-
-    /// Passes on a line's last answer of its own and what stands behind it.
-    fn end_line<W: Sink>(
-        &mut self,
-        answer: Answer,
-        gathered: &mut String,
-        output: &mut W,
-    ) -> Result<(), Unfinished>
-        ensures world { OnOk result (self.new ≡ (seen.end_line self.old).0) }
-        ensures ok { OnOk result (Gathers
-            (string_bytes gathered.old ++ report_text (answer ∷ (seen.end_line self.old).1))
-            (string_bytes gathered.new)
-            (out W.written W.takes output.old) (out W.written W.takes output.new)) }
-        ensures err { OnErr result (Stops
-            (string_bytes gathered.old ++ report_text (answer ∷ (seen.end_line self.old).1))
-            (W.written output.old) (W.written output.new)) }
-        ensures failed { result ≡ Err Unfinished.WriteFault
-            → Rose (W.faults output.old) (W.faults output.new) }
-        ensures no_failure { result ≢ Err Unfinished.WriteFault
-            → W.faults output.new ≡ W.faults output.old }
-        ensures takes { length (string_bytes gathered.old
-            ++ report_text (answer ∷ (seen.end_line self.old).1))
-            ≤ W.takes output.old → result ≢ Err Unfinished.WriteFault }
-    {
-        self.report.clear();
-        self.report.push(answer)?;
-        self.world.end_line(&mut self.report)?;
         gather::<W>(&self.report, gathered, output)
     }
 }

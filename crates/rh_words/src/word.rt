@@ -8,7 +8,7 @@ ghost use Rattle.rh_text.specs.Lines.{IsText, FirstBad};
 ghost use Rattle.rh_words.specs.Outputs.{out, Gathers, Stops};
 ghost use Rattle.rh_words.specs.Words.{Deeds, SaysOf, Answers, counts, Counted, IsBegun, IsTaken};
 
-use crate::output::{Unfinished, pass_on};
+use crate::output::{PIECE, Unfinished, pass_on};
 use rh_io::{ReadWholeError, Sink, Source, read_whole};
 use rh_text::{Grammar, first_bad_line, split_line};
 use std::alloc::{AllocError, Global};
@@ -32,7 +32,8 @@ pub trait Word<G: Grammar>: Drop {
         ensures { IfOk result (λ word. deeds.Starts word × (done word ≡ 0)) };
 
     /// Does a line that stands at this place, and answers the place behind it. What the line says
-    /// is gathered behind what is gathered already, and written where that is a piece.
+    /// is gathered behind what is gathered already, and written where that is a piece, of 65,536
+    /// bytes: less than a piece waits behind each line.
     ///
     /// Fails where there is no memory or the output fails. A front of what was gathered and of what
     /// the line says was written then.
@@ -51,6 +52,8 @@ pub trait Word<G: Grammar>: Drop {
             × deeds.Does self.old l told self.new
             × Gathers (string_bytes gathered.old ++ told) (string_bytes gathered.new)
             (out W.written W.takes output.old) (out W.written W.takes output.new)) }
+        ensures below { length (string_bytes gathered.old) < PIECE
+            → OnOk result (length (string_bytes gathered.new) < PIECE) }
         ensures err { OnErr result ((l : G.Line) × (told : List ℕ) × (next : Self)
             × G.rules.Spells place line.now l × deeds.Does self.old l told next
             × Stops (string_bytes gathered.old ++ told)

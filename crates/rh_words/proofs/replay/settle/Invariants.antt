@@ -3,12 +3,12 @@ use Rattle.std.proofs.Common.{◌≡◌, true, string_bytes}
 use Rattle.rh_world.specs.Any.{settles}
 use Rattle.rh_words.specs.Outputs.{out}
 use Rattle.rh_words.proofs.Settling.{Settling}
-use Rattle.rh_words.proofs.replay.Replay.settle.Given as goal
+use Rattle.rh_words.proofs.replay.settle.Given as goal
 
 abbrev pub invariant-rounds : goal.invariant-rounds
 invariant-rounds g l = record {
-  settles : settles l.fn.self ≡ true;
-  settling : Settling l.fn.self l.rounds l.count l.self (string_bytes l.fn.gathered)
+  settles : settles l.fn.world ≡ true;
+  settling : Settling l.fn.world l.rounds l.count l.world (string_bytes l.fn.gathered)
       (string_bytes l.gathered)
       (out g.W.Sink.written g.W.Sink.takes l.fn.output)
       (out g.W.Sink.written g.W.Sink.takes l.output);

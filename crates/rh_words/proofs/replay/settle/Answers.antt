@@ -1,5 +1,5 @@
 -- each round is told behind those before it, and the last lines behind them all
-use Rattle.std.proofs.Common.{◌≡◌, ◌≢◌, ◌<◌, ◌∷◌, ◌++◌, [], Err, length, string_bytes, refl, sym, ◌∙◌, ap, subst, arith}
+use Rattle.std.proofs.Common.{◌≡◌, ◌≢◌, ◌<◌, ◌∷◌, ◌++◌, [], Err, length, string_bytes, refl, sym, ap, subst, arith}
 use Rattle.std.proofs.lemmas.Bool.Decides.{nat_tests}
 use Rattle.std.proofs.lemmas.List.{nil_from_length}
 use Rattle.rh_record.specs.declared.answer.Answer.TheVariants.{Quiet, Spent}
@@ -10,20 +10,20 @@ use Rattle.rh_words.specs.Outputs.{out, Gathers, Stops}
 use Rattle.rh_words.proofs.Results.{at_error, of_err, map_ok, map_err}
 use Rattle.rh_words.proofs.Settling.{Settling, settling_first, settling_more, settling_stops, settling_sure}
 use Rattle.rh_words.proofs.Settling.{Ending, quiet_ends, spent_ends, ending_world, ending_given, ending_gathers, ending_stops, ending_sure}
-use Rattle.rh_words.proofs.replay.Replay.settle.Given.{Over}
-use Rattle.rh_words.proofs.replay.Replay.settle.Goals as goal
+use Rattle.rh_words.proofs.replay.settle.Given.{Over}
+use Rattle.rh_words.proofs.replay.settle.Goals as goal
 
 pub rounds-init : goal.rounds-init
 rounds-init g c =
     let before = string_bytes c.args.gathered.now in
     let start = out g.W.Sink.written g.W.Sink.takes c.args.output.now in
-    let begun = sym (c.in_ok-begin.ensures.world ∙ ap seen.begun c.self.view_is) in
+    let begun = sym c.in_ok-begin.ensures.world in
     record {
       settles = grind (arith, nat_tests);
       settling = subst
-          (λ (w : AnyWorld). Settling c.args.self.now c.args.rounds 0 w before before start start)
+          (λ (w : AnyWorld). Settling c.args.world.now c.args.rounds 0 w before before start start)
           begun
-          (settling_first c.args.self.now c.args.rounds before start);
+          (settling_first c.args.world.now c.args.rounds before start);
       faults = refl;
     }
 
@@ -45,7 +45,7 @@ returns-in_err-round-clause-takes g c = λ fits said.
 pub rounds-preserved : goal.rounds-preserved
 rounds-preserved g c =
     let below : c.rounds.count < c.args.rounds = omega (arith, c.rounds-test.true) in
-    let some : (seen.round c.rounds.self).1 ≢ [] =
+    let some : (seen.round c.rounds.world).1 ≢ [] =
     λ none. let size = ap length none in grind (arith, nat_tests) in
     let round = c.in_ok-round.ensures in
     record {
@@ -56,14 +56,14 @@ rounds-preserved g c =
 
 -- behind the rounds, the last of which reported nothing
 quiet_end : (g : Over) (c : goal.After-end_line g)
-    → Ending c.args.self.now c.args.rounds c.round.new.self (Quiet c.rounds.count)
+    → Ending c.args.world.now c.args.rounds c.round.new.world (Quiet c.rounds.count)
     (string_bytes c.args.gathered.now) (string_bytes c.round.new.gathered)
     (out g.W.Sink.written g.W.Sink.takes c.args.output.now)
     (out g.W.Sink.written g.W.Sink.takes c.round.new.output)
 quiet_end g c =
     let below : c.rounds.count < c.args.rounds = omega (arith, c.rounds-test.true) in
-    let none : (seen.round c.rounds.self).1 ≡ [] =
-    nil_from_length (seen.round c.rounds.self).1 (grind (arith, nat_tests)) in
+    let none : (seen.round c.rounds.world).1 ≡ [] =
+    nil_from_length (seen.round c.rounds.world).1 (grind (arith, nat_tests)) in
     let round = c.in_ok-round.ensures in
     quiet_ends c.rounds.invariant.settles below none round.world c.rounds.invariant.settling
     round.ok
@@ -71,20 +71,20 @@ quiet_end g c =
 pub returns-then-branch-clause-world : goal.returns-then-branch-clause-world
 returns-then-branch-clause-world g c =
     map_ok c.end_line.result
-    (λ (moved : c.end_line.new.self ≡ (seen.end_line c.round.new.self).0).
+    (λ (moved : c.end_line.new.world ≡ (seen.end_line c.round.new.world).0).
     ending_world (quiet_end g c) moved) c.end_line.ensures.world
 
 pub returns-then-branch-clause-given : goal.returns-then-branch-clause-given
 returns-then-branch-clause-given g c =
     map_ok c.end_line.result
-    (λ (moved : c.end_line.new.self ≡ (seen.end_line c.round.new.self).0).
+    (λ (moved : c.end_line.new.world ≡ (seen.end_line c.round.new.world).0).
     ending_given (quiet_end g c) moved) c.end_line.ensures.world
 
 pub returns-then-branch-clause-ok : goal.returns-then-branch-clause-ok
 returns-then-branch-clause-ok g c =
     map_ok c.end_line.result
     (λ (wrote : Gathers (string_bytes c.round.new.gathered
-    ++ report_text (Quiet c.rounds.count ∷ (seen.end_line c.round.new.self).1))
+    ++ report_text (Quiet c.rounds.count ∷ (seen.end_line c.round.new.world).1))
     (string_bytes c.end_line.new.gathered)
     (out g.W.Sink.written g.W.Sink.takes c.round.new.output)
     (out g.W.Sink.written g.W.Sink.takes c.end_line.new.output)).
@@ -95,11 +95,18 @@ pub returns-then-branch-clause-err : goal.returns-then-branch-clause-err
 returns-then-branch-clause-err g c =
     map_err c.end_line.result
     (λ (wrote : Stops (string_bytes c.round.new.gathered
-    ++ report_text (Quiet c.rounds.count ∷ (seen.end_line c.round.new.self).1))
+    ++ report_text (Quiet c.rounds.count ∷ (seen.end_line c.round.new.world).1))
     (g.W.Sink.written c.round.new.output)
     (g.W.Sink.written c.end_line.new.output)).
     ending_stops (quiet_end g c) wrote)
     c.end_line.ensures.err
+
+pub returns-then-branch-clause-held : goal.returns-then-branch-clause-held
+returns-then-branch-clause-held g c =
+    map_ok c.end_line.result
+    (λ (held : c.end_line.new.report ≡ Quiet c.rounds.count ∷ (seen.end_line c.round.new.world).1).
+    λ settles. (Quiet c.rounds.count, c.round.new.world, held))
+    c.end_line.ensures.held
 
 pub returns-then-branch-clause-takes : goal.returns-then-branch-clause-takes
 returns-then-branch-clause-takes g c =
@@ -107,7 +114,7 @@ returns-then-branch-clause-takes g c =
 
 -- behind all the rounds
 spent_end : (g : Over) (c : goal.After-end_line-2 g)
-    → Ending c.args.self.now c.args.rounds c.rounds.self (Spent c.args.rounds)
+    → Ending c.args.world.now c.args.rounds c.rounds.world (Spent c.args.rounds)
     (string_bytes c.args.gathered.now) (string_bytes c.rounds.gathered)
     (out g.W.Sink.written g.W.Sink.takes c.args.output.now)
     (out g.W.Sink.written g.W.Sink.takes c.rounds.output)
@@ -119,20 +126,20 @@ spent_end g c =
 pub returns-clause-world : goal.returns-clause-world
 returns-clause-world g c =
     map_ok c.end_line-2.result
-    (λ (moved : c.end_line-2.new.self ≡ (seen.end_line c.rounds.self).0).
+    (λ (moved : c.end_line-2.new.world ≡ (seen.end_line c.rounds.world).0).
     ending_world (spent_end g c) moved) c.end_line-2.ensures.world
 
 pub returns-clause-given : goal.returns-clause-given
 returns-clause-given g c =
     map_ok c.end_line-2.result
-    (λ (moved : c.end_line-2.new.self ≡ (seen.end_line c.rounds.self).0).
+    (λ (moved : c.end_line-2.new.world ≡ (seen.end_line c.rounds.world).0).
     ending_given (spent_end g c) moved) c.end_line-2.ensures.world
 
 pub returns-clause-ok : goal.returns-clause-ok
 returns-clause-ok g c =
     map_ok c.end_line-2.result
     (λ (wrote : Gathers (string_bytes c.rounds.gathered
-    ++ report_text (Spent c.args.rounds ∷ (seen.end_line c.rounds.self).1))
+    ++ report_text (Spent c.args.rounds ∷ (seen.end_line c.rounds.world).1))
     (string_bytes c.end_line-2.new.gathered)
     (out g.W.Sink.written g.W.Sink.takes c.rounds.output)
     (out g.W.Sink.written g.W.Sink.takes c.end_line-2.new.output)).
@@ -143,7 +150,7 @@ pub returns-clause-err : goal.returns-clause-err
 returns-clause-err g c =
     map_err c.end_line-2.result
     (λ (wrote : Stops (string_bytes c.rounds.gathered
-    ++ report_text (Spent c.args.rounds ∷ (seen.end_line c.rounds.self).1))
+    ++ report_text (Spent c.args.rounds ∷ (seen.end_line c.rounds.world).1))
     (g.W.Sink.written c.rounds.output)
     (g.W.Sink.written c.end_line-2.new.output)).
     ending_stops (spent_end g c) wrote)
@@ -152,3 +159,11 @@ returns-clause-err g c =
 pub returns-clause-takes : goal.returns-clause-takes
 returns-clause-takes g c =
     λ fits. c.end_line-2.ensures.takes (ending_sure (spent_end g c) fits)
+
+pub returns-clause-held : goal.returns-clause-held
+returns-clause-held g c =
+    map_ok c.end_line-2.result
+    (λ (held : c.end_line-2.new.report
+    ≡ Spent c.args.rounds ∷ (seen.end_line c.rounds.world).1).
+    λ settles. (Spent c.args.rounds, c.rounds.world, held))
+    c.end_line-2.ensures.held
