@@ -11,3 +11,4 @@ pub mod Refusals
 pub mod Texts
 pub mod Names
 pub mod Heads
+pub mod Numerals

@@ -1,3 +1,4 @@
 pub mod Lifetimes
 pub mod Meters
 pub mod Idles
+pub mod Numerals

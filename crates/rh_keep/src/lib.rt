@@ -4,9 +4,11 @@
 pub mod idle;
 pub mod laws;
 pub mod meter;
+pub mod numerals;
 pub mod range;
 
 pub use idle::Idle;
 pub use laws::meter_adds_up;
 pub use meter::{Meter, REPLACED_BEFORE, RESERVE};
+pub use numerals::numbers_are_fixed;
 pub use range::{GREATEST_LIFETIME, LEAST_LIFETIME};

@@ -10,6 +10,7 @@ pub mod laws;
 pub mod leg;
 pub mod line_fault;
 pub mod line_take;
+pub mod numerals;
 mod pdu_ring;
 pub mod recv_line;
 pub mod recycle_fault;
@@ -28,6 +29,7 @@ pub use laws::{
 pub use leg::{LAST_NUMBER, Leg, LegKind};
 pub use line_fault::LineFault;
 pub use line_take::LineTake;
+pub use numerals::numbers_are_fixed;
 pub use recv_line::RecvLine;
 pub use recycle_fault::RecycleFault;
 pub use rh_text::{Dir, Side};

@@ -6,3 +6,4 @@ pub mod Feeding
 pub mod Pieces
 pub mod Filling
 pub mod Texts
+pub mod Numerals

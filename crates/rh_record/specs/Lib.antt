@@ -7,3 +7,4 @@ pub mod Report
 pub mod WordLaws
 pub mod Readings
 pub mod Events
+pub mod Numerals

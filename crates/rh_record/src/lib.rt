@@ -4,6 +4,7 @@
 pub mod answer;
 pub mod keys;
 pub mod line;
+pub mod numerals;
 pub mod place;
 pub mod reading;
 pub mod recording;
@@ -14,6 +15,7 @@ pub mod writing;
 
 pub use answer::{Answer, TakeAnswer, Who};
 pub use line::{Key, Line, RecordKind};
+pub use numerals::numbers_are_fixed;
 pub use place::{Keys, Place};
 pub use reading::{LineRefused, read_line};
 pub use recording::{Recording, one_reading, one_recording};

@@ -8,3 +8,4 @@ pub mod Texts
 pub mod Writing
 pub mod Judging
 pub mod Reading
+pub mod Numerals

@@ -11,3 +11,4 @@ pub mod Shells
 pub mod Ends
 pub mod SmallEnds
 pub mod Waiting
+pub mod Numerals

@@ -3,9 +3,11 @@
 
 mod commands;
 pub mod laws;
+pub mod numerals;
 pub mod reader;
 pub mod showing;
 
 pub use laws::one_text;
+pub use numerals::numbers_are_fixed;
 pub use reader::{LineReader, Packets};
 pub use showing::show_packet;

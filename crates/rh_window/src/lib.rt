@@ -4,12 +4,14 @@
 
 pub mod fault;
 pub mod laws;
+pub mod numerals;
 pub mod range;
 pub mod recv_window;
 pub mod send_window;
 
 pub use fault::{BadAck, WindowExceeded};
 pub use laws::{hop_goes_on, hop_is_announced, hop_is_honest, hop_is_kept};
+pub use numerals::numbers_are_fixed;
 pub use range::{GREATEST_WINDOW, LEAST_WINDOW};
 pub use recv_window::{Ack, RecvWindow};
 pub use send_window::SendWindow;
