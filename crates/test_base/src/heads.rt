@@ -1,8 +1,9 @@
 //! Heads, of `in`, `out` or `response`: `read`; `each`, read whole, by each front and with bytes
-//! behind; `judge`; `blank`, where the first blank line ends; `write`.
+//! behind; `say`, the text of its fault; `judge`; `blank`, where the first blank line ends; `write`.
+//! Of hosts: `host`, the text of its fault.
 
 use crate::numbers::{long_of, word_of};
-use crate::spelling::{Around, tell, tell_characters};
+use crate::spelling::{Around, say, tell, tell_characters};
 use rh_http::{
     ClientConfig, Got, HeadEnd, Host, HttpFault, Refusal, Request, Response, judge_request,
     judge_response, read_request, read_response, write_echo, write_in_request, write_out_request,
@@ -98,6 +99,22 @@ fn tell_got(got: Got<Value>, out: &mut String) -> Result<(), AllocError> {
             out.push_str(" at ")?;
             tell(place, out)
         }
+    }
+}
+
+/// Appends the text of the fault.
+fn say_fault(got: Got<Value>, out: &mut String) -> Result<(), AllocError> {
+    match got {
+        Got::Fault { fault, .. } => say(fault, out),
+        _ => out.push_str("no fault"),
+    }
+}
+
+/// Appends the text of what is wrong with a host.
+fn say_host(name: &[u8], out: &mut String) -> Result<(), AllocError> {
+    match Host::new(name) {
+        Ok(_) => out.push_str("a host"),
+        Err(fault) => say(fault, out),
     }
 }
 
@@ -262,8 +279,10 @@ pub fn call(
     match call {
         b"read" => tell_got(read(kind_of(word), &around.bytes(alloc, spelled)?), out),
         b"each" => tell_each(alloc, kind_of(word), &around.bytes(alloc, spelled)?, out),
+        b"say" => say_fault(read(kind_of(word), &around.bytes(alloc, spelled)?), out),
         b"judge" => judged(alloc, kind_of(word), &around.bytes(alloc, spelled)?, out),
         b"blank" => blank(&around.bytes(alloc, text)?, out),
+        b"host" => say_host(&around.bytes(alloc, text)?, out),
         b"write" => written(text, out),
         _ => out.push_str("?"),
     }

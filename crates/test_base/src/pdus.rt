@@ -1,7 +1,7 @@
-//! Headers, PDUs and framers: `check`, `header`; `framer` begins a stream, to which `feed` and
+//! Headers, PDUs and framers: `check`; `say`, the text of its fault; `header`; `framer` begins a stream, to which `feed` and
 //! `each`, byte by byte, put bytes, and `frame` and `held` tell what it has.
 
-use crate::spelling::tell;
+use crate::spelling::{say, tell};
 use rh_pdu::{Feed, Framer, Header, check, write_pdu_fault};
 use rh_text::write_hex;
 use std::alloc::AllocError;
@@ -11,6 +11,14 @@ fn checked(bytes: &[u8], out: &mut String) -> Result<(), AllocError> {
     match check(bytes) {
         Ok(()) => out.push_str("sound"),
         Err(fault) => write_pdu_fault(fault, out),
+    }
+}
+
+/// Appends the text of the first fault of a PDU.
+fn said(bytes: &[u8], out: &mut String) -> Result<(), AllocError> {
+    match check(bytes) {
+        Ok(()) => out.push_str("sound"),
+        Err(fault) => say(fault, out),
     }
 }
 
@@ -47,6 +55,7 @@ pub fn call(
 ) -> Result<(), AllocError> {
     match call {
         b"check" => checked(bytes, out),
+        b"say" => said(bytes, out),
         b"header" => header(bytes, out),
         b"framer" => {
             *framer = Framer::new();

@@ -5,7 +5,7 @@ use crate::numbers::{number_of, short_of};
 use rh_text::digits::decode_hex;
 use rh_text::{read_hex, write_hex};
 use std::alloc::{AllocError, Global};
-use std::fmt::{Debug, Write};
+use std::fmt::{Debug, Display, Write};
 
 /// The most bytes that hex spells.
 const MOST_BYTES: usize = 100_000;
@@ -149,6 +149,11 @@ pub fn tell_characters(bytes: &[u8], out: &mut String) -> Result<(), AllocError>
 /// Appends a value as it is shown for debugging.
 pub fn tell<T: Debug + Drop>(value: T, out: &mut String) -> Result<(), AllocError> {
     write!(out, "{value:?}").map_err(|_| AllocError)
+}
+
+/// Appends the text of a value, as its callers tell it.
+pub fn say<T: Display + Drop>(value: T, out: &mut String) -> Result<(), AllocError> {
+    write!(out, "{value}").map_err(|_| AllocError)
 }
 
 /// Appends whether bytes are those that are wanted, or else what they are.
