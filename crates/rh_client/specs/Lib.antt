@@ -9,3 +9,4 @@ pub mod Ending
 pub mod Time
 pub mod Putting
 pub mod Client
+pub mod Numerals

@@ -7,6 +7,7 @@ pub mod client;
 mod ending;
 mod in_replacement;
 pub mod lengths;
+pub mod numerals;
 mod opening;
 mod out_replacement;
 mod putting;
@@ -17,5 +18,6 @@ mod successors;
 mod time;
 
 pub use client::{Client, ROOMS};
+pub use numerals::numbers_are_fixed;
 pub use rh_http::ClientConfig;
 pub use state::ClientRole;

@@ -5,6 +5,7 @@ mod acknowledging;
 mod ending;
 pub mod in_proxy;
 mod in_replacement;
+pub mod numerals;
 pub mod opening;
 mod out_replacement;
 mod passing;
@@ -15,4 +16,5 @@ pub mod state;
 mod time;
 
 pub use in_proxy::{InProxy, ROOMS};
+pub use numerals::numbers_are_fixed;
 pub use state::{InProxyConfig, InProxyRole};

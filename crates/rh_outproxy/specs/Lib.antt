@@ -8,3 +8,4 @@ pub mod Ending
 pub mod Time
 pub mod Putting
 pub mod Machine
+pub mod Numerals

@@ -4,6 +4,7 @@
 mod acknowledging;
 mod ending;
 mod in_replacement;
+pub mod numerals;
 mod opening;
 pub mod out_proxy;
 mod out_replacement;
@@ -13,5 +14,6 @@ mod rows;
 pub mod state;
 mod time;
 
+pub use numerals::numbers_are_fixed;
 pub use out_proxy::{OutProxy, ROOMS};
 pub use state::{OutProxyConfig, OutProxyRole};

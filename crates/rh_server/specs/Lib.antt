@@ -10,3 +10,4 @@ pub mod Time
 pub mod Putting
 pub mod Servers
 pub mod FirstKinds
+pub mod Numerals

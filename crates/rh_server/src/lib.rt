@@ -5,6 +5,7 @@ mod acknowledging;
 mod ending;
 pub mod first_frame;
 mod in_replacement;
+pub mod numerals;
 mod opening;
 pub mod out_line;
 mod out_replacement;
@@ -14,5 +15,6 @@ pub mod state;
 mod time;
 
 pub use first_frame::{FirstKind, first_kind};
+pub use numerals::numbers_are_fixed;
 pub use server::{ROOMS, Server, ServerConfig};
 pub use state::ServerRole;

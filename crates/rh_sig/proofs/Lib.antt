@@ -4,5 +4,6 @@ pub mod Members
 pub mod Again
 pub mod Table
 pub mod Small
+pub mod Sizes
 pub mod Clear
 pub mod Computing

@@ -5,3 +5,4 @@ pub mod Reading
 pub mod Looking
 pub mod Naming
 pub mod Written
+pub mod Numerals
