@@ -2,7 +2,8 @@
 
 ghost use Rattle.rh_line.specs.Numerals.{AreFixed};
 
-/// Each number of this crate is that of its standard or of the profile.
+/// Each number of this crate is that of its standard or of the profile, and the lengths of the
+/// requests for an OUT channel are those of its packets.
 pub fn numbers_are_fixed()
     ensures { AreFixed }
 {}

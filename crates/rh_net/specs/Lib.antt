@@ -5,3 +5,4 @@ pub mod Calls
 pub mod Answered
 pub mod Script
 pub mod Memory
+pub mod Numerals

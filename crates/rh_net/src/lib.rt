@@ -9,6 +9,7 @@ pub mod counts;
 pub mod failing;
 pub mod in_memory;
 pub mod net;
+pub mod numerals;
 pub mod ready;
 pub mod script;
 pub mod shut;
@@ -24,6 +25,7 @@ pub use in_memory::{
     PipeSource, Put, Side,
 };
 pub use net::{Net, NetFailed};
+pub use numerals::numbers_are_fixed;
 pub use ready::Ready;
 pub use script::{ScriptNet, ScriptSink, ScriptSource, TakenBack};
 pub use shut::{ShutSink, ShutSource};

@@ -8,3 +8,4 @@ pub mod Time
 pub mod Settling
 pub mod Halves
 pub mod Steps
+pub mod Numerals

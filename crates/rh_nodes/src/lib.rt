@@ -6,6 +6,7 @@ pub mod carrying;
 pub mod giving;
 pub mod half;
 pub mod nodes;
+pub mod numerals;
 pub mod opening;
 pub mod settling;
 pub mod step;
@@ -13,3 +14,4 @@ pub mod time;
 
 pub use half::Half;
 pub use nodes::Nodes;
+pub use numerals::numbers_are_fixed;
