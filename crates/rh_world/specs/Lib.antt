@@ -5,3 +5,4 @@ pub mod Any
 pub mod Direct
 pub mod Pieces
 pub mod Carrying
+pub mod Numerals

@@ -4,6 +4,7 @@
 
 pub mod any_world;
 pub mod config;
+pub mod numerals;
 mod received;
 pub mod roles;
 pub mod roles_world;
@@ -12,6 +13,7 @@ pub mod world;
 
 pub use any_world::AnyWorld;
 pub use config::WorldConfig;
+pub use numerals::numbers_are_fixed;
 pub use roles::Roles;
 pub use roles_world::RolesWorld;
 pub use world::World;
