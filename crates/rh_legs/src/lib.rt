@@ -4,11 +4,13 @@
 pub mod bell;
 pub mod end;
 pub mod gate;
+pub mod numerals;
 pub mod reader;
 pub mod writer;
 
 pub use bell::{Bell, Call};
 pub use end::{LegEnd, NodeEnd};
 pub use gate::{Gate, NoGate, Place};
+pub use numerals::numbers_are_fixed;
 pub use reader::{LAST_PIECES, read_leg};
 pub use writer::{Pen, write_leg};
