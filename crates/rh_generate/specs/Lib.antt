@@ -5,3 +5,4 @@ pub mod Sums
 pub mod Tallies
 pub mod Steps
 pub mod Summaries
+pub mod Numerals

@@ -5,11 +5,13 @@
 pub mod addresses;
 pub mod configs;
 pub mod form;
+pub mod numerals;
 pub mod running;
 pub mod status;
 
 pub use addresses::{HostPort, HostPorts};
 pub use configs::{DEFAULT_LIMITS, Limits};
 pub use form::{RoleForm, role_form_of};
+pub use numerals::numbers_are_fixed;
 pub use running::{Running, run_role};
 pub use status::{RoleStatus, status_of_ends};

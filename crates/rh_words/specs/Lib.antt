@@ -9,3 +9,4 @@ pub mod Play
 pub mod Plays
 pub mod Forms
 pub mod Memory
+pub mod Numerals
