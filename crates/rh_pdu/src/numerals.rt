@@ -1,4 +1,5 @@
-//! The numbers of the common header, written out. This function does nothing: its contract is the law.
+//! The numbers of the common header, written out. This function does nothing: its contract is
+//! the law.
 
 ghost use Rattle.rh_pdu.specs.Numerals.{AreFixed};
 

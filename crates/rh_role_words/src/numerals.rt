@@ -1,4 +1,5 @@
-//! The numbers of the words of roles, written out. This function does nothing: its contract is the law.
+//! The numbers of the words of roles, written out. This function does nothing: its contract is
+//! the law.
 
 ghost use Rattle.rh_role_words.specs.Numerals.{AreFixed};
 

@@ -1,4 +1,5 @@
-//! The number of a text of packets, written out. This function does nothing: its contract is the law.
+//! The number of a text of packets, written out. This function does nothing: its contract is
+//! the law.
 
 ghost use Rattle.rh_show.specs.Numerals.{AreFixed};
 

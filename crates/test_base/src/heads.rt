@@ -1,6 +1,6 @@
-//! Heads, of `in`, `out` or `response`: `read`; `each`, read whole, by each front and with bytes
-//! behind; `say`, the text of its fault; `judge`; `blank`, where the first blank line ends; `write`.
-//! Of hosts: `host`, the text of its fault.
+//! Heads, of `in`, `out` or `response`: `read`, and `say`, the text of its fault; `each`, read
+//! whole, by each front and with bytes behind; `judge`; `blank`, where the first blank line ends;
+//! `write`. Of hosts: `host`, the text of its fault.
 
 use crate::numbers::{long_of, word_of};
 use crate::spelling::{Around, say, tell, tell_characters};

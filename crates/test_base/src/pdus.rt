@@ -1,5 +1,6 @@
-//! Headers, PDUs and framers: `check`; `say`, the text of its fault; `header`; `framer` begins a stream, to which `feed` and
-//! `each`, byte by byte, put bytes, and `frame` and `held` tell what it has.
+//! Headers, PDUs and framers: `check`, and `say`, the text of its fault; `header`; `framer` begins a
+//! stream, to which `feed` and `each`, byte by byte, put bytes, and `frame` and `held` tell what it
+//! has.
 
 use crate::spelling::{say, tell};
 use rh_pdu::{Feed, Framer, Header, check, write_pdu_fault};
