@@ -2,10 +2,11 @@
 """Proves and builds a program: tells how long that takes here, shows how far it is, and goes on
 where an earlier call was stopped. Nothing that it makes lies outside the crates' folders out/.
 
-    tools/build_program.py                     builds rh_cli where it isn't up to date
-    tools/build_program.py --sources           prints a checksum of what it is made from
-    tools/build_program.py --built-from SUM    notes that the program that is there was proved and
-                                               built from such sources, as the gate does
+    tools/build_program.py PROGRAM..            builds each, rh_cli or rh_roles, where it isn't up
+                                                to date
+    tools/build_program.py --sources            prints a checksum of what each is made from
+    tools/build_program.py --built-from SUMS    notes that the programs that are there were proved
+                                                and built from such sources, as the gate does
 """
 import contextlib
 import errno
@@ -23,7 +24,7 @@ import time
 import program_crates
 from prove_beside import EVENT
 
-PROGRAM = "rh_cli"
+PROGRAMS = "rh_cli", "rh_roles"
 BESIDE = pathlib.Path(__file__).with_name("prove_beside.py")
 # Seconds between two lines where standard error is no terminal, and until the first.
 BETWEEN, FIRST = 9, 2
@@ -373,15 +374,18 @@ def build(program, top):
 
 
 def main(words):
+    top = program_crates.TOP
     if words == ["--sources"]:
-        print(program_crates.checksum(PROGRAM))
+        for program in PROGRAMS:
+            print(f"{program}:{program_crates.checksum(program)}")
     elif words[:1] == ["--built-from"] and len(words) == 2:
-        note_built(PROGRAM, program_crates.TOP, words[1])
-    elif words:
+        for program, _, total in (it.partition(":") for it in words[1].split()):
+            note_built(program, top, total)
+    elif not words or not {*words} <= {*PROGRAMS}:
         print(__doc__, end="", file=sys.stderr)
         return 1
-    elif not is_up_to_date(PROGRAM, program_crates.TOP):
-        return 0 if build(PROGRAM, program_crates.TOP) else 1
+    else:
+        return 0 if all(is_up_to_date(it, top) or build(it, top) for it in words) else 1
     return 0
 
 

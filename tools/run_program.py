@@ -1,54 +1,72 @@
 #!/usr/bin/env python3
-"""Runs the program rh_cli, which is proved and built first where it isn't up to date.
+"""Runs a program, rh_cli or rh_roles, which is proved and built first where it isn't up to date.
 
-    tools/run_program.py WORD..               runs it, as ./rh_cli does
-    tools/run_program.py --unproved WORD..    runs its sources as they stand, with nothing proved
+    tools/run_program.py PROGRAM WORD..               runs it, as ./rh_cli and ./rh_roles do
+    tools/run_program.py PROGRAM --unproved WORD..    runs its sources as they stand, with nothing
+                                                      proved
 """
 import os
 import subprocess
 import sys
 
 import build_program
-from build_program import PROGRAM
 from program_crates import TOP
 
 READS = "replay", "show", "play"
-WORDS = [[word] for word in (*READS, "--help", "--version")]
+# How many words each form has, by its first word.
+ROLES = {"client": 4, "inproxy": 3, "outproxy": 3, "server": 2}
+FORMS = {"rh_cli": dict.fromkeys(READS, 1), "rh_roles": ROLES}
 
 
-def say(text):
-    print(f"{PROGRAM}: {text}", file=sys.stderr, flush=True)
+def say(program, text):
+    print(f"{program}: {text}", file=sys.stderr, flush=True)
 
 
-def run(command, words, place=None):
+def is_form(program, words):
+    """Whether nothing is left to say behind a run, as far as the number of words tells."""
+    lengths = FORMS[program] | {"--help": 1, "--version": 1}
+    return bool(words) and len(words) == lengths.get(words[0])
+
+
+def say_what_to_type(program, words):
+    """Behind a usage error."""
+    if program == "rh_roles":
+        say(program, "type ./rh_roles --help for the words of the four roles")
+    elif words[:1] and words[0] in READS:
+        say(program, f"{words[0]} reads standard input: type ./rh_cli {words[0]} < FILE")
+    else:
+        hint = "type ./rh_cli WORD < FILE with replay, show or play, or ./rh_cli --help for more"
+        say(program, hint)
+
+
+def run(program, command, words, place=None):
     """Runs it, and says what to type behind a usage error."""
-    if words in WORDS:
-        # Nothing is left to say here.
+    if is_form(program, words):
+        # The program takes the place of this process, so that signals come to it.
         os.chdir(place or os.curdir)
         os.execvp(command[0], [*command, *words])
     status = subprocess.run([*command, *words], cwd=place, check=False).returncode
-    if status == 1 and words[:1] and words[0] in READS:
-        say(f"{words[0]} reads standard input: type ./rh_cli {words[0]} < FILE")
-    elif status == 1:
-        say("type ./rh_cli WORD < FILE with replay, show or play, or ./rh_cli --help for more")
+    if status == 1:
+        say_what_to_type(program, words)
     return status if status >= 0 else 128 - status
 
 
-def run_unproved(words):
+def run_unproved(program, words):
     if not build_program.has_rt():
-        say(build_program.NO_RT)
+        say(program, build_program.NO_RT)
         return 1
-    say("nothing of this is proved: it runs the sources as they are, which takes a minute to begin")
-    return run(["rt", "try", "--"], words, TOP / "crates" / PROGRAM)
+    takes = "which takes a minute to begin"
+    say(program, f"nothing of this is proved: it runs the sources as they are, {takes}")
+    return run(program, ["rt", "try", "--"], words, TOP / "crates" / program)
 
 
-def main(words):
+def main(program, words):
     if words[:1] == ["--unproved"]:
-        return run_unproved(words[1:])
-    if not build_program.is_up_to_date(PROGRAM, TOP) and not build_program.build(PROGRAM, TOP):
+        return run_unproved(program, words[1:])
+    if not build_program.is_up_to_date(program, TOP) and not build_program.build(program, TOP):
         return 1
-    return run([str(build_program.place_of(PROGRAM, TOP))], words)
+    return run(program, [str(build_program.place_of(program, TOP))], words)
 
 
 if __name__ == "__main__":
-    sys.exit(main(sys.argv[1:]))
+    sys.exit(main(sys.argv[1], sys.argv[2:]))

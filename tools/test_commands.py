@@ -1,5 +1,5 @@
 #!/usr/bin/env python3
-"""Tests of ./rh_cli and ./replay, with an rt and a program that only play their parts."""
+"""Tests of ./rh_cli, ./rh_roles and ./replay, with an rt and programs that only play their parts."""
 import os
 import pathlib
 import pty
@@ -15,13 +15,14 @@ import unittest
 import program_crates
 
 TOP = pathlib.Path(__file__).resolve().parent.parent
-SCRIPTS = ["run_program.py", "build_program.py", "prove_beside.py", "program_crates.py"]
-CRATES = "# crates\nlow: hex\nmiddle: low hex\naside:\nother: low\nrh_cli: middle aside low hex\n"
+SCRIPTS = ["launch", "run_program.py", "build_program.py", "prove_beside.py", "program_crates.py"]
+PROGRAMS = ["rh_cli", "rh_roles"]
+CRATES = "# crates\nlow: hex\nmiddle: low hex\naside:\nother: low\nrh_cli: middle aside low hex\nrh_roles: middle low\n"
 PROGRAM = """#!/bin/sh
 case "$*" in
-replay | show | play) cat ;;
+replay | show | play | "server here:1") exec cat ;;
 --help) echo the page of the program ;;
---version) echo rh_cli of a test ;;
+--version) echo "$(basename "$0") of a test" ;;
 *) echo usage >&2; exit 1 ;;
 esac
 """
@@ -66,10 +67,11 @@ if __name__ == "__main__":
             prove(name)
             os.makedirs(f"../{name}/out/rlib")
             open(f"../{name}/out/rlib/stamp", "w").close()
-    prove("rh_cli")
-    shutil.copy("../../program", "out/rh_cli")
+    program = os.path.basename(os.getcwd())
+    prove(program)
+    shutil.copy("../../program", f"out/{program}")
     with open("../../proofs", "a") as file:
-        file.write("rh_cli\\n")
+        file.write(f"{program}\\n")
 """
 # What tools/prove_beside.py uses of the kit's own code.
 RTLIB = """
@@ -137,11 +139,11 @@ class Commands(unittest.TestCase):
         self.room = tempfile.TemporaryDirectory()
         self.addCleanup(self.room.cleanup)
         self.top = pathlib.Path(self.room.name).resolve() / "a top"
-        for name in ("rh_cli", "replay", *[f"tools/{it}" for it in SCRIPTS]):
+        for name in ("rh_cli", "rh_roles", "replay", *[f"tools/{it}" for it in SCRIPTS]):
             (self.top / name).parent.mkdir(parents=True, exist_ok=True)
             shutil.copy(TOP / name, self.top / name)
         (self.top / "crates.txt").write_text(CRATES)
-        for crate in ("low", "middle", "aside", "other", "rh_cli"):
+        for crate in ("low", "middle", "aside", "other", "rh_cli", "rh_roles"):
             for name in ("src", "specs", "proofs"):
                 (self.top / "crates" / crate / name).mkdir(parents=True)
             (self.top / "crates" / crate / "src/lib.rt").write_text(f"// {crate}\n")
@@ -185,7 +187,7 @@ class Commands(unittest.TestCase):
 
     def left_behind(self):
         """What a build left that is neither a library nor the program."""
-        kept = {"rlib", "stamp", "rh_cli", "rh_cli.sources"}
+        kept = {"rlib", "stamp", *(f"{it}{end}" for it in PROGRAMS for end in ("", ".sources"))}
         found = [*(self.top / "tmp").iterdir(), *self.top.glob("crates/*/out/**/*")]
         return [it for it in found if it.name not in kept]
 
@@ -326,10 +328,13 @@ class Sources(Commands):
 
     def test_what_the_gate_built_is_taken_where_the_sources_are_the_same(self):
         total = self.run_it("tools/build_program.py", "--sources").stdout.strip()
-        out = self.top / "crates/rh_cli/out"
-        out.mkdir()
-        shutil.copy(self.top / "program", out / "rh_cli")
+        for name in PROGRAMS:
+            out = self.top / "crates" / name / "out"
+            out.mkdir()
+            shutil.copy(self.top / "program", out / name)
         self.run_it("tools/build_program.py", "--built-from", total)
+        self.assertEqual(self.run_it("./rh_roles", "--version").stdout, "rh_roles of a test\n")
+        self.assertEqual(self.proofs(), [])
         self.assertFalse(self.is_built_anew())
         self.crate("low", "src/lib.rt", "// changed\n")
         self.run_it("tools/build_program.py", "--built-from", total)
@@ -429,6 +434,30 @@ class Words(Commands):
         for words, told in cases:
             done = self.run_it("./rh_cli", *words)
             self.check(done, "", f"usage\nrh_cli: {told}\n", 1)
+
+    def test_roles(self):
+        done = self.run_it("./rh_roles", "server", "here:1", text="a PDU")
+        self.assertEqual((done.stdout, done.returncode), ("a PDU", 0))
+        self.assertEqual(self.proofs(), ["low", "middle", "rh_roles"])
+        self.check(self.run_it("./rh_roles", "--version"), "rh_roles of a test\n", "", 0)
+        self.assertEqual(self.left_behind(), [])
+        told = "usage\nrh_roles: type ./rh_roles --help for the words of the four roles\n"
+        for words in ((), ("-h",), ("server",), ("client", "here:1")):
+            self.check(self.run_it("./rh_roles", *words), "", told, 1)
+        done = self.run_it("./rh_roles", "--unproved", "server", "here:1", text="a PDU")
+        self.assertEqual((done.stdout, done.returncode), ("a PDU", 0))
+        self.assertTrue(done.stderr.startswith("rh_roles: nothing of this is proved"))
+
+    def test_a_signal_to_the_command_ends_the_role(self):
+        self.run_it("./rh_roles", "--version")
+        pipes = {"stdin": subprocess.PIPE, "stdout": subprocess.PIPE}
+        role = self.begin("./rh_roles", "server", "here:1", bufsize=0, **pipes)
+        with role.stdin, role.stdout:
+            role.stdin.write(b"a PDU")
+            self.assertEqual(role.stdout.read(5), b"a PDU")
+            role.terminate()
+            self.assertEqual(role.stdout.read(), b"")
+        self.assertEqual(role.wait(), -signal.SIGTERM)
 
     def test_replay_wants_one_file(self):
         for words in ((), ("a", "b"), ("nowhere",), (".",), ("--unproved",)):
