@@ -1,5 +1,5 @@
 #!/usr/bin/env python3
-"""Tests of ./rh_cli, ./rh_roles and ./replay, with an rt and programs that only play their parts."""
+"""Tests of ./rh_cli, ./rh_roles and ./replay, with an rt and programs that only play parts."""
 import os
 import pathlib
 import pty
@@ -17,7 +17,14 @@ import program_crates
 TOP = pathlib.Path(__file__).resolve().parent.parent
 SCRIPTS = ["launch", "run_program.py", "build_program.py", "prove_beside.py", "program_crates.py"]
 PROGRAMS = ["rh_cli", "rh_roles"]
-CRATES = "# crates\nlow: hex\nmiddle: low hex\naside:\nother: low\nrh_cli: middle aside low hex\nrh_roles: middle low\n"
+CRATES = """# crates
+low: hex
+middle: low hex
+aside:
+other: low
+rh_cli: middle aside low hex
+rh_roles: middle low
+"""
 PROGRAM = """#!/bin/sh
 case "$*" in
 replay | show | play | "server here:1") exec cat ;;
