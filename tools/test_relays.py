@@ -462,6 +462,20 @@ class Statuses(Roles):
         page.output = self.file()
         self.check(page, status=4, said="write fault")
 
+    def test_the_page_and_the_definition_tell_its_statuses(self):
+        page = self.start("--help")
+        page.wait(PATIENCE)
+        rows = re.findall(r"^  (\d+)  ([a-z ]+?)( <\w+>)?$", self.written(page).decode(), re.MULTILINE)
+        cells = r"^\| (\d+) \| `([a-z ]+?)( <\w+>)?` \|"
+        on_page = re.findall(cells, (TOP / "docs/RELAYS.md").read_text(), re.MULTILINE)
+        self.assertEqual(on_page, rows)
+        text = (TOP / "crates/rh_role_words/specs/Statuses.antt").read_text()
+        numbers = dict(re.findall(r"^status_number \(?(\w+).*\)? = (\d+)$", text, re.MULTILINE))
+        names = dict(re.findall(r'^status_name \(?(\w+).*\)? = codes "(.*)"$', text, re.MULTILINE))
+        self.assertEqual((numbers.pop("Done"), names.pop("Done")), ("0", "done"))
+        told = {(numbers[status], name) for status, name in names.items()}
+        self.assertEqual({(number, name) for number, name, _ in rows}, told)
+
     def test_1_usage(self):
         for words in NO_FORM:
             self.check(self.start(*words.split()), status=1, said="usage")
