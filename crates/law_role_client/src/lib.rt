@@ -16,5 +16,8 @@ pub use counts::{
 pub use laws::the_last_channel_has_no_successor;
 pub use legible::what_a_client_puts_reads_back;
 pub use order::{a_client_gives_in_order, a_client_takes_in_order};
-pub use receives::{a_client_acknowledges_what_came, a_client_receives_within_its_window};
+pub use receives::{
+    a_client_acknowledges_what_came, a_client_receives_within_its_window,
+    a_client_tells_what_its_windows_told,
+};
 pub use sends::{a_client_begins_each_channel_once, a_client_sends_as_it_was_told};

@@ -18,8 +18,9 @@ ghost use Rattle.law_moves.specs.Wires.{of_leg};
 ghost use Rattle.law_moves.specs.Passages.Passing.{pdu_bytes, Has};
 ghost use Rattle.law_moves.specs.Passages.Rising.{AreUpFirst};
 ghost use Rattle.law_role_client.specs.Order.{AreAllowedMoves, client_moved};
-ghost use Rattle.law_role_client.specs.Receiving.{IsBehindAcks, IsBehindWindow};
-ghost use Rattle.law_role_client.specs.Receiving.{IsNoWindow, IsTrueAck, RefusesBehind};
+ghost use Rattle.law_role_client.specs.Receiving.{CountsWhatCame, IsBehindAcks, IsBehindWindow};
+ghost use Rattle.law_role_client.specs.Receiving.{IsNoWindow, IsTrueAck, IsWithinWindow};
+ghost use Rattle.law_role_client.specs.Receiving.{OpensWith, RefusesBehind};
 
 /// Whatever happens to a client: it refuses an RPC PDU on an OUT channel for its window only where
 /// that ends behind the window that it told with the channel's first packet, and, if PDUs and
@@ -64,4 +65,24 @@ pub fn a_client_acknowledges_what_came()
         → Has (AckTo destination received available cookie)
         (of_leg leg (client_moved config moves).passage.put)
         → IsTrueAck moves (client_moved config moves).passage.came received available cookie }
+{}
+
+/// Whatever happens to a client: the windows of its OUT channels count no more bytes of RPC PDUs
+/// than came on their legs, and each channel opens with its own window. If PDUs and packets came
+/// only on legs that came up before, each acknowledgement is of a channel up to the current one, is
+/// of a window no greater than its own, and of the current channel it tells no more than that one's
+/// window told (MS-RPCH 3.2).
+pub fn a_client_tells_what_its_windows_told()
+    ensures counted { (config : ClientConfig) (moves : List EndMove) → IsWindow config.window
+        → AreAllowedMoves config moves → CountsWhatCame (client_moved config moves).passage }
+    ensures opened { (config : ClientConfig) (moves : List EndMove) → IsWindow config.window
+        → AreAllowedMoves config moves
+        → OpensWith config.window (client_moved config moves).passage.put }
+    ensures acks { (config : ClientConfig) (moves : List EndMove) → IsWindow config.window
+        → AreAllowedMoves config moves → AreUpFirst [] moves
+        → (leg : Leg) (destination received available : ℕ) (cookie : Cookie)
+        → Has (AckTo destination received available cookie)
+        (of_leg leg (client_moved config moves).passage.put)
+        → IsWithinWindow config.window moves (client_moved config moves).passage received
+        available cookie }
 {}

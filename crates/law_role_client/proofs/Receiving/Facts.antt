@@ -64,11 +64,12 @@ pub record Risen (known : Known) (current successor : Channel) (replaces : Bool)
   pub next : replaces ≡ true → IsRisen known successor
   pub first : known.FirstUp → current.number ≡ 1 → current.up ≡ true
 
--- CONN/A1 and OUT_R1/A3 tell the window, and acknowledgements go to an out proxy
+-- CONN/A1 and OUT_R1/A3 tell the window, and acknowledgements go to an out proxy and tell no more
 abbrev pub Says : ℕ → OnLeg → Type 0
 Says window (leg, Packet (ConnA1 version connection channel size)) = size ≡ window
 Says window (leg, Packet (OutR1A3 version connection predecessor channel size)) = size ≡ window
-Says window (leg, Packet (AckTo destination received available cookie)) = destination ≡ 3
+Says window (leg, Packet (AckTo destination received available cookie)) =
+    (destination ≡ 3) × (available ≤ window)
 Says window one = Unit {0}
 
 -- an acknowledgement is of a channel up to the current one, of which told is all that was told

@@ -75,7 +75,7 @@ module _ (window : ℕ) (known : Known) (is_window : IsWindow window) (leg : Leg
           writing = metered s.writing ACK_TO_LEN;
         })) (Packet (named.AckTo 3 ack.received ack.available s.current.cookie))
     now_acked ack e =
-        kept_put window known y came put changed (leg, m) refl
+        kept_put window known y came put changed (leg, m) (refl, d.size)
         (λ so. record {
           channel = s.current.number;
           up = h.risen.now (h.up so d.came);

@@ -1,5 +1,5 @@
 -- a client receives within its windows, and acknowledges what came
-use Rattle.law_order.proofs.Vocabulary.{◌≡◌, ◌⊎◌, ℕ, suc, ◌+◌, ◌<◌, ◌==◌, Bool, true, false, true≢false, not, ◌&&◌, ◌||◌, if◌then◌else◌, List, [], ◌∷◌, ◌++◌, length, Some, None, Ok, Err, inl, inr, arith, refl, rules, sym, ap, ◌∙◌, subst, and_parts, AllByRecursion, Option, Result}
+use Rattle.law_order.proofs.Vocabulary.{◌≡◌, ◌⊎◌, ℕ, suc, ◌+◌, ◌≤◌, ◌<◌, ◌==◌, Bool, true, false, true≢false, not, ◌&&◌, ◌||◌, if◌then◌else◌, List, [], ◌∷◌, ◌++◌, length, Some, None, Ok, Err, inl, inr, arith, refl, rules, sym, ap, ◌∙◌, subst, and_parts, AllByRecursion, Option, Result}
 use Rattle.rh_sig.specs.declared.named.Named.TheVariants as named
 use Rattle.rh_line.specs.Lines as lines
 use Rattle.law_moves.proofs.Vocabulary.{IsWindow, ack_verdict, BadAck, by_test, same_number, Cookie, Named, ClientConfig, Leg, LegKind, ClientOut, OutServer, ClientIn, InServer, LineFault, Window, Over, Which, Current, Next, Count, Message, Packet, same_leg, OnLeg, Up, EndMove, Moves, Passage, EndPassage, end_moved, MayEndMove, AreAllowedAtEnd, of_leg, pdu_bytes, Has, HasComeUp, WasUp, IsUpFirst, AreUpFirst}
@@ -12,7 +12,7 @@ use Rattle.law_role_client.proofs.Receiving.Replaced.{Same, seen, same_holds, re
 use Rattle.law_role_client.proofs.Receiving.Rows.{Fits, pdu_fits, packet_fits}
 use Rattle.law_role_client.proofs.Receiving.Ups.{up_fits, first_up}
 use Rattle.law_role_client.proofs.Receiving.Puts.{put_fits}
-use Rattle.law_role_client.specs.Receiving.{IsBehindWindow, IsBehindAcks, RefusesBehind, IsNoWindow, IsTrueAck}
+use Rattle.law_role_client.specs.Receiving.{IsBehindWindow, IsBehindAcks, RefusesBehind, IsNoWindow, IsTrueAck, CountsWhatCame, OpensWith, IsWithinWindow}
 
 -- ---- the steps of a client
 
@@ -262,17 +262,23 @@ module _ (config : ClientConfig) (moves : List EndMove) (is : IsWindow config.wi
           (and_parts (is_switched s) (is_out_successor s k) g).1 in
           same_number k s.out_successor.number is.1 ∙ kept.numbered.follows is.0
 
+  pub opens_with : OpensWith config.window p.put
+  opens_with = record {
+    first = λ leg version connection channel size h.
+        (has_so (Says config.window) leg (named.ConnA1 version connection channel size) p.put
+        kept.says h).1;
+    later = λ leg version connection predecessor channel size h.
+        (has_so (Says config.window) leg
+        (named.OutR1A3 version connection predecessor channel size) p.put kept.says h).1;
+  }
+
   behind_window : (k reached : ℕ) → config.window < reached → IsBehindWindow k p.put reached
   behind_window k reached far = record {
     first = λ version connection channel size h.
-        let said =
-        (has_so (Says config.window) (co k) (named.ConnA1 version connection channel size) p.put
-        kept.says h).1 in
+        let said = opens_with.first (co k) version connection channel size h in
         omega (arith, said, far);
     later = λ version connection predecessor channel size h.
-        let said =
-        (has_so (Says config.window) (co k)
-        (named.OutR1A3 version connection predecessor channel size) p.put kept.says h).1 in
+        let said = opens_with.later (co k) version connection predecessor channel size h in
         omega (arith, said, far);
   }
 
@@ -314,12 +320,37 @@ module _ (config : ClientConfig) (moves : List EndMove) (is : IsWindow config.wi
 
   -- ---- what is acknowledged
 
+  says : (leg : Leg) (destination received available : ℕ) (cookie : Cookie)
+      → Has (named.AckTo destination received available cookie) (of_leg leg p.put)
+      → (destination ≡ 3) × (available ≤ config.window)
+  says leg destination received available cookie h =
+      (has_so (Says config.window) leg (named.AckTo destination received available cookie) p.put
+      kept.says h).1
+
   pub to_out_proxies : (leg : Leg) (destination received available : ℕ) (cookie : Cookie)
       → Has (named.AckTo destination received available cookie) (of_leg leg p.put)
       → destination ≡ 3
   to_out_proxies leg destination received available cookie h =
-      (has_so (Says config.window) leg (named.AckTo destination received available cookie) p.put
-      kept.says h).1
+      (says leg destination received available cookie h).0
+
+  pub counts_what_came : CountsWhatCame p
+  counts_what_came =
+      record { current = kept.counted.now.received; next = kept.counted.next.received }
+
+  pub acks_within : AreUpFirst [] moves
+      → (leg : Leg) (destination received available : ℕ) (cookie : Cookie)
+      → Has (named.AckTo destination received available cookie) (of_leg leg p.put)
+      → IsWithinWindow config.window moves p received available cookie
+  acks_within first leg destination received available cookie has =
+      let ack = an_ack first leg destination received available cookie has in
+      record {
+        number = ack.channel;
+        up = ack.up;
+        arrived = ack.arrived;
+        small = (says leg destination received available cookie has).1;
+        low = ack.low;
+        told = ack.within;
+      }
 
   pub acks_are_true : AreUpFirst [] moves
       → (leg : Leg) (destination received available : ℕ) (cookie : Cookie)
