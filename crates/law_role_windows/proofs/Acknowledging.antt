@@ -15,3 +15,5 @@ mod InRows
 mod InPuts
 mod InRefuses
 pub mod InProxyTells
+pub mod InProxyRoom
+pub mod ClientRoom

@@ -76,24 +76,25 @@ now_told number edge next Absent is = (omega arith, λ e. omega arith)
 
 -- ---- acknowledgements
 
--- one to the client is true, and is for a channel that was told that
-abbrev pub IsAck : List OnLeg → (ℕ → ℕ → Type 0) → Named → Type 0
-IsAck came Told (AckTo destination received available cookie) =
+-- one to the client is true, is for a channel that was told that, and of no greater window
+abbrev pub IsAck : ℕ → List OnLeg → (ℕ → ℕ → Type 0) → Named → Type 0
+IsAck window came Told (AckTo destination received available cookie) =
     destination ≡ 0
     → (m : ℕ) × IsTrueOn (of_leg (ci m) came) received available cookie
-    × Told m (received + available)
-IsAck came Told packet = Unit {0}
+    × Told m (received + available) × (available ≤ window)
+IsAck window came Told packet = Unit {0}
 
-abbrev pub AreAcks : List OnLeg → (ℕ → ℕ → Type 0) → List OnLeg → Type 0
-AreAcks came Told put = AllByRecursion (OfPacket (IsAck came Told)) put
+abbrev pub AreAcks : ℕ → List OnLeg → (ℕ → ℕ → Type 0) → List OnLeg → Type 0
+AreAcks window came Told put = AllByRecursion (OfPacket (IsAck window came Told)) put
 
 -- more came
-pub acks_more : (came : List OnLeg) (one : OnLeg) (Told : ℕ → ℕ → Type 0) (put : List OnLeg)
-    → AreAcks came Told put → AreAcks (came ++ one ∷ []) Told put
-acks_more came one Told put all =
-    packets_so (IsAck came Told) (IsAck (came ++ one ∷ []) Told) more put all
+pub acks_more : (window : ℕ) (came : List OnLeg) (one : OnLeg) (Told : ℕ → ℕ → Type 0)
+    (put : List OnLeg) → AreAcks window came Told put → AreAcks window (came ++ one ∷ []) Told put
+acks_more window came one Told put all =
+    packets_so (IsAck window came Told) (IsAck window (came ++ one ∷ []) Told) more put all
   where
-    more : (named : Named) → IsAck came Told named → IsAck (came ++ one ∷ []) Told named
+    more : (named : Named) → IsAck window came Told named
+        → IsAck window (came ++ one ∷ []) Told named
     more (AckTo destination received available cookie) h = λ e.
         let is = h e in (
           is.0,
@@ -105,32 +106,34 @@ acks_more came one Told put all =
             window = is.1.window;
           },
           is.2,
+          is.3,
         )
     more named h = tt
 
 -- what was told is known otherwise
-pub acks_so : (came : List OnLeg) (Told Other : ℕ → ℕ → Type 0)
-    → ((m edge : ℕ) → Told m edge → Other m edge) → (put : List OnLeg) → AreAcks came Told put
-    → AreAcks came Other put
-acks_so came Told Other so put all =
-    packets_so (IsAck came Told) (IsAck came Other) other put all
+pub acks_so : (window : ℕ) (came : List OnLeg) (Told Other : ℕ → ℕ → Type 0)
+    → ((m edge : ℕ) → Told m edge → Other m edge) → (put : List OnLeg)
+    → AreAcks window came Told put → AreAcks window came Other put
+acks_so window came Told Other so put all =
+    packets_so (IsAck window came Told) (IsAck window came Other) other put all
   where
-    other : (named : Named) → IsAck came Told named → IsAck came Other named
+    other : (named : Named) → IsAck window came Told named → IsAck window came Other named
     other (AckTo destination received available cookie) h = λ e.
-        let is = h e in (is.0, is.1, so is.0 (received + available) is.2)
+        let is = h e in (is.0, is.1, so is.0 (received + available) is.2, is.3)
     other named h = tt
 
-pub all_true : (came : List OnLeg) (Told : ℕ → ℕ → Type 0) (put : List OnLeg)
-    → AreAcks came Told put → AllByRecursion (IsTrue came) put
-all_true came Told put all = each_so (OfPacket (IsAck came Told)) (IsTrue came) true_one put all
+pub all_true : (window : ℕ) (came : List OnLeg) (Told : ℕ → ℕ → Type 0) (put : List OnLeg)
+    → AreAcks window came Told put → AllByRecursion (IsTrue came) put
+all_true window came Told put all =
+    each_so (OfPacket (IsAck window came Told)) (IsTrue came) true_one put all
   where
-    true_named : (leg : Leg) (named : Named) → IsAck came Told named
+    true_named : (leg : Leg) (named : Named) → IsAck window came Told named
         → IsTrue came (leg, Packet named)
     true_named leg (AckTo destination received available cookie) h = λ e.
         let is = h e in (is.0, is.1)
     true_named leg named h = search rules
 
-    true_one : (one : OnLeg) → OfPacket (IsAck came Told) one → IsTrue came one
+    true_one : (one : OnLeg) → OfPacket (IsAck window came Told) one → IsTrue came one
     true_one (leg, Text bytes) h = tt
     true_one (leg, Pdu pdu) h = tt
     true_one (leg, Packet named) h = true_named leg named h
@@ -140,7 +143,7 @@ abbrev pub IsOther : Named → Type 0
 IsOther (AckTo destination received available channel) = destination ≡ 0 → ⊥
 IsOther packet = Unit {0}
 
-pub other_ack : (came : List OnLeg) (Told : ℕ → ℕ → Type 0) (named : Named) → IsOther named
-    → IsAck came Told named
-other_ack came Told (AckTo destination received available cookie) h = λ e. absurd (h e)
-other_ack came Told named h = tt
+pub other_ack : (window : ℕ) (came : List OnLeg) (Told : ℕ → ℕ → Type 0) (named : Named)
+    → IsOther named → IsAck window came Told named
+other_ack window came Told (AckTo destination received available cookie) h = λ e. absurd (h e)
+other_ack window came Told named h = tt

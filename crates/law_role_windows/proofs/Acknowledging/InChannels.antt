@@ -96,18 +96,18 @@ told_counts window c ack ms rises h = record {
   size = h.size;
 }
 
--- ---- an acknowledgement that is due is true, and tells more
+-- ---- an acknowledgement that is due is true, tells more, and no more than the window
 
-abbrev pub IsDue : Incoming → List Message → Cookie → Ack → Type 0
-IsDue c ms cookie ack =
+abbrev pub IsDue : ℕ → Incoming → List Message → Cookie → Ack → Type 0
+IsDue window c ms cookie ack =
     IsTrueOn ms ack.received ack.available cookie
-    × (c.window.told ≤ ack.received + ack.available)
+    × (c.window.told ≤ ack.received + ack.available) × (ack.available ≤ window)
 
 pub due_is : (window : ℕ) (c : Incoming) (ms : List Message) (cookie : Cookie)
     → IsWindow window → Counts window c ms → HasBegunIn cookie ms
-    → IfSome (windows.due c.window) (IsDue c ms cookie)
+    → IfSome (windows.due c.window) (IsDue window c ms cookie)
 due_is window c ms cookie is h begun =
-    by_test (λ (o : Option Ack). IfSome o (IsDue c ms cookie)) (windows.is_due c.window)
+    by_test (λ (o : Option Ack). IfSome o (IsDue window c ms cookie)) (windows.is_due c.window)
     (Some (record {
       received = c.window.received;
       available = windows.edge_of c.window - c.window.received;
@@ -124,6 +124,7 @@ due_is window c ms cookie is h begun =
             omega (arith, counted, size, greatest);
       },
       grind (arith, nat_tests, e),
+      let counted = h.counted in let size = h.size in omega (arith, counted, size),
     ))
     (λ e. tt)
 
@@ -152,7 +153,7 @@ pub record Channels (window : ℕ) (l : Line) (current : ClientLeg) (successor :
   pub number : IsNextNumber current.number successor
   pub now : Counts window l.current (of_leg (ci current.number) came)
   pub behind : IsBehind window successor l.next came
-  pub acks : AreAcks came (WasTold l current successor) put
+  pub acks : AreAcks window came (WasTold l current successor) put
 
 -- before the first packet nothing came; behind it the current channel has begun
 pub record Tells (window : ℕ) (opened : Bool) (l : Line) (current : ClientLeg)
@@ -190,7 +191,7 @@ channels_more window l current z came put one h = record {
       (of_leg (ci current.number) (came ++ one ∷ [])) (leg_rises (ci current.number) came one)
       h.now;
   behind = behind_more window z l.next came one h.behind;
-  acks = acks_more came one (WasTold l current z) put h.acks;
+  acks = acks_more window came one (WasTold l current z) put h.acks;
 }
 
 pub tells_more : (window : ℕ) (opened : Bool) (l : Line) (current : ClientLeg) (z : Successor)
@@ -206,7 +207,7 @@ tells_more window opened l current z dues came put one h = record {
 
 -- one more was put
 pub channels_put : (window : ℕ) (l : Line) (current : ClientLeg) (z : Successor)
-    (came put : List OnLeg) (one : OnLeg) → OfPacket (IsAck came (WasTold l current z)) one
+    (came put : List OnLeg) (one : OnLeg) → OfPacket (IsAck window came (WasTold l current z)) one
     → Channels window l current z came put → Channels window l current z came (put ++ one ∷ [])
 channels_put window l current z came put one is h = record {
   size = h.size;
@@ -215,7 +216,7 @@ channels_put window l current z came put one is h = record {
   number = h.number;
   now = h.now;
   behind = h.behind;
-  acks = each_push (OfPacket (IsAck came (WasTold l current z))) put one h.acks is;
+  acks = each_push (OfPacket (IsAck window came (WasTold l current z))) put one h.acks is;
 }
 
 -- ---- a channel that nobody began
@@ -248,14 +249,15 @@ pub current_due : (window : ℕ) (opened : Bool) (l : Line) (current : ClientLeg
     (dues : List Due) (came put : List OnLeg) → IsWindow window
     → Tells window opened l current z dues came put
     → IfSome (windows.due l.current.window)
-    (IsDue l.current (of_leg (ci current.number) came) current.cookie)
+    (IsDue window l.current (of_leg (ci current.number) came) current.cookie)
 current_due window true l current z dues came put is h =
     due_is window l.current (of_leg (ci current.number) came) current.cookie is h.channels.now
     (h.begun refl)
 current_due window false l current z dues came put is h =
     subst (λ (k : Line).
-    IfSome (windows.due k.current.window) (IsDue k.current ms current.cookie)) (sym (h.shut refl))
-    (first_due window (IsDue (line.first_line window).current ms current.cookie))
+    IfSome (windows.due k.current.window) (IsDue window k.current ms current.cookie))
+    (sym (h.shut refl))
+    (first_due window (IsDue window (line.first_line window).current ms current.cookie))
   where
     ms : List Message
     ms = of_leg (ci current.number) came
@@ -304,7 +306,7 @@ moved_channels window l current z came put h =
       number = tt;
       now = k.behind.0;
       behind = tt;
-      acks = acks_so came (WasTold l current (Joined leg stage))
+      acks = acks_so window came (WasTold l current (Joined leg stage))
           (WasTold (line.moved_on l) leg Absent) (λ m edge is. (is.0, is.2)) put k.acks;
     }
 

@@ -82,9 +82,9 @@ module _ (window : ℕ) where
   -- where more is told of the channels
   pub acks_rise : (s : InProxy) (came put : List OnLeg) (now next : ℕ)
       → s.line.current.window.told ≤ now → s.line.next.window.told ≤ next → Holds s came put
-      → AreAcks came (IsTold s.current.number now s.successor next) put
+      → AreAcks window came (IsTold s.current.number now s.successor next) put
   acks_rise s came put now next a b h =
-      acks_so came (WasTold s.line s.current s.successor)
+      acks_so window came (WasTold s.line s.current s.successor)
       (IsTold s.current.number now s.successor next)
       (told_rises s.current.number s.line.current.window.told now s.line.next.window.told next
       s.successor a b) put h.channels.acks

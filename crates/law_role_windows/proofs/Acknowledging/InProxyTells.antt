@@ -51,14 +51,14 @@ module _ (config : InProxyConfig) (moves : List Move) (is : IsWindow config.wind
   abbrev p : Passage InProxy
   p = all_moved proxy_rules (started (first config)) moves
 
-  holds : Holds config.window p.role p.came p.put
+  pub holds : Holds config.window p.role p.came p.put
   holds =
       moves_keep proxy_rules (Holds config.window) (keeps config.window is)
       (started (first config)) moves (starts config)
 
   pub in_proxy_tells : AllByRecursion (IsTrue p.came) p.put
   in_proxy_tells =
-      all_true p.came (WasTold p.role.line p.role.current p.role.successor) p.put
+      all_true config.window p.came (WasTold p.role.line p.role.current p.role.successor) p.put
       holds.channels.acks
 
   pub in_proxy_receives : (n : ℕ) → ReceivesOn proxy_rules config.window n p

@@ -43,7 +43,7 @@ module _ (window : ℕ) (is : IsWindow window) where
 
     -- the message is no false acknowledgement
     abbrev Is : InProxy → Message → Type 0
-    Is t m = OfPacket (IsAck came (WasTold t.line t.current t.successor)) (leg, m)
+    Is t m = OfPacket (IsAck window came (WasTold t.line t.current t.successor)) (leg, m)
 
     put_one : (t : InProxy) (m : Message) → Is t m → Holds t came put
         → Holds t came (put ++ (leg, m) ∷ [])
@@ -97,7 +97,7 @@ module _ (window : ℕ) (is : IsWindow window) where
         now = h.channels.now;
         behind =
             subst (λ (z : Successor). IsBehind window z s.line.next came) e h.channels.behind;
-        acks = subst (λ (z : Successor). AreAcks came (WasTold s.line s.current z) put) e
+        acks = subst (λ (z : Successor). AreAcks window came (WasTold s.line s.current z) put) e
             h.channels.acks;
       };
       shut = h.shut;
@@ -138,7 +138,7 @@ module _ (window : ℕ) (is : IsWindow window) where
           successor = one_less s.successor;
         } in
         put_one t (Packet due.packet)
-        (other_ack came (WasTold t.line t.current t.successor) due.packet all.0) (record {
+        (other_ack window came (WasTold t.line t.current t.successor) due.packet all.0) (record {
           channels = k.channels;
           shut = k.shut;
           begun = k.begun;
@@ -155,7 +155,8 @@ module _ (window : ℕ) (is : IsWindow window) where
     -- an acknowledgement for this channel
     abbrev IsDueFor : InProxy → Which → ClientLeg → Ack → Type 0
     IsDueFor s which client =
-        IsDue (line.channel_of s.line which) (of_leg (ci client.number) came) client.cookie
+        IsDue window (line.channel_of s.line which) (of_leg (ci client.number) came)
+        client.cookie
 
     abbrev acked : InProxy → Which → Ack → InProxy
     acked s which ack = record s { line = line.after_told s.line which ack }
@@ -169,7 +170,7 @@ module _ (window : ℕ) (is : IsWindow window) where
     ack_put s which client None opened' due at h = tt
     ack_put s which client (Some ack) opened' due at h =
         put_one (acked s which ack) (Packet (AckTo 0 ack.received ack.available client.cookie))
-        (λ e. (client.number, due.0, at ack))
+        (λ e. (client.number, due.0, at ack, due.2))
         (record {
           channels = by which due.1;
           shut = λ f. absurd (true≢false (sym opened' ∙ f));

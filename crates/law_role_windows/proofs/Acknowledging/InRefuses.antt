@@ -73,7 +73,7 @@ verdict_refuses B s c bytes so = by c.ended
 -- and so behind all that was told for the channel
 ends_behind : (window n : ℕ) (c : Incoming) (came put : List OnLeg) (All : ℕ → ℕ → Type 0)
     (len : ℕ) → Counts window c (of_leg (ci n) came)
-    → ((m edge : ℕ) → All m edge → m ≡ n → edge ≤ c.window.told) → AreAcks came All put
+    → ((m edge : ℕ) → All m edge → m ≡ n → edge ≤ c.window.told) → AreAcks window came All put
     → c.window.told < c.window.received + len
     → EndsBehind window n came put (pdu_bytes (of_leg (ci n) came) + len)
 ends_behind window n c came put All len counts within acks over =
@@ -82,7 +82,7 @@ ends_behind window n c came put All len counts within acks over =
     record {
       opened = omega (arith, received, told, over);
       acked = λ r a cookie has only.
-          let ack = has_found (IsAck came All) (AckTo 0 r a cookie)
+          let ack = has_found (IsAck window came All) (AckTo 0 r a cookie)
           (record { kind = InServer; number = has.0 }) put acks has.1 refl in
           let below = within ack.0 (r + a) ack.2 (only ack.0 ack.1.begun) in
           omega (arith, below, received, over);
@@ -125,9 +125,9 @@ module _ (window : ℕ) (s : InProxy) (came put : List OnLeg) (h : Holds window 
         behind =
             subst (λ (y : Successor). IsBehind window y s.line.next came) (sym e) h.channels.behind
 
-        acks : AreAcks came (WasTold s.line s.current (Joined client stage)) put
+        acks : AreAcks window came (WasTold s.line s.current (Joined client stage)) put
         acks =
-            subst (λ (y : Successor). AreAcks came (WasTold s.line s.current y) put) (sym e)
+            subst (λ (y : Successor). AreAcks window came (WasTold s.line s.current y) put) (sym e)
             h.channels.acks
 
     pub pdu_refuses : (n : ℕ) (count : Count) (bytes : List ℕ)

@@ -145,7 +145,7 @@ module _ (window : ℕ) where
                   },
                   begins_here m v4 leg.number e (itself leg.number) refl,
                 );
-                acks = acks_so (came ++ (leg, Packet m) ∷ [])
+                acks = acks_so window (came ++ (leg, Packet m) ∷ [])
                     (WasTold s.line s.current s.successor)
                     (IsTold s.current.number s.line.current.window.told
                     (Joined (leg_of leg.number v4) behind) s.line.size)
@@ -263,7 +263,7 @@ module _ (window : ℕ) where
             number = subst (IsNextNumber s.current.number) e h.channels.number;
             now = h.channels.now;
             behind = behind;
-            acks = subst (λ (z : Successor). AreAcks came (WasTold s.line s.current z) put) e
+            acks = subst (λ (z : Successor). AreAcks window came (WasTold s.line s.current z) put) e
                 h.channels.acks;
           });
           shut = λ f. absurd (true≢false (sym opened' ∙ f));

@@ -1,5 +1,5 @@
 -- a message more in a log, of the messages of a leg, and of some leg of a kind
-use Rattle.law_order.proofs.Vocabulary.{◌≡◌, ℕ, ◌+◌, Bool, true, if◌then◌else◌, List, [], ◌∷◌, ◌++◌, arith, sym, subst, nat_tests}
+use Rattle.law_order.proofs.Vocabulary.{◌≡◌, ℕ, Bool, true, if◌then◌else◌, List, [], ◌∷◌, ◌++◌, arith, sym, subst, nat_tests}
 use Rattle.law_moves.proofs.Vocabulary.{Cookie, Named, Leg, LegKind, Message, Packet, same_leg, is_of, OnLeg, of_leg, BeginsIn, HasBegunIn}
 use Rattle.law_moves.proofs.Lemmas.{leg_more, one_more_so, last_one_so}
 
