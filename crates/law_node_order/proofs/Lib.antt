@@ -1,0 +1,5 @@
+pub mod Feeding
+pub mod Reaching
+pub mod Closing
+pub mod Joining
+pub mod Sides

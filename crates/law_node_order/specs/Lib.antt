@@ -1,0 +1,4 @@
+pub mod Feeds
+pub mod Reaching
+pub mod Streams
+pub mod Sides
