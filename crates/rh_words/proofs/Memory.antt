@@ -15,13 +15,13 @@ use Rattle.rh_words.specs.declared.status.Status.{Status}
 use Rattle.rh_words.specs.declared.status.Status.TheVariants as statuses
 use Rattle.rh_words.specs.declared.word.Ended.{Ended}
 use Rattle.rh_words.specs.declared.word.Ended.TheVariants as ends
-use Rattle.rh_words.specs.Words.{most_input}
+use Rattle.rh_words.specs.Words.{IsBegun, most_input}
 use Rattle.rh_words.specs.Statuses.{status_of}
 use Rattle.rh_words.specs.Replay.{IsReplayed}
 use Rattle.rh_words.specs.Show.{IsShown}
 use Rattle.rh_words.specs.Play.{IsPlayed}
 use Rattle.rh_words.specs.Forms.{Outside, Reads, Tells, Ran}
-use Rattle.rh_words.specs.Memory.{IsRoomFor, NoneFailed, RanInMemory}
+use Rattle.rh_words.specs.Memory.{IsRoomFor, RanIn, RanInMemory}
 use Rattle.rh_words.proofs.Coming.{all_came}
 
 -- where nothing was written before, all is what was appended
@@ -32,20 +32,13 @@ all_written (Some old) None written is h = absurd h
 all_written (Some old) (Some new) written is h = let e = h in cc
 
 -- a word's run over memory
-record Spared {P L : Type 0} (rules : Rules P L) (Says : List ℕ → List ℕ → Type 0) (ended : Ended)
-    (text : List ℕ) (written : Option (List ℕ)) : Type 0 where
-  none_failed : NoneFailed (status_of ended)
-  whole : status_of ended ≡ statuses.Done
-      → (output : List ℕ) × (written ≡ Some output) × Says text output
-  done : IsText rules text × (length text ≤ most_input)
-      → (status_of ended ≡ statuses.Done) ⊎ (status_of ended ≡ statuses.NoMemory)
-
 module _ {P L : Type 0} (rules : Rules P L) (Says : List ℕ → List ℕ → Type 0) (Unfailing : Type 0)
     (before after : Outside) (text : List ℕ) where
   spared : (ended : Ended) → Reads rules Says Unfailing ended before after → Unfailing
       → before.left ≡ Some text → before.written ≡ Some []
       → ((whole : List ℕ) → Says text whole → length whole ≤ before.takes)
-      → Spared rules Says ended text after.written
+      → RanIn (IsText rules text × (length text ≤ most_input)) (Says text) (status_of ended)
+      after.written
   spared ends.Done h sure left none room =
       let (came, written, moves, wrote, (short, over, says)) = h.answers in
       let same = all_came before.left after.left text came left moves.from over in
@@ -56,23 +49,37 @@ module _ {P L : Type 0} (rules : Rules P L) (Says : List ℕ → List ℕ → Ty
           all_written before.written after.written written none wrote,
           subst (λ (t : List ℕ). Says t written) same says,
         );
+        begun = λ e. absurd (cc);
         done = λ _. inl refl;
       }
   spared (ends.BadInput line) h sure left none room = record {
     none_failed = tt;
     whole = λ e. absurd (cc);
+    begun = λ e. absurd (cc);
     done = λ is. absurd (h.taken text left is.0 is.1);
   }
   spared ends.ReadFault h sure left none room = absurd (h.unfailing sure refl)
   spared ends.WriteFault h sure left none room = absurd (h.takes text left room refl)
-  spared ends.NoMemory h sure left none room = record {
-    none_failed = tt;
-    whole = λ e. absurd (cc);
-    done = λ _. inr refl;
-  }
+  spared ends.NoMemory h sure left none room =
+      let (came, written, moves, wrote, said) = h.answers in
+      record {
+        none_failed = tt;
+        whole = λ e. absurd (cc);
+        begun = λ _. (
+          written,
+          all_written before.written after.written written none wrote,
+          elim said [
+            | inl e ↦ inl e
+            | inr (short, over, begun) ↦ inr (subst (λ (t : List ℕ). IsBegun Says t written)
+                (all_came before.left after.left text came left moves.from over) begun)
+          ],
+        );
+        done = λ _. inr refl;
+      }
   spared ends.TooLong h sure left none room = record {
     none_failed = tt;
     whole = λ e. absurd (cc);
+    begun = λ e. absurd (cc);
     done = λ is. absurd (h.taken text left is.0 is.1);
   }
 
@@ -91,54 +98,46 @@ told_whole text status before after faults now takes h none room =
     h.front ∙ ap (λ (x : List ℕ). h.written ++ x) all ∙ append-nil h.written in
     (sure, (h.written, all_written before after h.written none h.wrote, sym is))
 
+told_ran : (text : List ℕ) (status : Status) (before after : Option (List ℕ)) (faults now takes : ℕ)
+    → Tells text status before after faults now takes → before ≡ Some [] → length text ≤ takes
+    → RanIn (Unit {0}) (λ output. output ≡ text) status after
+told_ran text status before after faults now takes h none room =
+    let t = told_whole text status before after faults now takes h none room in
+    rw t.0 (record {
+      none_failed = tt;
+      whole = λ _. t.1;
+      begun = λ e. absurd (cc);
+      done = λ _. inl refl;
+    })
+
 -- any form's run over memory
 pub ran_in_memory : (help version : List ℕ) (Unfailing : Type 0) (form : Form) (status : Status)
     (before after : Outside) (text : List ℕ) → Ran help version Unfailing form status before after
     → Unfailing → before.left ≡ Some text → before.written ≡ Some []
     → IsRoomFor help version form text before.takes
     → RanInMemory help version form text status after.written
-ran_in_memory help version Unfailing Replay status before after text (
-  ended,
-  is,
-  reads,
-) sure left none room =
-    let s =
-    spared recording IsReplayed Unfailing before after text ended reads sure left none
-    room in
-    rw is (record { none_failed = s.none_failed; whole = s.whole; done = s.done })
-ran_in_memory help version Unfailing Show status before after text (
-  ended,
-  is,
-  reads,
-) sure left none room =
-    let s = spared packets IsShown Unfailing before after text ended reads sure left none room in
-    rw is (record { none_failed = s.none_failed; whole = s.whole; done = s.done })
-ran_in_memory help version Unfailing Play status before after text (
-  ended,
-  is,
-  reads,
-) sure left none room =
-    let s = spared script IsPlayed Unfailing before after text ended reads sure left none room in
-    rw is (record { none_failed = s.none_failed; whole = s.whole; done = s.done })
+ran_in_memory help version Unfailing Replay status before after text h sure left none room =
+    rw h.1.0 (spared recording IsReplayed Unfailing before after text h.0 h.1.1 sure left none room)
+ran_in_memory help version Unfailing Show status before after text h sure left none room =
+    rw h.1.0 (spared packets IsShown Unfailing before after text h.0 h.1.1 sure left none room)
+ran_in_memory help version Unfailing Play status before after text h sure left none room =
+    rw h.1.0 (spared script IsPlayed Unfailing before after text h.0 h.1.1 sure left none room)
 ran_in_memory help version Unfailing (Make count) status before after text (
     inl h
     ) sure left none room =
     rw h.0 (record {
       none_failed = tt;
       whole = λ e. absurd (cc);
+      begun = λ _. ([], ap (λ (o : Outside). o.written) h.1 ∙ none, inl refl);
       done = λ _. inr refl;
     })
 ran_in_memory help version Unfailing (Make count) status before after text (
     inr h
     ) sure left none room =
-    let t = told_whole (summary_text (summary count)) status before.written after.written _ _
-    before.takes h none (room (summary_text (summary count)) refl) in
-    rw t.0 (record { none_failed = tt; whole = λ _. t.1; done = λ _. inl refl })
+    told_ran (summary_text (summary count)) status before.written after.written _ _ before.takes h
+    none (room (summary_text (summary count)) refl)
 ran_in_memory help version Unfailing Help status before after text h sure left none room =
-    let t = told_whole help status before.written after.written _ _ before.takes h none
-    (room help refl) in
-    rw t.0 (record { none_failed = tt; whole = λ _. t.1; done = λ _. inl refl })
+    told_ran help status before.written after.written _ _ before.takes h none (room help refl)
 ran_in_memory help version Unfailing Version status before after text h sure left none room =
-    let t = told_whole version status before.written after.written _ _ before.takes h none
-    (room version refl) in
-    rw t.0 (record { none_failed = tt; whole = λ _. t.1; done = λ _. inl refl })
+    told_ran version status before.written after.written _ _ before.takes h none
+    (room version refl)

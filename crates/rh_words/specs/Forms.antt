@@ -20,7 +20,7 @@ use Rattle.rh_words.specs.declared.status.Status.TheVariants.{Done, WriteFault, 
 use Rattle.rh_words.specs.declared.word.Ended.{Ended}
 use Rattle.rh_words.specs.declared.word.Ended.TheVariants as ends
 use Rattle.rh_words.specs.Statuses.{status_of}
-use Rattle.rh_words.specs.Words.{Answers, Counts, counts, Counted, IsTaken, most_input}
+use Rattle.rh_words.specs.Words.{Answers, Counts, counts, Counted, IsTaken, IsWhole, most_input}
 use Rattle.rh_words.specs.Replay.{IsReplayed}
 use Rattle.rh_words.specs.Show.{IsShown}
 use Rattle.rh_words.specs.Play.{IsPlayed}
@@ -77,6 +77,8 @@ pub record Reads {P L : Type 0} (rules : Rules P L) (Says : List ℕ → List �
       × Appends before.written after.written written
       × Answers (FirstBad rules) Says ended after.left came written
   pub counted : Counted ended before.counts after.counts
+  -- and there are bytes written only of an input that ended
+  pub whole : IsWhole before.counts.ends after.counts.ends before.written after.written
   -- where the input tells that it holds such a text, no more than is read, nothing is wrong with it
   pub taken : (text : List ℕ) → before.left ≡ Some text → IsText rules text
       → length text ≤ most_input

@@ -1,5 +1,5 @@
 -- runs from bytes in memory to room in memory, where no call of either is to fail
-use Rattle.std.specs.Prelude.{◌≡◌, ◌⊎◌, ◌≤◌, ℕ, List, length, Some}
+use Rattle.std.specs.Prelude.{◌≡◌, ◌⊎◌, ◌≤◌, ℕ, List, [], ◌++◌, length, Some}
 use Rattle.std.specs.declared.option.Option.{Option}
 use Rattle.rh_text.specs.Lines.{IsText}
 use Rattle.rh_record.specs.Places.{recording}
@@ -48,11 +48,19 @@ abbrev pub IsRoomFor : (help version : List ℕ) → Form → List ℕ → ℕ �
 IsRoomFor help version form text room =
     (whole : List ℕ) → IsOutput help version form text whole → length whole ≤ room
 
--- where all is done, what was written is the whole output; where nothing is wrong with the text,
--- all is done but for want of memory
-pub record RanInMemory (help version : List ℕ) (form : Form) (text : List ℕ) (status : Status)
+-- where all is done, what was written is the whole output, and at want of memory a front of that;
+-- where nothing is wrong with the text, all is done but for want of memory
+pub record RanIn (Input : Type 0) (Output : List ℕ → Type 0) (status : Status)
     (written : Option (List ℕ)) : Type 0 where
   pub none_failed : NoneFailed status
   pub whole : status ≡ statuses.Done
-      → (output : List ℕ) × (written ≡ Some output) × IsOutput help version form text output
-  pub done : IsInput form text → (status ≡ statuses.Done) ⊎ (status ≡ statuses.NoMemory)
+      → (output : List ℕ) × (written ≡ Some output) × Output output
+  pub begun : status ≡ statuses.NoMemory
+      → (front : List ℕ) × (written ≡ Some front)
+      × ((front ≡ []) ⊎ ((behind : List ℕ) × Output (front ++ behind)))
+  pub done : Input → (status ≡ statuses.Done) ⊎ (status ≡ statuses.NoMemory)
+
+abbrev pub RanInMemory : (help version : List ℕ) → Form → List ℕ → Status → Option (List ℕ)
+    → Type 0
+RanInMemory help version form text status written =
+    RanIn (IsInput form text) (IsOutput help version form text) status written

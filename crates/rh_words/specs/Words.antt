@@ -54,8 +54,13 @@ Answers Refuses Says (BadInput line) left came written =
 Answers Refuses Says ReadFault left came written = (length came ≤ most_input) × (written ≡ [])
 Answers Refuses Says WriteFault left came written =
     (length came ≤ most_input) × IsAtEnd left × IsBegun Says came written
-Answers Refuses Says NoMemory left came written = (written ≡ []) ⊎ IsBegun Says came written
+Answers Refuses Says NoMemory left came written =
+    (written ≡ []) ⊎ ((length came ≤ most_input) × IsAtEnd left × IsBegun Says came written)
 Answers Refuses Says TooLong left came written = (length came ≡ most_input + 1) × (written ≡ [])
+
+-- the input was read to its end, which is counted, or the output tells that nothing was written
+abbrev pub IsWhole : (before after : ℕ) → (was is : Option (List ℕ)) → Type 0
+IsWhole before after was is = Rose before after ⊎ (is ≡ was)
 
 -- how often the input failed and ended, and the output failed
 pub record Counts : Type 0 where

@@ -16,7 +16,7 @@ use std::alloc::Global;
 ///
 /// Where there is room for the whole output, neither the input nor the output fails: of a text of
 /// the grammar that is no longer than the program reads the whole output is written, but for want
-/// of memory.
+/// of memory. There nothing is written, or a front of the whole output.
 pub fn run_in_memory(
     alloc: Global,
     words: &[String],

@@ -6,7 +6,7 @@ ghost use Rattle.rh_io.specs.Bytes.{Moves};
 ghost use Rattle.rh_io.specs.Counts.{Rose};
 ghost use Rattle.rh_text.specs.Lines.{IsText, FirstBad};
 ghost use Rattle.rh_words.specs.Outputs.{out, Gathers, Stops};
-ghost use Rattle.rh_words.specs.Words.{Deeds, SaysOf, Answers, counts, Counted, IsBegun, IsTaken};
+ghost use Rattle.rh_words.specs.Words.{Deeds, SaysOf, Answers, counts, Counted, IsBegun, IsTaken, IsWhole};
 
 use crate::output::{PIECE, Unfinished, pass_on};
 use rh_io::{ReadWholeError, Sink, Source, read_whole};
@@ -97,7 +97,7 @@ pub enum Ended {
     ReadFault,
     /// The output failed.
     WriteFault,
-    /// There was no memory.
+    /// There was no memory, for the input or, once that was read whole, for its output.
     NoMemory,
     /// The input is longer than the program reads.
     TooLong,
@@ -151,6 +151,8 @@ pub fn answer<G: Grammar, X: Word<G>, R: Source, W: Sink>(
         × Answers (FirstBad G.rules) X.says result (R.left input.new) came written }
     ensures counted { let counted = counts R.faults R.ends W.faults in
         Counted result (counted input.old output.old) (counted input.new output.new) }
+    ensures whole { IsWhole (R.ends input.old) (R.ends input.new)
+        (W.written output.old) (W.written output.new) }
     ensures taken { (text : List ℕ) → R.left input.old ≡ Some text → IsText G.rules text
         → length text ≤ MOST_INPUT → IsTaken result }
     ensures unfailing { R.unfailing input.old → result ≢ Ended.ReadFault }

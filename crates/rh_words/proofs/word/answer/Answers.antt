@@ -56,6 +56,9 @@ returns-clause-answers g c =
       wrote.0,
       came.1,
       wrote.1,
-      inr
-          (begun g.met.X.Word.means c.deref-2.result.now came.0 wrote.0 is wrote.2),
+      inr (
+        came.2.1,
+        c.in-Ok.ensures.ok.1,
+        begun g.met.X.Word.means c.deref-2.result.now came.0 wrote.0 is wrote.2,
+      ),
     )
