@@ -1,6 +1,6 @@
 -- the stream of a node over the events that reach it, and the law of order of its role's moves, are
 -- its law of streams over all events
-use Rattle.law_order.proofs.Vocabulary.{◌≡◌, ℕ, ◌<◌, Bool, true, false, List, [], ◌∷◌, ◌++◌, ◌⊎◌, inl, inr, if◌then◌else◌, true≢false, nat_le, arith, nat_tests, refl, sym, ap, ◌∙◌, subst, append_assoc, append-nil, list_any, Option, IsPrefix, Item, Log, seen, Passer, PasserLaw, Shelves, Shelved}
+use Rattle.law_order.proofs.Vocabulary.{◌≡◌, ℕ, ◌<◌, Bool, true, false, List, [], ◌∷◌, ◌++◌, ◌⊎◌, inl, inr, if◌then◌else◌, true≢false, nat_le, arith, nat_tests, refl, sym, ap, ◌∙◌, subst, append_assoc, append-nil, list_any, Option, IsPrefix, Item, pdus, Log, seen, Passer, PasserLaw, Shelves, Shelved}
 use Rattle.law_order.proofs.ByNumber.{seen-append}
 use Rattle.law_order.proofs.ItemLists.{neither, nil_front}
 use Rattle.law_moves.proofs.Vocabulary.{Leg, Message, Pipe, Rooms, Rules, Acts, Shell, begun, spelled, same_leg, Move, EndMove, Passage, EndPassage, OnLeg, AreAllowed, AreAllowedAtEnd, all_moved, all_end_moved, started, end_started, of_leg, Event, Hears, EndEvent, after_end_events, messages_read, RefusesInTurn}
@@ -82,6 +82,8 @@ module _ {S : Type 0} (rules : Rules S) (role : S) (rooms : Rooms) (pipe : Leg �
     (law : (moves : List Move) → AreAllowed rules (started role) moves
     → (let p = all_moved rules (started role) moves in
     PasserLaw (passer p.role) first (log p.came) (far p.put)))
+    (returns_none : (moves : List Move) (n : ℕ) → pdus (seen near.view
+    (of_leg (near.leg n) (all_moved rules (started role) moves).put)) ≡ [])
     (refuses : (leg : Leg) → RefusesInTurn rules role pipe leg)
     (stream : (events : List Event) → AreAccepted rules (begun role rooms) events
     → HearsInTurn events → Stream rules role rooms pipe events) where
@@ -97,6 +99,9 @@ module _ {S : Type 0} (rules : Rules S) (role : S) (rooms : Rooms) (pipe : Leg �
               (sees st.passage.came) st.read;
           none = λ n e. kept.unused n (not_from first n e);
         });
+    back = λ n.
+        subst (λ (p : Passage S). pdus (seen near.view (of_leg (near.leg n) p.put)) ≡ [])
+        st.leads.reached (returns_none st.leads.moves n);
   }
     where
       some : List Event

@@ -3,3 +3,4 @@ pub mod Reaching
 pub mod Closing
 pub mod Joining
 pub mod Sides
+pub mod Back

@@ -1,9 +1,9 @@
 -- the law of streams at a node, over any list of its events (profile)
-use Rattle.std.specs.Prelude.{ℕ, List, Bool, true, false}
+use Rattle.std.specs.Prelude.{ℕ, ◌≡◌, List, [], Bool, true, false}
 use Rattle.std.specs.List.{list_any}
 use Rattle.std.specs.declared.option.Option.{Option}
 use mathlib.Core.List.{IsPrefix}
-use Rattle.law_order.specs.Items.{Item}
+use Rattle.law_order.specs.Items.{Item, pdus}
 use Rattle.law_order.specs.Logs.{Log, seen}
 use Rattle.law_order.specs.Passing.{from_first}
 use Rattle.rh_sig.specs.declared.name.Pipe.{Pipe}
@@ -45,6 +45,8 @@ pub record StreamsThrough {S : Type 0} (rules : Rules S) (role : S) (rooms : Roo
       → IsDrawn (of_leg leg put) (drawn_on rules (begun role rooms) leg events)
   pub passes : PassesOn (from_first first)
       (fed_by near pipe (reaching rules (begun role rooms) events)) (far put)
+  -- and no RPC PDU is put back on those
+  pub back : (n : ℕ) → pdus (seen near.view (of_leg (near.leg n) put)) ≡ []
 
 -- ---- an end
 

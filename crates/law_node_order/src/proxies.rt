@@ -35,7 +35,7 @@ use rh_outproxy::OutProxyRole;
 /// in order of their numbers: of each leg those up to IN_R1/A5, and of none behind one without it.
 /// Behind IN_R1/A6 it puts nothing, and behind END/A2 no PDU. It puts IN_R1/A6 only behind all PDUs
 /// that it was fed before the IN_R1/A5 of the last of these legs, and END/A2 only where END/A1 was
-/// fed, behind all PDUs before that.
+/// fed, behind all PDUs before that. On its ci legs it puts no RPC PDU.
 ///
 /// Bytes are fed where the node goes on, on a leg that is up and of use; others change nothing.
 pub fn an_in_proxys_streams_keep_order()
@@ -53,7 +53,7 @@ pub fn an_in_proxys_streams_keep_order()
 }
 
 /// The same at an out proxy, from the server to its client: it is fed up to OUT_R1/A9, and END/B1,
-/// for which it puts OUT_R1/A10 and END/B2.
+/// for which it puts OUT_R1/A10 and END/B2. To the server it puts no RPC PDU.
 pub fn an_out_proxys_streams_keep_order()
     ensures { (config : OutProxyConfig) (events : List Event)
         → StreamsThrough out_proxy.rules (new_proxy config) out_proxies.ROOMS (out_pipe config)
