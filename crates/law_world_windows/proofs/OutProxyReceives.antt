@@ -6,7 +6,7 @@ use Rattle.rh_line.specs.Lines as lines
 use Rattle.rh_line.specs.declared.line_fault.LineFault.TheVariants as line_fault
 use Rattle.rh_outproxy.specs.declared.state.Answer.TheVariants as answers
 use Rattle.rh_outproxy.specs.declared.state.Channel.TheVariants as channels
-use Rattle.law_moves.proofs.Vocabulary.{IsWindow, Receiver, may_send, Ack, by_test, Cookie, Named, Incoming, Line, due, is_empty, moved_on, released, settled, LineFault, Leg, ClientOut, Current, Count, Due, Message, Pdu, Packet, same_leg, Move, AreAllowed, started, all_moved, of_leg}
+use Rattle.law_moves.proofs.Vocabulary.{IsWindow, Receiver, may_send, Ack, by_test, Cookie, Named, Incoming, Line, due, is_empty, moved_on, released, settled, LineFault, Leg, ClientOut, Current, Count, Due, Message, Pdu, Packet, same_leg, Move, AreAllowed, Passage, started, all_moved, of_leg}
 use Rattle.law_moves.proofs.Lemmas.{bytes_rise, all_append}
 use Rattle.law_role_client.proofs.Receiving.Windows.{IsBehind}
 use Rattle.law_role_outproxy.proofs.Vocabulary.{Answer, Channel, OutProxyConfig, OutProxy, new_proxy, has_come, joined, is_server_first, is_due, is_ping_due, Done, is_co, is_os, unexpected, takes_pdus, up, head, first_packet, admitted, line_row, on_pdu, ack_due, drawn, mark, Pick, ping_room, or_else, answer_by, put_answer, waiting_by, put_waiting, pdu_by, put_pdu, put_end, put_handover, put_mark, put_ping, next_co, first_by, put_first, ack_by, put_ack, next_os, put as put_of}
@@ -17,9 +17,10 @@ use Rattle.law_role_windows.specs.Held.{Holds}
 use Rattle.law_node_streams.proofs.Streams.LegLogs.{same_back}
 use Rattle.law_world_windows.proofs.Legs.{on, same_other}
 use Rattle.law_world_windows.proofs.Counts.{all_later}
-use Rattle.law_world_windows.proofs.Receiving.{Receives, came_more, put_within, admitted_size, received_more, refused_same, refused_behind, due_is}
+use Rattle.law_world_windows.proofs.Receiving.{Receives, came_more, put_within, admitted_size, received_more, refused_same, refused_behind, due_is, room_of}
 use Rattle.law_world_windows.proofs.Steps.{RowKeeps, PutKeeps, RowHere, PutHere, row_here, put_here, put_there, StepsKeep, moves_keep}
-use Rattle.law_world_windows.specs.Hops.{os_leg, pdu_bytes, edge_in, greatest_edge, IsTrueAck, IsNoWindow, RefusesBehind, ReceivesWithin}
+use Rattle.law_world_windows.specs.Holding.{held_by_out_proxy}
+use Rattle.law_world_windows.specs.Hops.{HasRoomOn, os_leg, pdu_bytes, edge_in, greatest_edge, IsTrueAck, IsNoWindow, RefusesBehind, ReceivesWithin}
 
 -- what the facts are about
 record Seen : Type 0 where
@@ -402,22 +403,30 @@ co_no_window : (s : OutProxy) (count : Count) (named : Named)
     → IsNoWindow (on_co s count named).1
 co_no_window s count named = search rules
 
-pub out_proxy_receives : (config : OutProxyConfig) (moves : List Move)
-    → IsWindow config.window
-    → ((front : List Move) → AreAllowed proxy_rules (started (new_proxy config)) front
+module _ (config : OutProxyConfig) (moves : List Move) (is : IsWindow config.window)
+    (known : (front : List Move) → AreAllowed proxy_rules (started (new_proxy config)) front
     → Holds config.window (all_moved proxy_rules (started (new_proxy config)) front).role.line)
-    → AreAllowed proxy_rules (started (new_proxy config)) moves
-    → ReceivesWithin proxy_rules (os_leg config.number)
-    (all_moved proxy_rules (started (new_proxy config)) moves)
-out_proxy_receives config moves is known allowed =
-    let start = started (new_proxy config) in
-    let p = all_moved proxy_rules start moves in
-    let leg = os_leg config.number in
-    let h = moves_keep proxy_rules leg (Known config is) (Fine config is) (steps config is) start
-    moves allowed known (starts config is) in
-    record {
-      refuses = λ count bytes.
-          refused_pdu config is p.role count bytes (of_leg leg p.came) (of_leg leg p.put) h;
-      packets = λ count named. no_window p.role leg count named;
-      acks = h.acks;
-    }
+    (allowed : AreAllowed proxy_rules (started (new_proxy config)) moves) where
+  abbrev p : Passage OutProxy
+  p = all_moved proxy_rules (started (new_proxy config)) moves
+
+  abbrev its_leg : Leg
+  its_leg = os_leg config.number
+
+  h : Fine config is p.role (of_leg its_leg p.came) (of_leg its_leg p.put)
+  h =
+      moves_keep proxy_rules its_leg (Known config is) (Fine config is) (steps config is)
+      (started (new_proxy config)) moves allowed known (starts config is)
+
+  pub out_proxy_receives : ReceivesWithin proxy_rules its_leg p
+  out_proxy_receives = record {
+    refuses = λ count bytes.
+        refused_pdu config is p.role count bytes (of_leg its_leg p.came) (of_leg its_leg p.put) h;
+    packets = λ count named. no_window p.role its_leg count named;
+    acks = h.acks;
+  }
+
+  pub out_proxy_has_room : HasRoomOn config.window held_by_out_proxy its_leg p
+  out_proxy_has_room =
+      room_of p.role.line.current config.window (of_leg its_leg p.came) (of_leg its_leg p.put)
+      (known moves allowed).current.within h.window

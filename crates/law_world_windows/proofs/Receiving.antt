@@ -1,11 +1,11 @@
 -- a receive window, and the messages of its leg
 use Rattle.rh_window.specs.Receiving as windows
-use Rattle.law_order.proofs.Vocabulary.{◌≡◌, ℕ, ◌+◌, ◌≤◌, ◌<◌, nat_le, Bool, true, false, if◌then◌else◌, List, [], ◌∷◌, ◌++◌, length, Some, Ok, Err, arith, refl, ap, rules, is_ok, Result, nat_tests}
-use Rattle.law_moves.proofs.Vocabulary.{Receiver, Ack, Incoming, admitted, channel_verdict, by_window, IsWithin, LineFault, Over, Message, Pdu}
+use Rattle.law_order.proofs.Vocabulary.{◌≡◌, ℕ, ◌+◌, ◌-◌, ◌≤◌, ◌<◌, nat_le, Bool, true, false, if◌then◌else◌, List, [], ◌∷◌, ◌++◌, length, Some, Ok, Err, arith, refl, ap, rules, is_ok, Result, nat_tests}
+use Rattle.law_moves.proofs.Vocabulary.{Receiver, Ack, Incoming, admitted, channel_verdict, by_window, IsWithin, LineFault, Over, Message, Pdu, total}
 use Rattle.law_moves.proofs.Lemmas.{bytes_append, bytes_rise}
 use Rattle.law_role_client.proofs.Receiving.Windows.{IsBehind}
 use Rattle.law_world_windows.proofs.Counts.{edges_within}
-use Rattle.law_world_windows.specs.Hops.{pdu_bytes, greatest_edge}
+use Rattle.law_world_windows.specs.Hops.{HasRoom, pdu_bytes, greatest_edge}
 
 -- it counted no more than came, and told all that was put
 pub record Receives (r : Receiver) (came put : List Message) : Type 0 where
@@ -19,6 +19,17 @@ came_more r came put more h = record {
       omega (arith, rise, before);
   told = h.told;
 }
+
+-- and its window is told from behind what it passed on
+pub room_of : (c : Incoming) (size : ℕ) (came put : List Message) → IsWithin c size
+    → Receives c.window came put → HasRoom size (total c.pdus) came put
+room_of c size came put w r =
+    let held = w.held in let advertised = w.advertised in
+    let received = r.received in let told = r.told in
+    record {
+      held = omega (arith, held, received);
+      told = omega (arith, held, advertised, received, told);
+    }
 
 -- what is put that tells no more
 pub put_within : (r : Receiver) (came put more : List Message) → greatest_edge more ≤ r.told

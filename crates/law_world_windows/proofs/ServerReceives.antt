@@ -13,7 +13,7 @@ use Rattle.rh_server.specs.declared.state.InStage.TheVariants as in_stage
 use Rattle.rh_server.specs.declared.state.Leaving.TheVariants as leaving
 use Rattle.rh_server.specs.declared.state.Stage.TheVariants as stages
 use Rattle.rh_server.specs.declared.state.Tells.TheVariants as tells
-use Rattle.law_moves.proofs.Vocabulary.{IsWindow, Receiver, Ack, by_test, same_number, Cookie, Named, Incoming, Line, admitted, released, settled as settled_line, moved_on, is_empty, due, after_admit, after_open_next, after_tell, after_told, front_length, LineFault, Window, Over, Leg, LegKind, ClientOut, OutServer, ClientIn, InServer, Which, Current, Next, Count, Due, Message, Text, Pdu, Packet, same_leg, Waiting, taken as taken_out, greeting as greeting_text, EndMove}
+use Rattle.law_moves.proofs.Vocabulary.{IsWindow, Receiver, Ack, by_test, same_number, Cookie, Named, Incoming, Line, admitted, released, settled as settled_line, moved_on, is_empty, total, due, after_admit, after_open_next, after_tell, after_told, front_length, LineFault, Window, Over, Leg, LegKind, ClientOut, OutServer, ClientIn, InServer, Which, Current, Next, Count, Due, Message, Text, Pdu, Packet, same_leg, Waiting, taken as taken_out, greeting as greeting_text, EndMove}
 use Rattle.law_moves.proofs.Vocabulary.{AreAllowedAtEnd, end_started, all_end_moved, of_leg}
 use Rattle.law_moves.proofs.Lemmas.{bytes_rise, all_append}
 use Rattle.law_role_client.proofs.Receiving.Windows.{IsBehind}
@@ -29,9 +29,10 @@ use Rattle.law_role_windows.specs.Held.{Holds}
 use Rattle.law_world_windows.proofs.Legs.{on}
 use Rattle.law_world_windows.proofs.Counts.{edges_within, all_later}
 use Rattle.law_world_windows.proofs.Places.{all_at, all_set, all_removed, all_weaken}
-use Rattle.law_world_windows.proofs.Receiving.{Receives, came_more, put_within, admitted_size, received_more, refused_behind, IsDueAck, due_is}
+use Rattle.law_world_windows.proofs.Receiving.{Receives, came_more, put_within, admitted_size, received_more, refused_behind, IsDueAck, due_is, room_of}
 use Rattle.law_world_windows.proofs.Steps.{RowKeeps, PutKeeps, StepsKeep, ActsKeep, end_moves_keep}
-use Rattle.law_world_windows.specs.Hops.{is_leg, pdu_bytes, edge_told, edge_in, greatest_edge, IsNoWindow, IsTrueAck, RefusesBehind, ReceivesWithin}
+use Rattle.law_world_windows.specs.Holding.{held_by_server}
+use Rattle.law_world_windows.specs.Hops.{HasRoom, HasRoomOn, is_leg, pdu_bytes, edge_told, edge_in, greatest_edge, IsNoWindow, IsTrueAck, RefusesBehind, ReceivesWithin}
 
 -- ---- what is known of a server's legs
 
@@ -87,6 +88,7 @@ record ReceivesOf (window n : ℕ) (x : Seen) (came put : List Message) : Type 0
   told : is_shut x.edge ≡ false → window ≤ x.current.told
   legs : AllByRecursion (IsLegOf x.leg) x.ins
   acks : AllByRecursion (IsTrueAck (pdu_bytes came)) put
+  room : greatest_edge put ≤ pdu_bytes came + window
 
 -- until CONN/B2 comes the first leg is the current one
 record Kept (window n : ℕ) (s : Server) (came put : List Message) : Type 0 where
@@ -302,6 +304,7 @@ module _ (window n : ℕ) (is : IsWindow window) where
     told = h.told;
     legs = h.legs;
     acks = all_later (pdu_bytes came) (pdu_bytes (came ++ more)) put (bytes_rise came more) h.acks;
+    room = let rise = bytes_rise came more in let before = h.room in omega (arith, rise, before);
   }
 
   kept_on : (s : Server) (came put more : List Message) → Fine s came put
@@ -313,8 +316,9 @@ module _ (window n : ℕ) (is : IsWindow window) where
   put_on : (x : Seen) (came put more : List Message)
       → (x.leg < n → greatest_edge more ≡ 0)
       → (x.leg ≡ n → greatest_edge more ≤ x.current.told)
-      → AllByRecursion (IsTrueAck (pdu_bytes came)) more → Of x came put → Of x came (put ++ more)
-  put_on x came put more none within true_acks h = record {
+      → AllByRecursion (IsTrueAck (pdu_bytes came)) more
+      → greatest_edge more ≤ pdu_bytes came + window → Of x came put → Of x came (put ++ more)
+  put_on x came put more none within true_acks room h = record {
     from_one = h.from_one;
     size = h.size;
     next_size = h.next_size;
@@ -331,6 +335,7 @@ module _ (window n : ℕ) (is : IsWindow window) where
     told = h.told;
     legs = h.legs;
     acks = all_append (IsTrueAck (pdu_bytes came)) put more h.acks true_acks;
+    room = edges_within (pdu_bytes came + window) put more h.room room;
   }
 
   -- a message on the leg of that number: it tells nothing, or its number is at most the current one
@@ -343,15 +348,16 @@ module _ (window n : ℕ) (is : IsWindow window) where
       by : (t : Bool) → Of x came (put ++ (if t then m ∷ [] else []))
       by true =
           put_on x came put (m ∷ []) (λ e. grind (arith, nat_tests, none))
-          (λ e. grind (arith, nat_tests, none)) (true_ack, tt) h
+          (λ e. grind (arith, nat_tests, none)) (true_ack, tt) (grind (arith, nat_tests, none)) h
       by false =
-          put_on x came put [] (λ e. refl) (λ e. omega arith) tt h
+          put_on x came put [] (λ e. refl) (λ e. omega arith) tt (omega arith) h
 
   put_told : (x : Seen) (number : ℕ) (came put : List Message) (m : Message) → number ≤ x.leg
       → (number ≡ x.leg → edge_in m ≤ x.current.told)
-      → (number ≡ n → IsTrueAck (pdu_bytes came) m) → Of x came put
+      → (number ≡ n → IsTrueAck (pdu_bytes came) m)
+      → (number ≡ n → edge_in m ≤ pdu_bytes came + window) → Of x came put
       → Of x came (put ++ on leg (is_leg number) m)
-  put_told x number came put m low within true_ack h =
+  put_told x number came put m low within true_ack room h =
       by (number == n) refl
     where
       by : (t : Bool) → number == n ≡ t → Of x came (put ++ (if t then m ∷ [] else []))
@@ -359,9 +365,9 @@ module _ (window n : ℕ) (is : IsWindow window) where
           let same = same_number number n e in
           put_on x came put (m ∷ []) (λ f. absurd (omega (arith, same, low, f)))
           (λ f. let edge = within (same ∙ sym f) in grind (arith, nat_tests, edge))
-          (true_ack same, tt) h
+          (true_ack same, tt) (let edge = room same in grind (arith, nat_tests, edge)) h
       by false e =
-          put_on x came put [] (λ f. refl) (λ f. omega arith) tt h
+          put_on x came put [] (λ f. refl) (λ f. omega arith) tt (omega arith) h
 
   -- ---- legs
 
@@ -380,6 +386,7 @@ module _ (window n : ℕ) (is : IsWindow window) where
     told = h.told;
     legs = all;
     acks = h.acks;
+    room = h.room;
   }
 
   with_leg : (s : Server) (l : InLeg) (came put : List Message) → IsLegOf s.current.leg l
@@ -451,6 +458,9 @@ module _ (window n : ℕ) (is : IsWindow window) where
           legs = w.legs;
           acks = all_later (pdu_bytes came) (pdu_bytes (came ++ more)) put (bytes_rise came more)
               w.acks;
+          room =
+              let rise = bytes_rise came more in let before = w.room in
+              omega (arith, rise, before);
         };
         opening = h.opening;
       }
@@ -477,6 +487,9 @@ module _ (window n : ℕ) (is : IsWindow window) where
           legs = w.legs;
           acks = all_later (pdu_bytes came) (pdu_bytes (came ++ more)) put (bytes_rise came more)
               w.acks;
+          room =
+              let rise = bytes_rise came more in let before = w.room in
+              omega (arith, rise, before);
         };
         opening = h.opening;
       }
@@ -562,6 +575,7 @@ module _ (window n : ℕ) (is : IsWindow window) where
             told = w.told;
             legs = w.legs;
             acks = w.acks;
+            room = w.room;
           }))
 
       opened_line : Bool → Line
@@ -627,6 +641,7 @@ module _ (window n : ℕ) (is : IsWindow window) where
                 first = is_l.first;
               }) s.ins w.legs;
           acks = w.acks;
+          room = w.room;
         };
         opening = λ e. absurd (true≢false (sym e ∙ opened));
       })
@@ -695,6 +710,7 @@ module _ (window n : ℕ) (is : IsWindow window) where
               told = w.told;
               legs = w.legs;
               acks = w.acks;
+              room = w.room;
             };
             opening = h.opening;
           }
@@ -847,6 +863,7 @@ module _ (window n : ℕ) (is : IsWindow window) where
               told = w.told;
               legs = w.legs;
               acks = w.acks;
+              room = w.room;
             };
             opening = λ g.
                 ((f.opening g).0, ap (λ (x : Line). x.has_next) (sym e) ∙ (f.opening g).1);
@@ -1051,7 +1068,8 @@ module _ (window n : ℕ) (is : IsWindow window) where
   window_put s number l packet came put told true_ack low within is_l h =
       with_leg s l came (put ++ on leg (is_leg number) (Packet packet)) is_l (record {
         window_of = put_told (seen s) number came put (Packet packet) low
-            (λ e. let edge = within e in omega (arith, told, edge)) (λ e. true_ack) h.window_of;
+            (λ e. let edge = within e in omega (arith, told, edge)) (λ e. true_ack)
+            (λ e. omega (arith, told)) h.window_of;
         opening = h.opening;
       })
 
@@ -1100,6 +1118,7 @@ module _ (window n : ℕ) (is : IsWindow window) where
           told = λ e. omega (arith, size);
           legs = w.legs;
           acks = w.acks;
+          room = w.room;
         };
         opening = h.opening;
       }
@@ -1202,7 +1221,13 @@ module _ (window n : ℕ) (is : IsWindow window) where
             let greatest = is.greatest in (
               omega (arith, received, before),
               omega (arith, available, size, greatest),
-            )) told;
+            ))
+            (λ f.
+            let received = d.received in
+            let before = (w.now (sym same ∙ f)).received in
+            let available = d.size in
+            let size = w.size in
+            omega (arith, received, before, available, size)) told;
         opening = h.opening;
       }
     where
@@ -1235,6 +1260,7 @@ module _ (window n : ℕ) (is : IsWindow window) where
             told = λ f. let before = w.told f in omega (arith, before, more);
             legs = w.legs;
             acks = w.acks;
+            room = w.room;
           }
 
   ack_put : (s : Server) (number : ℕ) (l : InLeg) (came put : List Message)
@@ -1343,6 +1369,7 @@ module _ (window n : ℕ) (is : IsWindow window) where
       told = λ e. omega arith;
       legs = tt;
       acks = tt;
+      room = omega arith;
     };
     opening = λ e. (refl, refl);
   }
@@ -1386,6 +1413,32 @@ module _ (window n : ℕ) (is : IsWindow window) where
       by which r =
           verdict which (lines.admit_verdict s.line which pdu)
           (refused_behind (lines.channel_of s.line which) came put pdu r)
+
+  -- ---- what is held
+
+  abbrev Room : List Message → List Message → ℕ → Type 0
+  Room came put holds = HasRoom window holds came put
+
+  has_room : (s : Server) (came put : List Message) → Known window s → Fine s came put
+      → Room came put (held_by_server n s)
+  has_room s came put k h =
+      let w = h.window_of in
+      by_test (Room came put) (s.current.leg == n) (total s.line.current.pdus)
+      (if s.line.has_next && (s.next.leg == n) then total s.line.next.pdus else 0)
+      (λ e. room_of s.line.current window came put k.holds.current.within
+      (w.now (same_number s.current.leg n e)))
+      (λ e. by_test (Room came put) (s.line.has_next && (s.next.leg == n))
+      (total s.line.next.pdus) 0
+      (λ f. next (and_parts s.line.has_next (s.next.leg == n) f).0
+      (same_number s.next.leg n (and_parts s.line.has_next (s.next.leg == n) f).1))
+      (λ f. record { held = omega arith; told = let room = w.room in omega (arith, room) }))
+    where
+      next : s.line.has_next ≡ true → s.next.leg ≡ n → Room came put (total s.line.next.pdus)
+      next there e =
+          let above = k.above there in
+          let none = h.window_of.later (omega (arith, above, e)) in
+          room_of s.line.next window came put (k.holds.next there).within
+          (record { received = h.window_of.behind there e; told = omega (arith, none) })
 
 -- ---- no packet is refused for a window
 
@@ -1435,3 +1488,15 @@ server_receives window n moves is known allowed =
       packets = λ count packet. is_no_window p.role n count packet;
       acks = h.window_of.acks;
     }
+
+pub server_has_room : (window n : ℕ) (moves : List EndMove) → IsWindow window → AllKnown window
+    → AreAllowedAtEnd server_rules server_acts (end_started (first window)) moves
+    → HasRoomOn window (held_by_server n) (is_leg n)
+    (all_end_moved server_rules server_acts (end_started (first window)) moves).passage
+server_has_room window n moves is known allowed =
+    let start = end_started (first window) in
+    let p = (all_end_moved server_rules server_acts start moves).passage in
+    let leg = is_leg n in
+    has_room window n is p.role (of_leg leg p.came) (of_leg leg p.put) (known moves allowed)
+    (end_moves_keep server_rules leg (Known window) (Kept window n) (steps window n is)
+    server_acts (calls window n is) start moves allowed known (starts window n is))

@@ -1,6 +1,6 @@
 -- what the messages of a leg say of the receive window of the hop there (MS-RPCH 3.2): the bytes of
 -- RPC PDUs that were sent, and up to where their sender was told that it may send
-use Rattle.std.specs.Prelude.{◌≡◌, ℕ, ◌+◌, ◌<◌, ◌≤◌, ◌⊎◌, max, List, [], ◌∷◌, length, Err}
+use Rattle.std.specs.Prelude.{◌≡◌, ℕ, ◌+◌, ◌-◌, ◌<◌, ◌≤◌, ◌⊎◌, max, List, [], ◌∷◌, length, Err}
 use Rattle.std.specs.List.{AllByRecursion}
 use Rattle.rh_window.specs.declared.range.TheConstants.{GREATEST_WINDOW}
 use Rattle.rh_sig.specs.declared.named.Named.{Named}
@@ -97,3 +97,13 @@ pub record ReceivesWithin {S : Type 0} (rules : Rules S) (leg : Leg) (p : Passag
   pub packets : (count : Count) (named : Named)
       → IsNoWindow (rules.packet p.role leg count named).1
   pub acks : AllByRecursion (IsTrueAck (pdu_bytes (of_leg leg p.came))) (of_leg leg p.put)
+
+-- it holds no more than came; and all that it told is within a window of this size, which begins
+-- behind what it passed on: behind what came and is not held
+pub record HasRoom (size holds : ℕ) (came put : List Message) : Type 0 where
+  pub held : holds ≤ pdu_bytes came
+  pub told : greatest_edge put ≤ (pdu_bytes came - holds) + size
+
+abbrev pub HasRoomOn : {S : Type 0} → ℕ → (S → ℕ) → Leg → Passage S → Type 0
+HasRoomOn size held leg p =
+    HasRoom size (held p.role) (of_leg leg p.came) (of_leg leg p.put)

@@ -1,4 +1,5 @@
 pub mod Hops
+pub mod Holding
 pub mod Refusing
 pub mod ClientHops
 pub mod Windowed

@@ -29,8 +29,9 @@ use rh_world::WorldConfig;
 /// In each world of new roles whose numbers are in their ranges, at every moment that changes of
 /// lines and half steps reach, of each in proxy's hop to the server and of the server's to each out
 /// proxy: the bytes of RPC PDUs that came are at most those that were sent, those at most the edge
-/// that the sender was told, and that at most the edge that the receiver told. Each acknowledgement
-/// that the receiver put, so each that is on its way, is of no more than came (MS-RPCH 3.2).
+/// that the sender was told, that at most the edge that the receiver told, and that at most what it
+/// passed on and its window. Each acknowledgement that the receiver put, so each that is on its
+/// way, is of no more than came (MS-RPCH 3.2).
 pub fn hops_on_one_leg_are_kept<K>()
     ensures { InNewWorlds K (λ m w ours. AtEachMoment m w (λ v by.
         HopsAreKept m w ours v by)) }

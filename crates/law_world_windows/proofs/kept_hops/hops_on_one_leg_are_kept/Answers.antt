@@ -8,21 +8,21 @@ use Rattle.law_node_history.specs.Histories.{IsNew}
 use Rattle.law_node_traces.specs.Traced.Ours.{AreOurs, deeds, rules}
 use Rattle.law_world_order.specs.Flows.{numbers_of}
 use Rattle.law_world_order.specs.Premises.{AreInRange}
-use Rattle.law_world_windows.proofs.EachHop.{hops_are_kept}
+use Rattle.law_world_windows.proofs.EachHop.{RoomLaws, hops_are_kept}
 use Rattle.law_world_windows.proofs.HopsKept.{HopLaws}
 use Rattle.law_world_windows.proofs.Moment.{Laws}
 use Rattle.law_world_windows.proofs.kept_hops.hops_on_one_leg_are_kept.Goals as goal
 
 pub returns : goal.returns
 returns g c = λ m w new ours ranges.
-    hops_are_kept hop m w ours ranges (law m w new ours ranges)
+    hops_are_kept hop rooms m w ours ranges (law m w new ours ranges)
   where
     hop : HopLaws
     hop = record {
-      server_receives = c.a_server_receives_within_its_window.ensures;
+      server_receives = c.a_server_receives_within_its_window.ensures.refused;
       server_sends = c.a_server_sends_within_the_proxys_window.ensures;
       in_sends = c.an_in_proxy_sends_within_the_servers_window.ensures;
-      out_receives = c.an_out_proxy_receives_within_its_window.ensures;
+      out_receives = c.an_out_proxy_receives_within_its_window.ensures.refused;
       in_refuses = c.a_proxy_refuses_for_a_reason.ensures.in_proxy;
       out_refuses = c.a_proxy_refuses_for_a_reason.ensures.out_proxy;
       readings = record {
@@ -48,6 +48,12 @@ returns g c = λ m w new ours ranges.
         closed = c.a_node_closes_once-3.ensures.closed;
         again = c.a_node_closes_once-3.ensures.again;
       };
+    }
+
+    rooms : RoomLaws
+    rooms = record {
+      server = c.a_server_receives_within_its_window.ensures.told;
+      outs = c.an_out_proxy_receives_within_its_window.ensures.told;
     }
 
     law : (m : Makers g.row.K.Denot InProxy OutProxy)

@@ -28,10 +28,10 @@ returns g c = record {
   where
     hop : HopLaws
     hop = record {
-      server_receives = c.a_server_receives_within_its_window.ensures;
+      server_receives = c.a_server_receives_within_its_window.ensures.refused;
       server_sends = c.a_server_sends_within_the_proxys_window.ensures;
       in_sends = c.an_in_proxy_sends_within_the_servers_window.ensures;
-      out_receives = c.an_out_proxy_receives_within_its_window.ensures;
+      out_receives = c.an_out_proxy_receives_within_its_window.ensures.refused;
       in_refuses = c.a_proxy_refuses_for_a_reason.ensures.in_proxy;
       out_refuses = c.a_proxy_refuses_for_a_reason.ensures.out_proxy;
       readings = record {
