@@ -97,7 +97,7 @@ pub record TellsNothingLost (before : List Line) : Type 0 where
 -- and in order, and all of it at a clean end, which is final; and a report of roles counts what it
 -- tells, by its last lines, behind which nothing stands. Each answer to a give names the end of its
 -- line. Behind each front of the lines, and in each state that changes lead to from there, no more
--- is held for a channel than its window; a hop on one leg is kept, nothing stands behind a handover
+-- is held for a channel than its window; each hop is kept, nothing stands behind a handover
 -- mark, no in proxy put an RPC PDU of a successor early, and what was given is what was taken and
 -- what is on its way, unless a leg is lost; and none is lost where nothing broke, so in no direct
 -- recording. Each line closes nodes for a reason, and none for what another node did; in all of the

@@ -6,3 +6,5 @@ pub mod Stops
 pub mod Moments
 pub mod Closing
 pub mod Joining
+mod Kept
+pub mod KeptMoments

@@ -1,6 +1,6 @@
 -- a receive window, and the messages of its leg
 use Rattle.rh_window.specs.Receiving as windows
-use Rattle.law_order.proofs.Vocabulary.{◌≡◌, ℕ, ◌+◌, ◌-◌, ◌≤◌, ◌<◌, nat_le, Bool, true, false, if◌then◌else◌, List, [], ◌∷◌, ◌++◌, length, Some, Ok, Err, arith, refl, ap, rules, is_ok, Result, nat_tests}
+use Rattle.law_order.proofs.Vocabulary.{◌≡◌, ℕ, ◌+◌, ◌≤◌, ◌<◌, nat_le, Bool, true, false, if◌then◌else◌, List, [], ◌∷◌, ◌++◌, length, Some, Ok, Err, arith, refl, ap, rules, is_ok, Result, nat_tests}
 use Rattle.law_moves.proofs.Vocabulary.{Receiver, Ack, Incoming, admitted, channel_verdict, by_window, IsWithin, LineFault, Over, Message, Pdu, total}
 use Rattle.law_moves.proofs.Lemmas.{bytes_append, bytes_rise}
 use Rattle.law_role_client.proofs.Receiving.Windows.{IsBehind}

@@ -10,6 +10,7 @@ use Rattle.rh_nodes.specs.Opening.{Makers}
 use Rattle.rh_nodes.specs.World.{World}
 use Rattle.law_moves.specs.Moves.{Passage}
 use Rattle.law_moves.specs.Wires.{of_leg}
+use Rattle.law_node_history.specs.Carried.{happened}
 use Rattle.rh_world.specs.declared.any_world.AnyWorld.{AnyWorld}
 use Rattle.rh_world.specs.declared.any_world.AnyWorld.TheVariants.{Before, Direct, Settings, Roles}
 use Rattle.rh_world.specs.declared.config.WorldConfig.{WorldConfig}
@@ -18,6 +19,8 @@ use Rattle.law_node_traces.specs.Traced.Cookies.{ByChanges}
 use Rattle.law_node_traces.specs.Traced.Ours.{AreOurs, deeds, rules}
 use Rattle.law_node_traces.specs.Traced.Recordings.{history_at}
 use Rattle.law_world_order.specs.Flows.{IsFlowing, numbers_of}
+use Rattle.law_world_order.specs.Premises.{AreDistinct}
+use Rattle.law_world_windows.specs.KeptAfar.{ClientHopsAreKept}
 use Rattle.law_world_windows.specs.Holding.{held_by_out_proxy, held_by_server}
 use Rattle.law_world_windows.specs.Hops.{HasRoomOn, IsTrueAck, greatest_edge, is_leg, os_leg, pdu_bytes}
 
@@ -52,7 +55,13 @@ abbrev pub IsBehind : WorldConfig → roles.World → Type 0
 IsBehind config world =
     ByChanges roles.rules roles.makers roles.deeds (roles.begun config) world
 
--- such changes lead to the world from its settings. Whichever they were, these hops are kept
+-- the legs of the client of one kind came up under cookies that differ
+abbrev pub IsApart : (config : WorldConfig) (world : roles.World) → IsBehind config world → Type 0
+IsApart config world by =
+    AreDistinct (happened (history_at roles.makers (roles.begun config) world by.leads).client)
+
+-- such changes lead to the world from its settings. Whichever they were, these hops are kept; and
+-- those of the client, where its legs came up apart, as they do
 pub record RolesKeepHops (world : roles.World) : Type 0 where
   pub config : WorldConfig
   pub settings : world.cast ≡ config
@@ -60,6 +69,10 @@ pub record RolesKeepHops (world : roles.World) : Type 0 where
   pub by : IsBehind config world
   pub hops : (any : IsBehind config world)
       → HopsAreKept roles.makers (roles.begun config) ours world any
+  pub apart : IsApart config world by
+  pub client_hops : (any : IsBehind config world) → IsApart config world any
+      → ClientHopsAreKept roles.makers (roles.begun config) ours world
+      (history_at roles.makers (roles.begun config) world any.leads) (hops any).flowing
 
 -- only a world of roles has hops
 abbrev pub KeepsHops : AnyWorld → Type 0

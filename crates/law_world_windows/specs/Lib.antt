@@ -3,4 +3,5 @@ pub mod Holding
 pub mod Refusing
 pub mod ClientHops
 pub mod Windowed
+pub mod KeptAfar
 pub mod KeptHops

@@ -11,9 +11,10 @@ ghost use Rattle.law_node_history.specs.Changes.{Change, MayChange};
 ghost use Rattle.law_node_history.specs.Closes.{ClosesNode};
 ghost use Rattle.law_node_traces.specs.Traced.Ours.{rules};
 ghost use Rattle.law_node_traces.specs.Traced.Recordings.{history_at};
-ghost use Rattle.law_world_order.specs.Flows.{numbers_of};
+ghost use Rattle.law_world_order.specs.Flows.{IsFlowing, numbers_of};
 ghost use Rattle.law_world_order.specs.Premises.{AreDistinct, AtEachMoment, InNewWorlds};
 ghost use Rattle.law_world_windows.specs.ClientHops.{HasOneWindow};
+ghost use Rattle.law_world_windows.specs.KeptAfar.{ClientHopsAreKept};
 
 use law_moves::{
     a_piece_reads_well, all_that_was_put_is_read, cuts_change_nothing, first_cause_is_kept,
@@ -27,13 +28,15 @@ use law_node_traces::{a_recording_of_roles_is_known, what_is_heard_was_drawn_bef
 use law_role_client::{
     a_client_acknowledges_what_came, a_client_begins_each_channel_once,
     a_client_receives_within_its_window, a_client_sends_as_it_was_told,
+    a_client_tells_what_its_windows_told,
 };
 use law_role_client_rows::a_client_opens_out_channels_in_order;
 use law_role_outproxy::an_out_proxy_sends_within_the_clients_window;
 use law_role_windows::{
-    a_server_passes_acknowledgements_on, a_server_tells_what_it_was_told,
-    an_in_proxy_acknowledges_what_came, an_in_proxy_passes_acknowledgements_on,
-    an_in_proxy_receives_within_its_window, an_in_proxy_tells_its_window,
+    a_client_tells_within_its_window, a_server_passes_acknowledgements_on,
+    a_server_tells_what_it_was_told, an_in_proxy_acknowledges_what_came,
+    an_in_proxy_passes_acknowledgements_on, an_in_proxy_receives_within_its_window,
+    an_in_proxy_tells_its_window, an_in_proxy_tells_within_its_window,
     an_out_proxy_passes_acknowledgements_on, an_out_proxy_tells_what_it_was_told,
 };
 use law_world_honest::what_is_heard_reads_well;
@@ -48,7 +51,9 @@ use rh_server::ServerRole;
 /// the client of one kind came up under one cookie: no further change closes a node for a hop
 /// between the client and its proxies. No in proxy and no out proxy closes with `WindowExceeded` or
 /// `OutOfRange` for what the client sent, nor the client for what an out proxy sent; and no out
-/// proxy closes with `OutOfRange` at all (MS-RPCH 3.2, 3.2.1).
+/// proxy closes with `OutOfRange` at all. Each of these hops is kept: what came is at most what was
+/// sent, that is within an edge that the sender knows, which the receiver told, and what this told
+/// is within its window, which begins behind what it passed on (MS-RPCH 3.2, 3.2.1).
 pub fn no_hop_of_a_client_closes_a_node<K>()
     ensures in_window { InNewWorlds K (λ m w ours. HasOneWindow (numbers_of ours)
         → AtEachMoment m w (λ v by.
@@ -81,12 +86,20 @@ pub fn no_hop_of_a_client_closes_a_node<K>()
         → (change : Change) → MayChange rules v change → (k : ℕ) (leg : Leg)
         (command value : ℕ)
         → ClosesNode rules v change (Out k) (OutOfRange leg command value) → ⊥)) }
+    ensures kept { InNewWorlds K (λ m w ours. HasOneWindow (numbers_of ours)
+        → AtEachMoment m w (λ v by.
+        AreDistinct (happened (history_at m w v by.leads).client)
+        → (flowing : IsFlowing (numbers_of ours) w v (history_at m w v by.leads))
+        → ClientHopsAreKept m w ours v (history_at m w v by.leads) flowing)) }
 {
     a_client_sends_as_it_was_told();
     a_client_begins_each_channel_once();
     a_client_opens_out_channels_in_order();
     a_client_receives_within_its_window();
     a_client_acknowledges_what_came();
+    a_client_tells_what_its_windows_told();
+    a_client_tells_within_its_window();
+    an_in_proxy_tells_within_its_window();
     an_in_proxy_receives_within_its_window();
     an_in_proxy_acknowledges_what_came();
     an_in_proxy_passes_acknowledgements_on();

@@ -1,4 +1,4 @@
-//! The hops on one leg are kept. These functions do nothing: their contracts are the laws.
+//! The hops are kept. These functions do nothing: their contracts are the laws.
 
 ghost use Rattle.std.specs.Prelude.{List};
 ghost use Rattle.rh_record.specs.declared.line.Line.{Line};
@@ -7,6 +7,7 @@ ghost use Rattle.rh_world.specs.Any.{after};
 ghost use Rattle.law_world_order.specs.Premises.{AtEachMoment, InNewWorlds};
 ghost use Rattle.law_world_windows.specs.KeptHops.{HopsAreKept, KeepsHops};
 
+use crate::client_hops::no_hop_of_a_client_closes_a_node;
 use crate::in_proxy::an_in_proxy_sends_within_the_servers_window;
 use crate::out_proxy::an_out_proxy_receives_within_its_window;
 use crate::server::{a_server_receives_within_its_window, a_server_sends_within_the_proxys_window};
@@ -18,7 +19,7 @@ use law_node_causes::{a_node_closes_once, a_proxy_refuses_for_a_reason};
 use law_node_history::what_is_heard_was_drawn;
 use law_node_traces::{a_recording_of_roles_is_known, what_is_heard_was_drawn_before};
 use law_world_honest::what_is_heard_reads_well;
-use law_world_order::what_is_put_is_legible;
+use law_world_order::{cookies_are_drawn_for_channels, what_is_put_is_legible};
 use law_world_reports::windows_hold_in_a_world_of_roles;
 use rh_client::ClientRole;
 use rh_inproxy::InProxyRole;
@@ -60,10 +61,13 @@ pub fn hops_on_one_leg_are_kept<K>()
     a_node_closes_once::<OutProxyRole>();
 }
 
-/// So it is at every moment of every recording, which is behind any of its lines.
+/// So it is at every moment of every recording, which is behind any of its lines; and so it is of
+/// the client's hop to each in proxy that reads a leg of it, and of each out proxy's to the client.
 pub fn hops_of_a_recording_are_kept()
     ensures { (before : List Line) → KeepsHops (after Before before) }
 {
     windows_hold_in_a_world_of_roles();
+    cookies_are_drawn_for_channels::<WorldConfig>();
     hops_on_one_leg_are_kept::<WorldConfig>();
+    no_hop_of_a_client_closes_a_node::<WorldConfig>();
 }

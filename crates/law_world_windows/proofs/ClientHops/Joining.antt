@@ -18,9 +18,10 @@ use Rattle.law_role_windows.proofs.Acknowledging.Found.{has_found}
 use Rattle.law_role_windows.specs.Acknowledging.Acks.{IsPassedOn, IsTrue, IsTrueOn, PassesOn}
 use Rattle.law_role_windows.specs.Acknowledging.Receiving.{EndsBehind, ReceivesOn, RefusesOnly}
 use Rattle.law_role_windows.specs.Acknowledging.Windows.{ByConnB2, ByConnC1, ByConnC2, ByInR1A2, ByInR1A3, ByInR1A4, Tells, TellsFrom, TellsOwn}
-use Rattle.law_world_windows.proofs.ClientHops.Roles.{Acks, ClientBegins, ClientReceives, ClientSends, InProxySees, IsFalse, IsToldIn, IsToldOut, OutProxySees, ServerSees, TellsClient, TellsOutProxy, TellsProxy, TellsServer}
+use Rattle.law_world_windows.proofs.ClientHops.Roles.{Acks, ClientBegins, ClientReceives, ClientSends, InProxySees, IsFalse, IsToldIn, IsToldOut, OutProxySees, ServerSees, TellsOutProxy, TellsProxy, TellsServer}
 use Rattle.law_world_windows.proofs.ClientHops.Roles as roles
 use Rattle.law_world_windows.specs.Hops.{is_leg, os_leg}
+use Rattle.law_world_windows.specs.KeptAfar.{TellsClient}
 
 -- ---- packets in a list
 
@@ -305,6 +306,38 @@ client_opens_once config moves law (suc n) =
     (Begins (out_way config) (HasComeUp moves) (OpenedBefore config moves) n)
     (of_leg (co (suc n)) (client_moved config moves).passage.put) (law (suc n))
 
+-- each window with which it opens an OUT channel is so
+pub client_opened : (P : ℕ → Type 0) (edge : ℕ) (ms : List Message)
+    → ((version : ℕ) (connection channel : Cookie) (window : ℕ)
+    → Has (ConnA1 version connection channel window) ms → P window)
+    → ((version : ℕ) (connection predecessor channel : Cookie) (window : ℕ)
+    → Has (OutR1A3 version connection predecessor channel window) ms → P window)
+    → HasOne (TellsProxy edge) ms → P edge
+client_opened P edge [] first later has = absurd has
+client_opened P edge (Text bytes ∷ ms) first later has =
+    client_opened P edge ms (λ v c h w is. first v c h w (inr is))
+    (λ v c q h w is. later v c q h w (inr is)) has
+client_opened P edge (Pdu pdu ∷ ms) first later has =
+    client_opened P edge ms (λ v c h w is. first v c h w (inr is))
+    (λ v c q h w is. later v c q h w (inr is)) has
+client_opened P edge (Packet named ∷ ms) first later (inr has) =
+    client_opened P edge ms (λ v c h w is. first v c h w (inr is))
+    (λ v c q h w is. later v c q h w (inr is)) has
+client_opened P edge (Packet named ∷ ms) first later (inl is) =
+    one named is (λ v c h w e. first v c h w (inl e)) (λ v c q h w e. later v c q h w (inl e))
+  where
+    one : (x : Named) → TellsProxy edge x
+        → ((version : ℕ) (connection channel : Cookie) (window : ℕ)
+        → Packet x ≡ Packet (ConnA1 version connection channel window) → P window)
+        → ((version : ℕ) (connection predecessor channel : Cookie) (window : ℕ)
+        → Packet x ≡ Packet (OutR1A3 version connection predecessor channel window) → P window)
+        → P edge
+    one (ConnA1 version connection channel window) is first later =
+        subst P is (first version connection channel window refl)
+    one (OutR1A3 version connection predecessor channel window) is first later =
+        subst P is (later version connection predecessor channel window refl)
+    one x is first later = search
+
 module _ (moves : List EndMove) (p : Passage ClientRole) where
   client_told : (n edge : ℕ) (named : Named)
       → sends.TellsEdge (λ cookie. HasBegunIn cookie (of_leg (ci n) p.put)) named edge
@@ -368,42 +401,6 @@ module _ (moves : List EndMove) (p : Passage ClientRole) where
         subst sends.IsInRange e (law.pdus (co k) count pdu);
   }
 
-  client_opened : (k reached edge : ℕ) → receives.IsBehindWindow k p.put reached
-      → HasOne (TellsProxy edge) (of_leg (co k) p.put) → edge < reached
-  client_opened k reached edge law has = opened (of_leg (co k) p.put) law.first law.later has
-    where
-      opened : (ms : List Message)
-          → ((version : ℕ) (connection channel : Cookie) (window : ℕ)
-          → Has (ConnA1 version connection channel window) ms → window < reached)
-          → ((version : ℕ) (connection predecessor channel : Cookie) (window : ℕ)
-          → Has (OutR1A3 version connection predecessor channel window) ms → window < reached)
-          → HasOne (TellsProxy edge) ms → edge < reached
-      opened [] first later has = absurd has
-      opened (Text bytes ∷ ms) first later has =
-          opened ms (λ v c h w is. first v c h w (inr is))
-          (λ v c q h w is. later v c q h w (inr is)) has
-      opened (Pdu pdu ∷ ms) first later has =
-          opened ms (λ v c h w is. first v c h w (inr is))
-          (λ v c q h w is. later v c q h w (inr is)) has
-      opened (Packet named ∷ ms) first later (inr has) =
-          opened ms (λ v c h w is. first v c h w (inr is))
-          (λ v c q h w is. later v c q h w (inr is)) has
-      opened (Packet named ∷ ms) first later (inl is) =
-          one named is (λ v c h w e. first v c h w (inl e)) (λ v c q h w e. later v c q h w (inl e))
-        where
-          one : (x : Named) → TellsProxy edge x
-              → ((version : ℕ) (connection channel : Cookie) (window : ℕ)
-              → Packet x ≡ Packet (ConnA1 version connection channel window) → window < reached)
-              → ((version : ℕ) (connection predecessor channel : Cookie) (window : ℕ)
-              → Packet x ≡ Packet (OutR1A3 version connection predecessor channel window)
-              → window < reached) → edge < reached
-          one (ConnA1 version connection channel window) is first later =
-              subst (λ (w : ℕ). w < reached) is (first version connection channel window refl)
-          one (OutR1A3 version connection predecessor channel window) is first later =
-              subst (λ (w : ℕ). w < reached) is
-              (later version connection predecessor channel window refl)
-          one x is first later = search
-
   pub client_receives : ((k : ℕ) (count : Count) (bytes : List ℕ)
       → receives.RefusesBehind (receives.IsBehindWindow k p.put)
       (pdu_bytes (of_leg (co k) p.came) + length bytes)
@@ -419,9 +416,11 @@ module _ (moves : List EndMove) (p : Passage ClientRole) where
       → receives.IsTrueAck moves p.came received available cookie) → ClientReceives moves p
   client_receives windows acks packets truth = record {
     exceeded = λ k count pdu exceeded e edge has.
-        client_opened k (pdu_bytes (of_leg (co k) p.came) + length pdu) edge
-        (subst (receives.RefusesBehind (receives.IsBehindWindow k p.put)
-        (pdu_bytes (of_leg (co k) p.came) + length pdu)) e (windows k count pdu)) has;
+        let reached = pdu_bytes (of_leg (co k) p.came) + length pdu in
+        let law = subst (receives.RefusesBehind (receives.IsBehindWindow k p.put) reached) e
+        (windows k count pdu) in
+        client_opened (λ (window : ℕ). window < reached) edge (of_leg (co k) p.put) law.first
+        law.later has;
     exceeded_ack = λ k count pdu exceeded e l received available cookie has up only.
         subst (receives.RefusesBehind (receives.IsBehindAcks k moves p.put)
         (pdu_bytes (of_leg (co k) p.came) + length pdu)) e (acks k count pdu) (ci l) received

@@ -46,20 +46,20 @@ module _ (reader : ℕ → ℕ) (all : Passages) (joined : AreJoined reader all)
   -- ---- what is known of an acknowledgement
 
   -- one to the client that an in proxy put: of the IN channel of its cookie
-  record IsOfIn (n received available : ℕ) (cookie : Cookie) (m : ℕ) : Type 0 where
-    begun : HasBegunIn cookie (of_leg (ci n) (all.ins m).came)
-    came : received ≤ pdu_bytes (of_leg (ci n) (all.ins m).came)
-    small : available ≤ GREATEST_WINDOW
+  pub record IsOfIn (n received available : ℕ) (cookie : Cookie) (m : ℕ) : Type 0 where
+    pub begun : HasBegunIn cookie (of_leg (ci n) (all.ins m).came)
+    pub came : received ≤ pdu_bytes (of_leg (ci n) (all.ins m).came)
+    pub small : available ≤ GREATEST_WINDOW
 
   -- a channel that began there came up under the cookie
-  came_in : (m n : ℕ) (cookie : Cookie) → HasBegunIn cookie (of_leg (ci n) (all.ins m).came)
+  pub came_in : (m n : ℕ) (cookie : Cookie) → HasBegunIn cookie (of_leg (ci n) (all.ins m).came)
       → HasComeUp moves (ci n) cookie
   came_in m n cookie begun =
       honest.begins.ins n cookie
       (front_one (BeginsIn cookie) (of_leg (ci n) (all.ins m).came) (of_leg (ci n) all.client.put)
       (in_front reader all joined m n) begun)
 
-  of_in : (m n received available : ℕ) (cookie : Cookie)
+  pub of_in : (m n received available : ℕ) (cookie : Cookie)
       → Has (AckTo 0 received available cookie) (of_leg (is_leg m) (all.ins m).put)
       → HasComeUp moves (ci n) cookie → IsOfIn n received available cookie m
   of_in m n received available cookie has raised =
@@ -76,11 +76,11 @@ module _ (reader : ℕ → ℕ) (all : Passages) (joined : AreJoined reader all)
       (record { begun = is.begun; came = is.came; small = is.window })
 
   -- one of the client for an out proxy: of the OUT channel of its cookie
-  record IsOfClient (n received available : ℕ) : Type 0 where
-    came : received ≤ pdu_bytes (of_leg (co n) all.client.came)
-    small : available ≤ GREATEST_WINDOW
+  pub record IsOfClient (n received available : ℕ) : Type 0 where
+    pub came : received ≤ pdu_bytes (of_leg (co n) all.client.came)
+    pub small : available ≤ GREATEST_WINDOW
 
-  of_client : (l n received available : ℕ) (cookie : Cookie)
+  pub of_client : (l n received available : ℕ) (cookie : Cookie)
       → Has (AckTo 3 received available cookie) (of_leg (ci l) all.client.put)
       → HasBegunOut cookie (of_leg (co n) all.client.put) → IsOfClient n received available
   of_client l n received available cookie has begun =
@@ -96,7 +96,7 @@ module _ (reader : ℕ → ℕ) (all : Passages) (joined : AreJoined reader all)
       (honest.apart.outs cookie is.number n is.begun (honest.begins.outs n cookie begun))
       (record { came = is.came; small = is.window })
 
-  began_out : (n : ℕ) (cookie : Cookie) → HasBegunOut cookie (of_leg (co n) (all.outs n).came)
+  pub began_out : (n : ℕ) (cookie : Cookie) → HasBegunOut cookie (of_leg (co n) (all.outs n).came)
       → HasBegunOut cookie (of_leg (co n) all.client.put)
   began_out n cookie begun =
       front_one (BeginsOut cookie) (of_leg (co n) (all.outs n).came)

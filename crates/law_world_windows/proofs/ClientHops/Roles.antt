@@ -4,16 +4,17 @@ use Rattle.rh_shell.specs.declared.answers.Refused.TheVariants as refused
 use Rattle.rh_inproxy.specs.Machine as in_proxy
 use Rattle.rh_outproxy.specs.Machine as out_proxy
 use Rattle.rh_client.specs.Client as client
-use Rattle.law_moves.proofs.Vocabulary.{WindowExceeded, GREATEST_WINDOW, Cookie, Named, AckTo, ConnB2, ConnC1, ConnC2, InR1A2, InR1A3, InR1A4, Leg, ClientIn, InServer, OutServer, Count, Message, EndMove, OnLeg, Passage, of_leg, pdu_bytes, Has, HasOn, HasOne, HasBegunIn, HasBegunOut, HasComeUp}
+use Rattle.law_moves.proofs.Vocabulary.{WindowExceeded, GREATEST_WINDOW, Cookie, Named, AckTo, ConnB2, ConnC1, InR1A2, InR1A3, Leg, ClientIn, InServer, OutServer, Count, Message, EndMove, OnLeg, Passage, of_leg, pdu_bytes, Has, HasOn, HasOne, HasBegunIn, HasBegunOut, HasComeUp}
 use Rattle.law_role_inproxy.proofs.Vocabulary.{InProxy}
 use Rattle.law_role_client.proofs.Vocabulary.{ClientRole, ci, co}
 use Rattle.law_role_server.proofs.Vocabulary.{Server}
 use Rattle.law_role_outproxy.proofs.Vocabulary.{OutProxy, TellsWindow}
 use Rattle.law_world_windows.specs.Hops.{is_leg, os_leg}
+use Rattle.law_world_windows.specs.KeptAfar.{TellsClient}
 
 -- ---- packets that tell a window
 
--- an in proxy's window: as it puts it, as the server passes it on, and as it comes to the client
+-- an in proxy's window: as it puts it, and as the server passes it on
 abbrev pub TellsServer : ℕ → Named → Type 0
 TellsServer edge (ConnB2 version connection channel window timeout group address padding) =
     window ≡ edge
@@ -24,11 +25,6 @@ abbrev pub TellsOutProxy : ℕ → Named → Type 0
 TellsOutProxy edge (ConnC1 version window timeout) = window ≡ edge
 TellsOutProxy edge (InR1A3 to version window timeout) = window ≡ edge
 TellsOutProxy edge packet = ⊥
-
-abbrev pub TellsClient : ℕ → Named → Type 0
-TellsClient edge (ConnC2 version window timeout) = window ≡ edge
-TellsClient edge (InR1A4 to version window timeout) = window ≡ edge
-TellsClient edge packet = ⊥
 
 -- and the client's window, which opens an OUT channel
 abbrev pub TellsProxy : ℕ → Named → Type 0

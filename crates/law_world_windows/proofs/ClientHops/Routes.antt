@@ -9,8 +9,9 @@ use Rattle.law_role_server.proofs.Vocabulary.{Server}
 use Rattle.law_peers_moments.proofs.Joining.{in_front, nothing_front}
 use Rattle.law_peers_moments.proofs.Read.{front_has, front_one}
 use Rattle.law_peers_moments.specs.Moments.{AreJoined, Passages, end_of}
-use Rattle.law_world_windows.proofs.ClientHops.Roles.{AreApart, ClientBegins, ClientReceives, ClientSends, InProxySees, OutProxySees, ServerSees, TellsClient, TellsOutProxy, TellsServer}
+use Rattle.law_world_windows.proofs.ClientHops.Roles.{AreApart, ClientBegins, ClientReceives, ClientSends, InProxySees, OutProxySees, ServerSees, TellsOutProxy, TellsServer}
 use Rattle.law_world_windows.specs.Hops.{is_leg, os_leg}
+use Rattle.law_world_windows.specs.KeptAfar.{TellsClient}
 
 -- each role sees to its part, the client behind these moves; the in proxies have one window
 pub record AreHonest (window : ℕ) (moves : List EndMove) (all : Passages) : Type 0 where

@@ -18,6 +18,7 @@ use Rattle.law_world_windows.proofs.Stopping.{Readings}
 use Rattle.law_world_windows.proofs.ClientHops.Closing.{NodesLaws, no_client_range, no_client_window, no_in_range, no_in_window, no_out_range, no_out_window}
 use Rattle.law_world_windows.proofs.ClientHops.Honest.{RoleLaws}
 use Rattle.law_world_windows.proofs.ClientHops.Joining.{client_begins, client_opens_once, client_receives, client_sends, in_proxy_sees, out_proxy_sees, server_sees}
+use Rattle.law_world_windows.proofs.ClientHops.KeptMoments.{RoomLaws, client_hops_are_kept}
 use Rattle.law_world_windows.proofs.client_hops.no_hop_of_a_client_closes_a_node.Goals as goal
 
 pub returns : goal.returns
@@ -40,6 +41,9 @@ returns g c = record {
   out_range = λ m w new ours ranges one v by distinct change may k leg command value closes.
       no_out_range roles nodes reads readings m w ours ranges one (law m w new ours ranges)
       (alone m w) v by distinct change may k leg command value closes;
+  kept = λ m w new ours ranges one.
+      client_hops_are_kept roles rooms reads m w ours ranges one (law m w new ours ranges)
+      (alone m w);
 }
   where
     roles : RoleLaws
@@ -80,6 +84,13 @@ returns g c = record {
           (c.an_out_proxy_passes_acknowledgements_on.ensures config moves)
           (c.an_out_proxy_tells_what_it_was_told.ensures.connected config moves)
           (c.an_out_proxy_tells_what_it_was_told.ensures.replaced config moves);
+    }
+
+    rooms : RoomLaws
+    rooms = record {
+      ins = c.an_in_proxy_tells_within_its_window.ensures;
+      client = c.a_client_tells_within_its_window.ensures;
+      opens = c.a_client_tells_what_its_windows_told.ensures.opened;
     }
 
     nodes : NodesLaws
