@@ -95,7 +95,8 @@ fn a_failing_input_or_output_is_told(rt: HostRuntime) -> Result<(), Fail> {
         "050014031000000018000000000000000000010007000000\n",
         9000,
     )?;
-    let steps = lines(&rt, "server\nstate\n", 9000)?;
+    let mut steps = String::from_str(rt.alloc(), "server\n")?;
+    steps.push_str(lines(&rt, "state\n", 18_000)?.as_str())?;
     assert!(rt; fails::<Recording, Replay>(&rt, short.as_bytes(), 1, 1)?);
     assert!(rt; fails::<Recording, Replay>(&rt, long.as_bytes(), 2, 3)?);
     assert!(rt; fails::<Packets, Show>(&rt, packets.as_bytes(), 3, 2)?);
