@@ -18,16 +18,16 @@ const STRANGERS: usize = 8;
 /// How long a look at a caller takes, in milliseconds.
 const LOOK: u32 = 10;
 
-/// At how many looks in vain a caller is silent: five seconds of them.
-const SILENT_LOOKS: u32 = 500;
+/// How long a caller has for its first frame, in milliseconds.
+const FIRST_FRAME_WITHIN: u64 = 5000;
 
-// A caller whose first frame is not whole: what was read so far, and the looks in vain.
+// A caller whose first frame is not whole: what was read so far, and when it came.
 #[derive(Drop)]
 struct Stranger<I: Drop, O: Drop> {
     first: First,
     source: I,
     sink: O,
-    looks: u32,
+    since: u64,
 }
 
 // What a caller turned out to be.
@@ -40,18 +40,18 @@ enum Met {
 
 impl<I: Ready + Drop, O: Drop> Stranger<I, O> {
     // Reads more of the first frame, where something is there.
-    fn look(&mut self) -> Met {
-        if !self.source.ready(LOOK) {
-            self.looks = self.looks.saturating_add(1);
-            return if SILENT_LOOKS <= self.looks {
-                Met::Nobody
-            } else {
-                Met::Unknown
-            };
-        }
-        match self.first.read(&mut self.source) {
-            Ok(0) | Err(_) => Met::Nobody,
-            Ok(_) => kind_of(&self.first),
+    fn look(&mut self, now: u64) -> Met {
+        let met = if self.source.ready(LOOK) {
+            match self.first.read(&mut self.source) {
+                Ok(0) | Err(_) => Met::Nobody,
+                Ok(_) => kind_of(&self.first),
+            }
+        } else {
+            Met::Unknown
+        };
+        match met {
+            Met::Unknown if FIRST_FRAME_WITHIN <= now.saturating_sub(self.since) => Met::Nobody,
+            met => met,
         }
     }
 }
@@ -112,12 +112,12 @@ where
             return Err(NodeEnd::NetFault);
         };
         let first = First::new();
-        let looks = 0;
+        let since = self.desk.now(rt);
         match strangers.push(Stranger {
             first,
             source,
             sink,
-            looks,
+            since,
         }) {
             Ok(()) => Ok(()),
             Err(_) => Err(NodeEnd::NoMemory),
@@ -147,7 +147,7 @@ where
         numbers: &mut Numbers,
     ) {
         let mut stranger = stranger;
-        let met = stranger.look();
+        let met = stranger.look(self.told);
         if matches!(met, Met::Unknown) {
             let _ = strangers.push(stranger);
             return;
