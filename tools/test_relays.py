@@ -314,7 +314,7 @@ class Ends(FourRoles):
         main, side = pty.openpty()
         self.addCleanup(os.close, main)
         self.addCleanup(os.close, side)
-        self.listen(stdout=subprocess.PIPE)
+        self.listen(stdin=subprocess.PIPE)
         self.call(stdin=side)
         self.wait_until(lambda: has(self.ports_of[0], JOINED) == 2)
         self.server.kill()
