@@ -4,6 +4,7 @@ import contextlib
 import os
 import pathlib
 import pty
+import random
 import re
 import signal
 import socket
@@ -132,12 +133,14 @@ class Roles(unittest.TestCase):
         return cat.stdout
 
     def ports(self, count):
-        """Ports at which nobody listens."""
-        with contextlib.ExitStack() as held:
-            found = [held.enter_context(socket.socket()) for _ in range(count)]
-            for it in found:
-                it.bind((HOST, 0))
-            return [it.getsockname()[1] for it in found]
+        """Ports at which nobody listens, and which the system gives to nobody that asks for any."""
+        found = set()
+        while len(found) < count:
+            port = random.randrange(10_000, 32_000)
+            with socket.socket() as it, contextlib.suppress(OSError):
+                it.bind((HOST, port))
+                found.add(port)
+        return [*found]
 
     def start(self, *words, stdin=subprocess.DEVNULL, stdout=None):
         """A role, whose output goes to a file where nothing else is said."""
