@@ -1,4 +1,4 @@
-//! The program of the four roles: runs one of them over TCP, from standard input to standard output.
+//! The program of the four roles: runs one over TCP, from standard input to standard output.
 #![tactic(auto)]
 
 use rh_io::{Sink, WriterSink, write_whole};
