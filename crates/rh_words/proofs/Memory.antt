@@ -117,11 +117,11 @@ pub ran_in_memory : (help version : List ℕ) (Unfailing : Type 0) (form : Form)
     → IsRoomFor help version form text before.takes
     → RanInMemory help version form text status after.written
 ran_in_memory help version Unfailing Replay status before after text h sure left none room =
-    rw h.1.0 (spared recording IsReplayed Unfailing before after text h.0 h.1.1 sure left none room)
+    rw h.1 (spared recording IsReplayed Unfailing before after text h.0 h.2 sure left none room)
 ran_in_memory help version Unfailing Show status before after text h sure left none room =
-    rw h.1.0 (spared packets IsShown Unfailing before after text h.0 h.1.1 sure left none room)
+    rw h.1 (spared packets IsShown Unfailing before after text h.0 h.2 sure left none room)
 ran_in_memory help version Unfailing Play status before after text h sure left none room =
-    rw h.1.0 (spared script IsPlayed Unfailing before after text h.0 h.1.1 sure left none room)
+    rw h.1 (spared script IsPlayed Unfailing before after text h.0 h.2 sure left none room)
 ran_in_memory help version Unfailing (Make count) status before after text (
     inl h
     ) sure left none room =
