@@ -12,6 +12,7 @@ pub mod LegLogs
 pub mod Turns
 pub mod Kept
 pub mod Seats
+pub mod Begun
 pub mod Going
 pub mod Pings
 pub mod Events

@@ -177,6 +177,12 @@ pub record Stream {S : Type 0} (rules : Rules S) (first : S) (rooms : Rooms)
       node.course ≡ Going → end_at node leg ≡ Some end
       → Seated rules node.role (pipe leg) (of_leg leg passage.came) (of_leg leg passage.put)
       (heard_on leg events) (drawn_on rules (begun first rooms) leg events) end)
+  -- what was put spells what was drawn, and then what is begun, where the node closed as well
+  pub left : (leg : Leg) (end : NearEnd)
+      → (let node = after_events rules (begun first rooms) events in
+      is_refused_on leg node.course ≡ false → end_at node leg ≡ Some end
+      → spelled (of_leg leg passage.put)
+      ≡ drawn_on rules (begun first rooms) leg events ++ end.begun)
   -- nothing was put on a leg that did not come up
   pub unput : (leg : Leg) → came_up leg events ≡ false → of_leg leg passage.put ≡ []
 
@@ -278,5 +284,10 @@ pub record EndStream {S : Type 0} (rules : Rules S) (acts : Acts S) (first : S) 
       → Seated rules node.role (pipe leg) (of_leg leg passage.passage.came)
       (of_leg leg passage.passage.put) (heard_on leg (happened events))
       (end_drawn_on rules acts (begun first rooms) leg events) end)
+  pub left : (leg : Leg) (end : NearEnd)
+      → (let node = after_end_events rules acts (begun first rooms) events in
+      is_refused_on leg node.course ≡ false → end_at node leg ≡ Some end
+      → spelled (of_leg leg passage.passage.put)
+      ≡ end_drawn_on rules acts (begun first rooms) leg events ++ end.begun)
   pub unput : (leg : Leg) → came_up leg (happened events) ≡ false
       → of_leg leg passage.passage.put ≡ []

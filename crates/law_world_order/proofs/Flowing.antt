@@ -6,7 +6,7 @@ use Rattle.rh_outproxy.specs.Machine as out_proxy
 use Rattle.rh_client.specs.Client as client
 use Rattle.rh_client.specs.State as client_state
 use Rattle.rh_server.specs.Servers as server
-use Rattle.law_moves.proofs.Vocabulary.{Pipe, ClientConfig, Leg, Rooms, NearEnd, Rules, Acts, Shell, begun, started, Event, EndEvent, after_events, messages_read}
+use Rattle.law_moves.proofs.Vocabulary.{Pipe, ClientConfig, Leg, Rooms, NearEnd, Rules, Acts, Shell, begun, end_at, started, Event, EndEvent, after_events, messages_read}
 use Rattle.law_role_inproxy.proofs.Vocabulary.{InProxyConfig, InProxy}
 use Rattle.law_role_client.proofs.Vocabulary.{ClientRole}
 use Rattle.law_role_server.proofs.Vocabulary.{Server}
@@ -69,6 +69,14 @@ out_reads law config moves leg allowed =
 pub no_end : (end : NearEnd) → ◌≡◌ {A = Option NearEnd} None (Some end) → ⊥
 no_end end e = absurd (cc)
 
+pub none_at : {S : Type 0} (rules : Rules S) (first : S) (rooms : Rooms) (events : List Event)
+    → events ≡ [] → (leg : Leg) (end : NearEnd)
+    → end_at (after_events rules (begun first rooms) events) leg ≡ Some end → ⊥
+none_at rules first rooms events none leg end at =
+    no_end end
+    (ap (λ (e : List Event). end_of leg (after_events rules (begun first rooms) e).legs) (sym none)
+    ∙ sym (end_is leg (after_events rules (begun first rooms) events).legs) ∙ at)
+
 -- of a node at which nothing happened
 abbrev pub still : {S : Type 0} (rules : Rules S) (first : S) (rooms : Rooms)
     (pipe : Leg → Option Pipe) (events : List Event) → events ≡ []
@@ -94,11 +102,8 @@ still rules first rooms pipe events none = record {
   unrefused = λ leg free.
       subst (λ (e : List Event). IsPrefix (drawn_on rules (begun first rooms) leg e) []) (sym none)
       ([], refl);
-  seats = λ leg end going at.
-      absurd (no_end end
-      (ap (λ (e : List Event). end_of leg (after_events rules (begun first rooms) e).legs)
-      (sym none)
-      ∙ sym (end_is leg (after_events rules (begun first rooms) events).legs) ∙ at));
+  seats = λ leg end going at. absurd (none_at rules first rooms events none leg end at);
+  left = λ leg end free at. absurd (none_at rules first rooms events none leg end at);
   unput = λ leg none. refl;
 }
 

@@ -24,4 +24,5 @@ ran_with rules pipes Sound MayRefuse With Other At Next s heard drawn up ran nex
   staged = ran.staged;
   kept = ran.kept;
   unrefused = ran.unrefused;
+  left = ran.left;
 }

@@ -9,9 +9,10 @@ use Rattle.law_moves.proofs.Lemmas.{open_phase as is_open}
 use Rattle.law_node_history.proofs.Lemmas.{came_append, end_accepted_append, end_drawn_append, happened_append, heard_append, end_events_append}
 use Rattle.law_node_history.proofs.Vocabulary.{AreAcceptedAtEnd, ComesUpOnceAtEnd, IsAcceptedAtEnd, came_up, drawn_at_end, drawn_in, end_drawn_on, happened, heard_in, heard_on, is_up_of}
 use Rattle.law_node_streams.proofs.Streams.AtEnds.{drawn_is, end_stays}
+use Rattle.law_node_streams.proofs.Streams.Begun.{same_begun}
 use Rattle.law_node_streams.proofs.Streams.Counts.{end_counted_append}
 use Rattle.law_node_streams.proofs.Streams.EndMoves.{Did, did_close, did_give, did_recycle, did_take, leads_one}
-use Rattle.law_node_streams.proofs.Streams.Going.{kept_seated}
+use Rattle.law_node_streams.proofs.Streams.Going.{IsSpelledOut, kept_seated, spelled_at}
 use Rattle.law_node_streams.proofs.Streams.Rising.{AreKnown, IsLifted, came_of, comes_here, first_more, has_cookies, is_up_first, known_more, lifted_with, up_more}
 use Rattle.law_node_streams.proofs.Streams.Runs.{IsFit, Ran, ran_as, ran_by, ran_event, ran_none}
 use Rattle.law_node_streams.proofs.Streams.Seats.{left_self, seat, silent_none, staged_on}
@@ -216,7 +217,7 @@ module _ {S : Type 0} (rules : Rules S) (acts : Acts S) (first : S) (rooms : Roo
             (λ leg p ms g wanted sound at answers wants. unanswered leg p answers)
             (Goes all base (given ++ next) (taken ++ out)) s (with_role s role) heard drawn
             (λ leg. []) (λ leg. []) up (λ leg. up leg || false) ran q [] ran.stages at role_is
-            (λ leg free. free) ran.held ran.apart
+            (λ leg free. free) (λ leg. same_begun leg s (with_role s role) refl) ran.held ran.apart
             (λ leg. Passes (record {
               quiet = record {
                 came = ap (of_leg leg) came;
@@ -552,6 +553,11 @@ module _ {S : Type 0} (rules : Rules S) (acts : Acts S) (first : S) (rooms : Roo
         (after events) (heard_on leg (happened events))
         (end_drawn_on rules acts start leg events) (came_up leg (happened events)) ran.role
         (ran.kept leg) end going at);
+    left = λ leg.
+        spelled_at leg (after events) (of_leg leg ran.at.end.passage.put)
+        (end_drawn_on rules acts start leg events)
+        (subst (λ (x : Passage S). IsSpelledOut leg (after events) (of_leg leg x.put)
+        (end_drawn_on rules acts start leg events)) (sym ran.at.is) (ran.left leg));
     unput = λ leg none.
         subst (λ (x : Passage S). of_leg leg x.put ≡ []) (sym ran.at.is)
         ((ran.kept leg).new none).put;

@@ -1,9 +1,9 @@
 -- the streams of a node behind each front of its events, event by event
 use Rattle.law_order.proofs.Vocabulary.{◌≡◌, List, [], ◌∷◌, ◌++◌, append_assoc, false, ◌||◌, refl, sym, ap, ◌∙◌, subst, Option, append-nil, IsPrefix}
-use Rattle.law_moves.proofs.Vocabulary.{prefix_more, prefix_self, prefix_trans, Cookie, Pipe, Leg, Rooms, Rules, Shell, begun, Move, Passage, MayMove, moved, Event, after_event, after_events, IsCounted, RefusesInTurn, Stages, IsInTurn, stages_after}
+use Rattle.law_moves.proofs.Vocabulary.{prefix_more, prefix_self, prefix_trans, Cookie, Pipe, Leg, Rooms, Rules, Shell, begun, Move, Passage, MayMove, moved, Event, after_event, after_events, of_leg, IsCounted, RefusesInTurn, Stages, IsInTurn, stages_after}
 use Rattle.law_node_history.proofs.Lemmas.{events_append, accepted_append, came_append, drawn_append, heard_append}
 use Rattle.law_node_history.proofs.Vocabulary.{AreAccepted, ComesUpOnce, IsAccepted, came_up, drawn_in, drawn_on, heard_in, heard_on, is_up_of}
-use Rattle.law_node_streams.proofs.Streams.Going.{kept_seated}
+use Rattle.law_node_streams.proofs.Streams.Going.{kept_seated, spelled_at}
 use Rattle.law_node_streams.proofs.Streams.Nodes.{IsReached, asked, drawn_is, more, piped, refused_is, stays, unreached}
 use Rattle.law_node_streams.proofs.Streams.Runs.{IsFit, Ran, ran_as, ran_event, ran_none}
 use Rattle.law_node_streams.proofs.Streams.Ways.{or_false}
@@ -135,6 +135,9 @@ module _ {S : Type 0} (rules : Rules S) (first : S) (rooms : Rooms) (pipe : Leg 
         kept_seated rules (pipe leg) leg (Sound leg) (Unit {0}) ran.passage ran.moves
         (after events) (heard_on leg events) (drawn_on rules start leg events)
         (came_up leg events) ran.role (ran.kept leg);
+    left = λ leg.
+        spelled_at leg (after events) (of_leg leg ran.passage.put)
+        (drawn_on rules start leg events) (ran.left leg);
     unput = λ leg none. ((ran.kept leg).new none).put;
   }
 

@@ -8,7 +8,7 @@ use Rattle.law_node_history.proofs.Vocabulary.{AreAccepted, ComesUpOnce, IsAccep
 use Rattle.law_node_streams.proofs.Streams.Staging.{all_stages, all_stages_append, in_turn_append}
 use Rattle.law_node_streams.proofs.Streams.Counts.{counted_append}
 use Rattle.law_node_streams.proofs.Streams.Kept.{FrontOf}
-use Rattle.law_node_streams.proofs.Streams.Going.{kept_seated}
+use Rattle.law_node_streams.proofs.Streams.Going.{kept_seated, spelled_at}
 use Rattle.law_node_streams.proofs.Streams.Runs.{IsFit, Ran, ran_as, ran_event, ran_none}
 use Rattle.law_node_streams.proofs.Streams.Ways.{all_allowed_append, all_moved_append, or_false}
 use Rattle.law_node_streams.specs.Streams.{HasPipes, HearsInTurn, IsDrawn, RefusalDrawn, StaysUnused, Stream, is_head_on, is_refused_on, is_up_on}
@@ -206,6 +206,9 @@ module _ {S : Type 0} (rules : Rules S) (first : S) (rooms : Rooms) (pipe : Leg 
         kept_seated rules (pipe leg) leg (Sound leg) (Unit {0}) ran.passage ran.moves
         (after_events rules start events) (heard_on leg events) (drawn_on rules start leg events)
         (came_up leg events) ran.role (ran.kept leg);
+    left = λ leg.
+        spelled_at leg (after_events rules start events) (of_leg leg ran.passage.put)
+        (drawn_on rules start leg events) (ran.left leg);
     unput = λ leg none. ((ran.kept leg).new none).put;
   }
     where

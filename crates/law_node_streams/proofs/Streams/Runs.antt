@@ -6,11 +6,12 @@ use Rattle.law_moves.proofs.Vocabulary.{neither, Cookie, Pipe, HttpFault, Leg, R
 use Rattle.law_moves.proofs.Lemmas.{leg_is}
 use Rattle.law_node_history.proofs.Vocabulary.{IsAccepted, drawn_in, heard_in, is_up_of}
 use Rattle.law_node_streams.proofs.Streams.Staging.{all_stages, way_reached, way_stays}
+use Rattle.law_node_streams.proofs.Streams.Begun.{KeepsBegun, begun_before}
 use Rattle.law_node_streams.proofs.Streams.Ends.{AreApart}
 use Rattle.law_node_streams.proofs.Streams.Events.{IsFresh, Steps, event_steps, ups_of}
 use Rattle.law_node_streams.proofs.Streams.Seats.{seat}
 use Rattle.law_node_streams.proofs.Streams.Kept.{IsSeated, Kept, turns_keep}
-use Rattle.law_node_streams.proofs.Streams.Going.{free_before, goes_keep}
+use Rattle.law_node_streams.proofs.Streams.Going.{IsSpelledOut, free_before, goes_keep, left_keeps}
 use Rattle.law_node_streams.proofs.Streams.Turns.{Nowhere, Sits, IsStaged, Turns}
 use Rattle.law_node_streams.proofs.Streams.Ways.{IsRaised, Lifts, each_joined}
 use Rattle.law_node_streams.specs.Streams.{is_head_on, is_refused_on, is_up_on}
@@ -35,6 +36,7 @@ pub record Ran {S : Type 0} (rules : Rules S) (pipes : Leg → Option Pipe) (Sou
       (seat leg s) (heard leg) (drawn leg) (up leg)
   pub unrefused : (leg : Leg) → is_refused_on leg s.course ≡ false
       → IsPrefix (drawn leg) (spelled (of_leg leg passage.put))
+  pub left : (leg : Leg) → IsSpelledOut leg s (of_leg leg passage.put) (drawn leg)
 
 -- what an event asks of the legs that came up before, and of one that comes up
 pub record IsFit {S : Type 0} (rules : Rules S) (With : Leg → Cookie → Type 0) (s : Shell S)
@@ -77,6 +79,7 @@ module _ {S : Type 0} (rules : Rules S) (pipes : Leg → Option Pipe) (Sound : L
       };
     };
     unrefused = λ leg is. ([], refl);
+    left = λ leg is end at. absurd cc;
   }
 
   pub ran_as : (At : Passage S → List Move → Stages → Type 0) (s : Shell S)
@@ -107,6 +110,8 @@ module _ {S : Type 0} (rules : Rules S) (pipes : Leg → Option Pipe) (Sound : L
     unrefused = λ leg is.
         subst (λ x. IsPrefix x (spelled (of_leg leg ran.passage.put))) (f leg)
         (ran.unrefused leg is);
+    left = λ leg.
+        subst (IsSpelledOut leg s (of_leg leg ran.passage.put)) (f leg) (ran.left leg);
   }
 
   module _ (At : Passage S → List Move → Stages → Type 0)
@@ -126,6 +131,7 @@ module _ {S : Type 0} (rules : Rules S) (pipes : Leg → Option Pipe) (Sound : L
         → q.role ≡ t.role
         → ((leg : Leg) → is_refused_on leg t.course ≡ false
         → is_refused_on leg s.course ≡ false)
+        → ((leg : Leg) → KeepsBegun leg s t)
         → AreHeld t → AreApart t.legs
         → ((leg : Leg) → Turns rules (pipes leg) leg ran.passage q ns (seat leg s) (seat leg t)
         (bytes leg) (out leg) (up leg) (later leg))
@@ -138,8 +144,8 @@ module _ {S : Type 0} (rules : Rules S) (pipes : Leg → Option Pipe) (Sound : L
         → ((leg : Leg) → later leg ≡ false → bytes leg ≡ [])
         → Ran rules pipes Sound MayRefuse With Next t (λ leg. heard leg ++ bytes leg)
         (λ leg. drawn leg ++ out leg) later
-    ran_by Next s t heard drawn bytes out up later ran q ns next at role free held apart turned
-        staged raised with stays was none = record {
+    ran_by Next s t heard drawn bytes out up later ran q ns next at role free begins held apart
+        turned staged raised with stays was none = record {
           passage = q;
           moves = ran.moves ++ ns;
           stages = next;
@@ -157,6 +163,11 @@ module _ {S : Type 0} (rules : Rules S) (pipes : Leg → Option Pipe) (Sound : L
               goes_keep rules (pipes leg) leg (Sound leg) MayRefuse ran.passage q (ran.moves ++ ns)
               ns s t (heard leg ++ bytes leg) (drawn leg) (bytes leg) (out leg) (up leg)
               (later leg) (free leg is) (ran.unrefused leg (free leg is)) (kept leg) (turned leg);
+          left = λ leg is.
+              left_keeps rules (pipes leg) leg (Sound leg) MayRefuse ran.passage q (ran.moves ++ ns)
+              ns s t (heard leg ++ bytes leg) (drawn leg) (bytes leg) (out leg) (up leg)
+              (later leg) (free leg is) (ran.left leg (free leg is)) (kept leg) (begins leg)
+              (turned leg);
         }
       where
         kept : (leg : Leg)
@@ -194,7 +205,8 @@ module _ {S : Type 0} (rules : Rules S) (pipes : Leg → Option Pipe) (Sound : L
           step.passage step.way.moves (all_stages rules ran.passage ran.stages step.way.moves)
           (way_reached rules At more stays step.heads (ups_of rules pipes up With event) ran.passage
           step.passage ran.moves ran.stages step.way staged.0 counted ran.at)
-          step.role (λ leg. free_before rules leg s event) step.held step.apart step.turned staged.1
+          step.role (λ leg. free_before rules leg s event)
+          (λ leg. begun_before rules leg s ran.held event) step.held step.apart step.turned staged.1
           (λ leg. ap (λ b. up leg || b) (step.way.raised leg ∙ comes event leg))
           (step.lifted (raises event fit))
           (λ leg rose.
