@@ -8,7 +8,7 @@ use Rattle.law_node_causes.specs.Once.{ComesUpOnce, KeepsUp}
 use Rattle.law_node_streams.proofs.Streams.EndMoves.{leads_one as end_leads_one}
 use Rattle.law_node_streams.proofs.Streams.Ends.{end_is}
 use Rattle.law_node_streams.proofs.Streams.Ways.{or_false as or_none}
-use Rattle.law_node_streams.specs.Streams.{StaysUnused, StaysUnusedAtEnd}
+use Rattle.law_node_streams.specs.Streams.{StaysUnused, StaysUnusedAtEnd, is_refused_on}
 use Rattle.law_world_ways.proofs.OnPaths.KeptEnds.{Stands, Unused}
 use Rattle.law_world_ways.proofs.OnPaths.KeptLegs.{Known, comes_at, is_lost_at, known_after, known_at_end, known_first, left_stays, left_stays_at_end}
 use Rattle.law_world_ways.proofs.ExactWays.CameUp.{or_more}
@@ -22,7 +22,7 @@ module _ {S : Type 0} (rules : Rules S) (Holds : S → Type 0) (once : ComesUpOn
   Knows s up = Known rules Holds once leg (Unused rules leg s.role) s up
 
   known_keeps : (s : Shell S) → Knows s true → KeepsIfOfUse rules s leg
-  known_keeps s known = λ going. by (known.kept going refl)
+  known_keeps s known = λ going. by (known.kept (ap (is_refused_on leg) going) refl)
     where
       by : Stands rules leg s ⊎ Unused rules leg s.role
           → KeepsEnd s leg ⊎ Unused rules leg s.role
@@ -52,7 +52,7 @@ module _ {S : Type 0} (rules : Rules S) (Holds : S → Type 0) (once : ComesUpOn
       role = f.role;
       known = known_after rules Holds once leg follow s up (Unused rules leg s.role)
           (Unused rules leg (after_event rules s event).role) at.known
-          (λ going gone. gone.unused) event ok kept (λ goes. stays);
+          (λ free gone. gone.unused) event ok kept (λ free. stays);
     }
       where
         f : Follows rules at.passage (after_event rules s event)
@@ -127,7 +127,7 @@ module _ {S : Type 0} (rules : Rules S) (Holds : S → Type 0) (once : ComesUpOn
       role = f.role;
       known = known_at_end rules Holds once leg acts follow follow_end calls s up
           (Unused rules leg s.role) (Unused rules leg (after_end_event rules acts s event).role)
-          at.known (λ going gone. gone.unused) event ok kept (λ goes. stays);
+          at.known (λ free gone. gone.unused) event ok kept (λ free. stays);
     }
       where
         f : EndFollows rules acts at.passage (after_end_event rules acts s event)

@@ -2,7 +2,7 @@
 use Rattle.law_order.proofs.Vocabulary.{◌≡◌, ℕ, Bool, true, false, List, [], ◌++◌, Some, sym, ap, ◌∙◌, Option, append-nil, IsPrefix}
 use Rattle.law_moves.proofs.Vocabulary.{nil_front, Pipe, Leg, Going, Rooms, NearEnd, is_over, Acts, Rules, Message, Shell, begun, end_at, spelled, EndEvent, Event, after_end_events, after_events, of_leg, Reading, messages_read}
 use Rattle.law_node_history.proofs.Vocabulary.{Place, Absent, Here, Gone, IsHeard, came_up, drawn_on, end_drawn_on, happened, heard_on, IsRun}
-use Rattle.law_node_streams.specs.Streams.{EndStream, IsReadTo, Stream, is_live}
+use Rattle.law_node_streams.specs.Streams.{EndStream, IsReadTo, Stream, is_live, is_refused_on}
 use Rattle.law_world_ways.proofs.OnPaths.Ends.{gone_unread}
 use Rattle.law_world_ways.specs.OnPaths.Forgotten.{DrawsOut, EndDrawsOut, IsDrawnOut}
 use Rattle.law_world_ways.specs.OnPaths.Lost.{was_lost}
@@ -12,8 +12,8 @@ use Rattle.law_world_ways.specs.OnPaths.OnWay.{read_on}
 -- forgot the leg; and it put nothing on a leg that did not come up
 pub record Puts {P : Type 0} (node : Shell P) (leg : Leg) (up told : Bool) (put : List Message)
     (drawn : List ℕ) : Type 0 where
-  pub spells : (end : NearEnd) → node.course ≡ Going → end_at node leg ≡ Some end
-      → spelled put ≡ drawn ++ end.begun
+  pub spells : (end : NearEnd) → is_refused_on leg node.course ≡ false
+      → end_at node leg ≡ Some end → spelled put ≡ drawn ++ end.begun
   pub all : IsDrawnOut node leg up told put drawn
   pub unput : up ≡ false → put ≡ []
 
@@ -39,7 +39,7 @@ module _ {S : Type 0} {rules : Rules S} {acts : Acts S} {made : S} {rooms : Room
       (of_leg leg stream.passage.passage.put)
       (end_drawn_on rules acts (begun made rooms) leg events)
   end_puts all = record {
-    spells = λ end going at. (stream.seats leg end going at).spells;
+    spells = stream.left leg;
     all = all leg;
     unput = stream.unput leg;
   }
@@ -74,7 +74,7 @@ module _ {S : Type 0} {rules : Rules S} {made : S} {rooms : Rooms} {pipe : Leg �
       (was_lost leg events) (of_leg leg stream.passage.put)
       (drawn_on rules (begun made rooms) leg events)
   proxy_puts all = record {
-    spells = λ end going at. (stream.seats leg end going at).spells;
+    spells = stream.left leg;
     all = all leg;
     unput = stream.unput leg;
   }

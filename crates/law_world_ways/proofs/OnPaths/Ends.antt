@@ -2,38 +2,38 @@
 use Rattle.law_order.proofs.Vocabulary.{◌≡◌, ℕ, Bool, true, false, List, [], ◌++◌, Some, None, refl, sym, ap, ◌∙◌, ◌&&◌, ◌||◌, not, if◌then◌else◌, Option, append-nil}
 use Rattle.rh_shell.specs.declared.answers.Phase.TheVariants as phase
 use Rattle.law_moves.proofs.Vocabulary.{Pipe, some_is, Leg, Phase, Course, Going, Closed, Refusing, NearEnd, is_ended, is_marked, is_over, Rules, Message, Shell, end_at, is_working, is_working_by, state_by, spelled, Reading, begin, messages_read, reading, reading_after}
-use Rattle.law_node_streams.specs.Streams.{IsReadTo, is_live}
+use Rattle.law_node_streams.specs.Streams.{IsReadTo, is_live, is_refused_on}
 use Rattle.law_world_ways.proofs.OnPaths.Legs.{StandsAt}
 use Rattle.law_world_ways.specs.OnPaths.Forgotten.{IsDrawnOut}
-use Rattle.law_world_ways.specs.OnPaths.OnWay.{left_at, left_by, left_on, read_at, read_by, read_on}
+use Rattle.law_world_ways.specs.OnPaths.OnWay.{left_at, left_on, read_at, read_by, read_on}
 
 module _ {S : Type 0} (s : Shell S) (leg : Leg) (up : Bool) where
   -- what was put spells what was drawn and is begun
   module _ (lost : Bool) (put : List Message) (drawn : List ℕ)
-      (seat : (end : NearEnd) → s.course ≡ Going → end_at s leg ≡ Some end
+      (seat : (end : NearEnd) → is_refused_on leg s.course ≡ false → end_at s leg ≡ Some end
       → spelled put ≡ drawn ++ end.begun)
       (all : IsDrawnOut s leg up lost put drawn)
       (new : up ≡ false → (put ≡ []) × (drawn ≡ [])) (begun : List ℕ) where
-    left_end : s.course ≡ Going → (o : Option NearEnd) → end_at s leg ≡ o → (u : Bool) → up ≡ u
+    left_end : is_refused_on leg s.course ≡ false → (o : Option NearEnd) → end_at s leg ≡ o → (u : Bool) → up ≡ u
         → (l : Bool) → lost ≡ l → left_at u l o ≡ Some begun → spelled put ≡ drawn ++ begun
-    left_end going (Some end) at u is l was told =
-        seat end going at ∙ ap (λ (b : List ℕ). drawn ++ b) (some_is end.begun begun told)
-    left_end going None at true is true was told = absurd (cc)
-    left_end going None at true is false was told =
-        all (record { goes = going; gone = at; rose = is; untold = was })
+    left_end free (Some end) at u is l was told =
+        seat end free at ∙ ap (λ (b : List ℕ). drawn ++ b) (some_is end.begun begun told)
+    left_end free None at true is true was told = absurd (cc)
+    left_end free None at true is false was told =
+        all (record { free = free; gone = at; rose = is; untold = was })
         ∙ sym (append-nil drawn) ∙ ap (λ (b : List ℕ). drawn ++ b) (some_is [] begun told)
-    left_end going None at false is l was told =
+    left_end free None at false is l was told =
         ap spelled (new is).0 ∙ some_is [] begun told
         ∙ ap (λ (d : List ℕ). d ++ begun) (sym (new is).1)
 
-    left_course : (c : Course) → s.course ≡ c → left_by up lost (end_at s leg) c ≡ Some begun
+    left_free : (b : Bool) → is_refused_on leg s.course ≡ b
+        → (if b then None else left_at up lost (end_at s leg)) ≡ Some begun
         → spelled put ≡ drawn ++ begun
-    left_course Going is told = left_end is (end_at s leg) refl up refl lost refl told
-    left_course (Closed why) is told = absurd (cc)
-    left_course (Refusing why client rest) is told = absurd (cc)
+    left_free true is told = absurd (cc)
+    left_free false is told = left_end is (end_at s leg) refl up refl lost refl told
 
     pub left_spells : left_on s leg up lost ≡ Some begun → spelled put ≡ drawn ++ begun
-    left_spells told = left_course s.course refl told
+    left_spells told = left_free (is_refused_on leg s.course) refl told
 
   -- what came is what is read up to where it stands
   module _ (rules : Rules S) (pipe : Option Pipe) where

@@ -1,6 +1,6 @@
 -- by streams that grow with the events: all that was put on a leg that is forgotten was drawn
 use Rattle.law_order.proofs.Vocabulary.{◌≡◌, ◌⊎◌, inl, inr, ℕ, List, [], ◌∷◌, ◌++◌, append_assoc, true, false, ◌||◌, refl, sym, ap, ◌∙◌, subst, Option, append-nil, append_cancel_left, list_any-append, IsPrefix}
-use Rattle.law_moves.proofs.Vocabulary.{neither, nil_front, Pipe, Leg, Going, Rooms, Acts, Rules, Shell, begun, end_at, spelled, AreAllowed, AreAllowedAtEnd, EndMove, EndPassage, Move, Passage, all_end_moved, all_moved, end_moved, end_started, moved, started, EndEvent, EndLeads, Event, Leads, after_end_event, after_end_events, after_event, after_events, of_leg}
+use Rattle.law_moves.proofs.Vocabulary.{neither, nil_front, Pipe, Leg, Rooms, Acts, Rules, Shell, begun, end_at, spelled, AreAllowed, AreAllowedAtEnd, EndMove, EndPassage, Move, Passage, all_end_moved, all_moved, end_moved, end_started, moved, started, EndEvent, EndLeads, Event, Leads, after_end_event, after_end_events, after_event, after_events, of_leg}
 use Rattle.law_node_history.proofs.Lemmas.{came_append, drawn_append, end_drawn_append, happened_append, end_events_append, events_append}
 use Rattle.law_node_history.proofs.Vocabulary.{AreAccepted, AreAcceptedAtEnd, IsAccepted, IsAcceptedAtEnd, came_up, drawn_on, end_drawn_on, happened, is_up_of}
 use Rattle.law_node_causes.proofs.OnceUp.{AllFollow, AllFollowAtEnd}
@@ -11,7 +11,7 @@ use Rattle.law_node_streams.proofs.Streams.Ways.{all_moved_append, or_false as o
 use Rattle.law_node_streams.specs.Streams.{EndStream, StaysUnused, StaysUnusedAtEnd, Stream}
 use Rattle.law_node_streams.specs.Grown.{EndGrowing, EndGrows, Growing, Grows}
 use Rattle.law_world_order.proofs.Flowing.{no_end as absent}
-use Rattle.law_world_ways.proofs.OnPaths.KeptEnds.{IsLeft, Stands, Unused}
+use Rattle.law_world_ways.proofs.OnPaths.KeptEnds.{IsFree, IsLeft, Stands, Unused, refuses}
 use Rattle.law_world_ways.proofs.OnPaths.KeptLegs.{Known, is_lost_at, known_after, known_at_end, known_first, left_stays, left_stays_at_end}
 use Rattle.law_world_ways.specs.OnPaths.Forgotten.{DrawsOut, EndDrawsOut}
 use Rattle.law_world_ways.specs.OnPaths.Lost.{is_loss_of, was_lost}
@@ -99,19 +99,19 @@ module _ {S : Type 0} (rules : Rules S) (Holds : S → Type 0) (once : ComesUpOn
     role_is = stream.role ∙ ap (λ (x : Shell S). x.role) is
 
     module _ (leg : Leg) where
-      leaves : s.course ≡ Going → IsLeft rules leg s → IsDrawn leg events stream
-      leaves going gone = record {
+      leaves : IsFree leg s → IsLeft rules leg s → IsDrawn leg events stream
+      leaves free gone = record {
         none = subst (Unused rules leg) (sym role_is) gone.unused;
         whole =
-            (stream.seats leg gone.end (ap (λ (x : Shell S). x.course) is ∙ going)
-            (ap (λ (x : Shell S). end_at x leg) is ∙ end_is leg s.legs ∙ gone.at)).spells
+            stream.left leg gone.end (ap (refuses leg) is ∙ free)
+            (ap (λ (x : Shell S). end_at x leg) is ∙ end_is leg s.legs ∙ gone.at)
             ∙ ap (λ (b : List ℕ). drawn_on rules start leg events ++ b) gone.undrawn
             ∙ append-nil (drawn_on rules start leg events);
       }
 
-      stays : Knows leg events s stream → (after_event rules s event).course ≡ Going
+      stays : Knows leg events s stream → IsFree leg (after_event rules s event)
           → came_up leg events ≡ true → IsDrawn leg events stream → IsDrawn leg behind next
-      stays known goes rose gone =
+      stays known free rose gone =
           let put = of_leg leg stream.passage.put in
           let left = left_stays rules Holds once leg first unused put stream.passage
           next.passage more (record {
@@ -129,7 +129,7 @@ module _ {S : Type 0} (rules : Rules S) (Holds : S → Type 0) (once : ComesUpOn
                 (spelled (of_leg leg next.passage.put)) (
                   drawn_on rules (after_events rules start events) leg (event ∷ []),
                   sym (drawn_append rules leg start events (event ∷ [])),
-                ) (next.goes leg (ap (λ (x : Shell S). x.course) then_is ∙ goes))
+                ) (next.unrefused leg (ap (refuses leg) then_is ∙ free))
                 (ap spelled left.put_is ∙ gone.whole);
           }
 
@@ -156,7 +156,7 @@ module _ {S : Type 0} (rules : Rules S) (Holds : S → Type 0) (once : ComesUpOn
       → DrawsOut rules first rooms pipe events stream
   drawn_out events s is stream knows leg gone =
       by ((knows leg gone.untold).kept
-      (ap (λ (x : Shell S). x.course) (sym is) ∙ gone.goes) gone.rose)
+      (ap (refuses leg) (sym is) ∙ gone.free) gone.rose)
     where
       by : Stands rules leg s ⊎ IsDrawn leg events stream
           → spelled (of_leg leg stream.passage.put) ≡ drawn_on rules start leg events
@@ -249,21 +249,21 @@ module _ {S : Type 0} (rules : Rules S) (acts : Acts S) (Holds : S → Type 0)
     end_role_is = stream.role ∙ ap (λ (x : Shell S). x.role) is
 
     module _ (leg : Leg) where
-      end_leaves : s.course ≡ Going → IsLeft rules leg s → IsDrawnThere leg events stream
-      end_leaves going gone = record {
+      end_leaves : IsFree leg s → IsLeft rules leg s → IsDrawnThere leg events stream
+      end_leaves free gone = record {
         none = subst (Unused rules leg) (sym end_role_is) gone.unused;
         whole =
-            (stream.seats leg gone.end (ap (λ (x : Shell S). x.course) is ∙ going)
-            (ap (λ (x : Shell S). end_at x leg) is ∙ end_is leg s.legs ∙ gone.at)).spells
+            stream.left leg gone.end (ap (refuses leg) is ∙ free)
+            (ap (λ (x : Shell S). end_at x leg) is ∙ end_is leg s.legs ∙ gone.at)
             ∙ ap (λ (b : List ℕ). end_drawn_on rules acts begin leg events ++ b) gone.undrawn
             ∙ append-nil (end_drawn_on rules acts begin leg events);
       }
 
       end_stays : KnowsThere leg events s stream
-          → (after_end_event rules acts s event).course ≡ Going
+          → IsFree leg (after_end_event rules acts s event)
           → came_up leg (happened events) ≡ true → IsDrawnThere leg events stream
           → IsDrawnThere leg after next
-      end_stays known goes rose gone =
+      end_stays known free rose gone =
           let put = of_leg leg stream.passage.passage.put in
           let left = left_stays_at_end rules Holds once leg acts follow follow_end calls first
           unused put stream.passage next.passage end_more (record {
@@ -315,7 +315,7 @@ module _ {S : Type 0} (rules : Rules S) (acts : Acts S) (Holds : S → Type 0)
       → EndDrawsOut rules acts first rooms pipe events stream
   end_drawn_out events s is stream knows leg gone =
       by ((knows leg gone.untold).kept
-      (ap (λ (x : Shell S). x.course) (sym is) ∙ gone.goes) gone.rose)
+      (ap (refuses leg) (sym is) ∙ gone.free) gone.rose)
     where
       by : Stands rules leg s ⊎ IsDrawnThere leg events stream
           → spelled (of_leg leg stream.passage.passage.put)

@@ -3,12 +3,14 @@
 use Rattle.law_order.proofs.Vocabulary.{◌≡◌, ◌⊎◌, inl, inr, ℕ, zero, suc, ◌+◌, List, [], ◌∷◌, ◌++◌, length, take, drop, cond, Bool, true, false, nat_lt, Some, None, refl, sym, ap, ◌∙◌, subst, ◌&&◌, ◌||◌, not, nat_le, slice_get, slice_set, Option, and_parts, true≢false}
 use Rattle.rh_line.specs.declared.cause.Cause.TheVariants as cause
 use Rattle.rh_shell.specs.NearEnds.{is_empty}
-use Rattle.law_moves.proofs.Vocabulary.{Cookie, Refusal, Unavailable, Cause, Leg, Course, Going, Closed, Refusing, Stop, Drawn, draw, Turn, goes, hear, NearEnd, is_ended, is_finished, is_marked, is_useless, marked, new_end, Rules, Shell, bytes_at, bytes_by, broken_at, broken_by, close, drawn_at, drawn_by, end_at, ended_at, ended_by, first_silent, free_place, is_free, is_heard, is_of, is_working, lose, lost, may_up, passed, passed_by, place, put_back, refuse, same_leg}
-use Rattle.law_moves.proofs.Vocabulary.{seated_at, stop_by, stopped, unreached, unreached_by, wants, with_end, with_leg, is_in_use, started, AreHeld, Event, ComesUp, Hears, Ends, Breaks, Draws, Ticks, IsHeld, after_event}
+use Rattle.law_moves.proofs.Vocabulary.{Cookie, Unavailable, Cause, Leg, Course, Going, Closed, Refusing, Stop, Drawn, draw, Turn, goes, hear, NearEnd, is_ended, is_finished, is_marked, is_useless, marked, new_end, Rules, Shell, bytes_at, bytes_by, broken_at, broken_by, close, drawn_at, drawn_by, end_at, ended_at, ended_by, first_silent, free_place, is_free, is_heard, is_of, is_working, lose, lost, may_up, passed, passed_by, place, put_back, refuse, same_leg}
+use Rattle.law_moves.proofs.Vocabulary.{seated_at, stopped, unreached, unreached_by, wants, with_end, with_leg, is_in_use, started, AreHeld, Event, ComesUp, Hears, Ends, Breaks, Draws, Ticks, IsHeld, after_event}
 use Rattle.law_moves.proofs.Lemmas.{here_is as found_passes, empty_is as none_begun, leg_is}
 use Rattle.law_node_streams.proofs.Streams.Draws.{draw_drew}
 use Rattle.law_node_streams.proofs.Streams.Ends.{end_has, end_is, end_leg, end_of, set_beside, set_here}
 use Rattle.law_node_streams.proofs.Streams.Pieces.{piece_heard}
+use Rattle.law_node_streams.proofs.Streams.Seats.{stop_keeps}
+use Rattle.law_node_streams.specs.Streams.{is_refused_on}
 use Rattle.law_world_ways.specs.OnPaths.Lost.{is_loss_of}
 
 -- ---- an end among others
@@ -72,6 +74,13 @@ not_used true false e = refl
 not_used false true e = refl
 not_used false false e = absurd cc
 
+-- the node refuses somebody on the leg
+abbrev pub refuses : {S : Type 0} → Leg → Shell S → Bool
+refuses leg s = is_refused_on leg s.course
+
+abbrev pub IsFree : {S : Type 0} → Leg → Shell S → Type 0
+IsFree leg s = refuses leg s ≡ false
+
 module _ {S : Type 0} (rules : Rules S) (leg : Leg) where
   abbrev pub Unused : S → Type 0
   Unused role = is_in_use rules role leg ≡ false
@@ -104,48 +113,37 @@ module _ {S : Type 0} (rules : Rules S) (leg : Leg) where
             (not_used (rules.is_done s.role end.leg) (is_ended (rules.phase s.role)) both.0);
       }
 
-  -- behind an event: it goes on only if it did, and stands or was left
-  pub record Behind (s t : Shell S) : Type 0 where
-    pub going : t.course ≡ Going → s.course ≡ Going
-    pub stands : t.course ≡ Going → Stands s → Stands t ⊎ IsLeft s
+  -- behind an event it stands or was left
+  abbrev pub Behind : Shell S → Shell S → Type 0
+  Behind s t = Stands s → Stands t ⊎ IsLeft s
 
-  same_legs : (s t : Shell S) → t.legs ≡ s.legs → (t.course ≡ Going → s.course ≡ Going)
-      → Behind s t
-  same_legs s t same going = record {
-    going = going;
-    stands = λ goes h. inl (record {
-      end = h.end;
-      at = ap (end_of leg) same ∙ h.at;
-      unmarked = h.unmarked;
-    });
+  stands_as : (s t : Shell S) → t.legs ≡ s.legs → Stands s → Stands t
+  stands_as s t same h = record {
+    end = h.end;
+    at = ap (end_of leg) same ∙ h.at;
+    unmarked = h.unmarked;
   }
+
+  same_legs : (s t : Shell S) → t.legs ≡ s.legs → Behind s t
+  same_legs s t same h = inl (stands_as s t same h)
 
   same : (s : Shell S) → Behind s s
-  same s = same_legs s s refl (λ e. e)
-
-  closed : (s t : Shell S) → (t.course ≡ Going → ⊥) → Behind s t
-  closed s t not_going = record {
-    going = λ e. absurd (not_going e);
-    stands = λ e h. absurd (not_going e);
-  }
+  same s = same_legs s s refl
 
   module _ (s : Shell S) (held : AreHeld s) where
     -- an end of a leg that is kept changes, and stands as it did
-    changes : (k : Leg) (end new : NearEnd) (role : S) → s.course ≡ Going
+    changes : (k : Leg) (end new : NearEnd) (role : S)
         → end_of k s.legs ≡ Some end → new.leg ≡ end.leg
         → (same_leg k leg ≡ true → is_marked end.standing ≡ false
         → is_marked new.standing ≡ false)
         → Behind s (with_end s k new role)
-    changes k end new role going at legs marks = record {
-      going = λ e. e;
-      stands = λ e h. inl (by h (same_leg k leg) refl);
-    }
+    changes k end new role at legs marks h = inl (by (same_leg k leg) refl)
       where
         t : Shell S
         t = with_end s k new role
 
-        by : Stands s → (b : Bool) → same_leg k leg ≡ b → Stands t
-        by h true e =
+        by : (b : Bool) → same_leg k leg ≡ b → Stands t
+        by true e =
             let is : k ≡ leg = leg_is k leg e in
             let both : ◌≡◌ {A = Option NearEnd} (Some h.end) (Some end) =
             sym h.at ∙ ap (λ (l : Leg). end_of l s.legs) (sym is) ∙ at in
@@ -157,91 +155,86 @@ module _ {S : Type 0} (rules : Rules S) (leg : Leg) where
               unmarked = marks e (subst (λ (x : NearEnd). is_marked x.standing ≡ false) one
                   h.unmarked);
             }
-        by h false e = record {
+        by false e = record {
           end = h.end;
           at = set_beside k leg s.legs end new at legs e ∙ h.at;
           unmarked = h.unmarked;
         }
 
     stops : (t : Shell S) (k : Leg) (o : Option Stop) → Behind s t → Behind s (stopped t k o)
-    stops t k None h = h
-    stops t k (Some why) h = by why.refusal
+    stops t k o h stands = by (h stands)
       where
-        by : (r : Option Refusal) → Behind s (stop_by t k why.cause r)
-        by None = closed s (stop_by t k why.cause None) (λ e. absurd cc)
-        by (Some refusal) = closed s (stop_by t k why.cause (Some refusal)) (λ e. absurd cc)
+        by : Stands t ⊎ IsLeft s → Stands (stopped t k o) ⊎ IsLeft s
+        by (inl x) = inl (stands_as t (stopped t k o) (stop_keeps t k o).legs x)
+        by (inr gone) = inr gone
 
     -- ---- bytes
 
     hears : (k : Leg) (piece : List ℕ) → Behind s (bytes_by rules s k piece s.course)
-    hears k piece = by s.course refl
+    hears k piece = by s.course
       where
-        on : (o : Option NearEnd) → end_at s k ≡ o → s.course ≡ Going
-            → Behind s (bytes_at rules s k piece o)
-        on None e going = same s
-        on (Some end) e going =
+        on : (o : Option NearEnd) → end_at s k ≡ o → Behind s (bytes_at rules s k piece o)
+        on None e = same s
+        on (Some end) e =
             let at = sym (end_is k s.legs) ∙ e in
             let t : Turn S = hear rules s.now (goes end s.role) piece in
             let h = piece_heard rules s.now (started s.role) (goes end s.role) piece refl refl
             (end_has IsHeld k s.legs end at held) in
             stops (with_end s k t.end t.role) k t.stop
-            (changes k end t.end t.role going at h.same.leg
+            (changes k end t.end t.role at h.same.leg
             (λ this m. ap is_marked h.same.standing ∙ m))
 
-        by : (c : Course) → s.course ≡ c → Behind s (bytes_by rules s k piece c)
-        by Going e = on (end_at s k) refl e
-        by (Closed why) e = same s
-        by (Refusing why client rest) e = same s
+        by : (c : Course) → Behind s (bytes_by rules s k piece c)
+        by Going = on (end_at s k) refl
+        by (Closed why) = same s
+        by (Refusing why client rest) = same s
 
     draws : (k : Leg) (room : ℕ) → Behind s (drawn_by rules s k room s.course).0
-    draws k room = by s.course refl
+    draws k room = by s.course
       where
-        marked_or : (end : NearEnd) → end_at s k ≡ Some end → s.course ≡ Going → (t : Bool)
+        marked_or : (end : NearEnd) → end_at s k ≡ Some end → (t : Bool)
             → Behind s (cond {A = Shell S × List ℕ} t (s, [])
             (put_back s k (draw rules s.now room end s.role))).0
-        marked_or end e going true = same s
-        marked_or end e going false =
+        marked_or end e true = same s
+        marked_or end e false =
             let d : Drawn S = draw rules s.now room end s.role in
             let w = draw_drew rules s.now room (started s.role) end s.role refl in
-            changes k end d.end d.role going (sym (end_is k s.legs) ∙ e) w.beside.leg
+            changes k end d.end d.role (sym (end_is k s.legs) ∙ e) w.beside.leg
             (λ this m. ap is_marked w.beside.standing ∙ m)
 
-        on : (o : Option NearEnd) → end_at s k ≡ o → s.course ≡ Going
-            → Behind s (drawn_at rules s k room o).0
-        on None e going = same s
-        on (Some end) e going = marked_or end e going (is_marked end.standing)
+        on : (o : Option NearEnd) → end_at s k ≡ o → Behind s (drawn_at rules s k room o).0
+        on None e = same s
+        on (Some end) e = marked_or end e (is_marked end.standing)
 
-        rest_of : (why : Cause) (client : Leg) (rest : List ℕ)
-            → s.course ≡ Refusing why client rest → (t : Bool)
+        rest_of : (why : Cause) (client : Leg) (rest : List ℕ) (t : Bool)
             → Behind s (cond {A = Shell S × List ℕ} t
             (record s { course = Refusing why client (drop room rest) }, take room rest)
             (s, [])).0
-        rest_of why client rest e true =
-            closed s (record s { course = Refusing why client (drop room rest) })
-            (λ g. absurd cc)
-        rest_of why client rest e false = same s
+        rest_of why client rest true =
+            same_legs s (record s { course = Refusing why client (drop room rest) }) refl
+        rest_of why client rest false = same s
 
-        by : (c : Course) → s.course ≡ c → Behind s (drawn_by rules s k room c).0
-        by Going e = on (end_at s k) refl e
-        by (Closed why) e = same s
-        by (Refusing why client rest) e = rest_of why client rest e (same_leg client k)
+        by : (c : Course) → Behind s (drawn_by rules s k room c).0
+        by Going = on (end_at s k) refl
+        by (Closed why) = same s
+        by (Refusing why client rest) = rest_of why client rest (same_leg client k)
 
     -- ---- another leg is lost
 
     module _ (k : Leg) (other : same_leg k leg ≡ false) where
-      loses : (end : NearEnd) (why : Cause) → end_at s k ≡ Some end → s.course ≡ Going
+      loses : (end : NearEnd) (why : Cause) → end_at s k ≡ Some end
           → Behind s (lost rules s k end why)
-      loses end why e going = by (is_finished rules s.role end)
+      loses end why e = by (is_finished rules s.role end)
         where
           marks : (role : S) → Behind s (with_end s k (marked end) role)
           marks role =
-              changes k end (marked end) role going (sym (end_is k s.legs) ∙ e) refl
+              changes k end (marked end) role (sym (end_is k s.legs) ∙ e) refl
               (λ this m. absurd (true≢false (sym this ∙ other)))
 
           by_marks : (t : Bool)
               → Behind s (cond t (with_end s k (marked end) (rules.mark s.role k)) (close s why))
           by_marks true = marks (rules.mark s.role k)
-          by_marks false = closed s (close s why) (λ g. absurd cc)
+          by_marks false = same_legs s (close s why) refl
 
           by_phase : (t : Bool)
               → Behind s (cond t (with_end s k (marked end) s.role)
@@ -255,45 +248,42 @@ module _ {S : Type 0} (rules : Rules S) (leg : Leg) where
           by false = by_phase (is_ended (rules.phase s.role))
 
       ends : Behind s (ended_by rules s k s.course)
-      ends = by s.course refl
+      ends = by s.course
         where
-          on : (o : Option NearEnd) → end_at s k ≡ o → s.course ≡ Going
-              → Behind s (ended_at rules s k o)
-          on None e going = same s
-          on (Some end) e going =
-              loses end (cause.LegEnded k (length end.intake.held)) e going
+          on : (o : Option NearEnd) → end_at s k ≡ o → Behind s (ended_at rules s k o)
+          on None e = same s
+          on (Some end) e = loses end (cause.LegEnded k (length end.intake.held)) e
 
-          by : (c : Course) → s.course ≡ c → Behind s (ended_by rules s k c)
-          by Going e = on (end_at s k) refl e
-          by (Closed why) e = same s
-          by (Refusing why client rest) e = same s
+          by : (c : Course) → Behind s (ended_by rules s k c)
+          by Going = on (end_at s k) refl
+          by (Closed why) = same s
+          by (Refusing why client rest) = same s
 
       breaks : Behind s (broken_by rules s k s.course)
-      breaks = by s.course refl
+      breaks = by s.course
         where
           heard : (why : Cause) (client : Leg) (t : Bool)
               → Behind s (cond t (refuse s why client Unavailable) (close s why))
           heard why client true =
-              closed s (refuse s why client Unavailable) (λ g. absurd cc)
-          heard why client false = closed s (close s why) (λ g. absurd cc)
+              same_legs s (refuse s why client Unavailable) refl
+          heard why client false = same_legs s (close s why) refl
 
           told : (why : Cause) (o : Option Leg) → Behind s (unreached_by s why o)
-          told why None = closed s (close s why) (λ g. absurd cc)
+          told why None = same_legs s (close s why) refl
           told why (Some client) = heard why client (is_heard (end_at s client))
 
           wanted : (t : Bool) → Behind s (cond t (unreached rules s k) s)
           wanted true = told (cause.LegBroken k) (rules.answers_on s.role)
           wanted false = same s
 
-          on : (o : Option NearEnd) → end_at s k ≡ o → s.course ≡ Going
-              → Behind s (broken_at rules s k o)
-          on None e going = wanted (wants rules s k)
-          on (Some end) e going = loses end (cause.LegBroken k) e going
+          on : (o : Option NearEnd) → end_at s k ≡ o → Behind s (broken_at rules s k o)
+          on None e = wanted (wants rules s k)
+          on (Some end) e = loses end (cause.LegBroken k) e
 
-          by : (c : Course) → s.course ≡ c → Behind s (broken_by rules s k c)
-          by Going e = on (end_at s k) refl e
-          by (Closed why) e = same s
-          by (Refusing why client rest) e = same s
+          by : (c : Course) → Behind s (broken_by rules s k c)
+          by Going = on (end_at s k) refl
+          by (Closed why) = same s
+          by (Refusing why client rest) = same s
 
       -- ---- another leg comes up
 
@@ -319,10 +309,7 @@ module _ {S : Type 0} (rules : Rules S) (leg : Leg) where
 
           by : (t : Bool) → Behind s (cond t (with_leg rules s k cookie) s)
           by false = same s
-          by true = record {
-            going = λ e. e;
-            stands = λ e h. on h (seat_forgets leg s.legs at new h.end other h.at);
-          }
+          by true = λ h. on h (seat_forgets leg s.legs at new h.end other h.at)
 
     -- ---- time
 
@@ -331,8 +318,8 @@ module _ {S : Type 0} (rules : Rules S) (leg : Leg) where
       where
         silent : (o : Option (Leg × ℕ)) → Behind s (passed_by rules (record s { now = now }) o)
         silent (Some one) =
-            closed s (passed_by rules (record s { now = now }) (Some one)) (λ g. absurd cc)
-        silent None = same_legs s (passed_by rules (record s { now = now }) None) refl (λ e. e)
+            same_legs s (passed_by rules (record s { now = now }) (Some one)) refl
+        silent None = same_legs s (passed_by rules (record s { now = now }) None) refl
 
         by : (t : Bool) → Behind s (cond t (passed rules (record s { now = now })) s)
         by true = silent (first_silent rules s.role now s.legs None)

@@ -1,7 +1,7 @@
 -- what is known of a leg at a node, event by event: it stands, or it was left by its role
 use Rattle.law_order.proofs.Vocabulary.{◌≡◌, ◌⊎◌, inl, inr, ℕ, zero, suc, ◌<◌, List, [], ◌∷◌, ◌++◌, length, cond, Bool, true, false, ◌||◌, nat_lt, Some, None, Ok, Err, arith, refl, sym, ap, ◌∙◌, subst, ◌&&◌, slice_set, Option, and_parts, true≢false, nat_tests}
 use Rattle.rh_line.specs.declared.state.State.TheVariants as state
-use Rattle.law_moves.proofs.Vocabulary.{neither, Cookie, Cause, Leg, State, Going, Rooms, cause_of, close_where, give_where, recycle_where, take_where, NearEnd, new_end, Acts, Message, Packet, Pdu, Row, Rules, Shell, begun, free_place, has_room, is_working, may_up, place, same_leg, seated_at, state_of, with_leg, Move, Up, HeadCame, PduCame, PacketCame, Puts, IsDrawn, Marks, Pings, Passage, EndMove, EndPassage, Moves, Gives, Takes, Closes, Recycles, AreAllowedAtEnd, MayEndMove}
+use Rattle.law_moves.proofs.Vocabulary.{neither, Cookie, Cause, Leg, State, Rooms, cause_of, close_where, give_where, recycle_where, take_where, NearEnd, new_end, Acts, Message, Packet, Pdu, Row, Rules, Shell, begun, free_place, has_room, is_working, may_up, place, same_leg, seated_at, state_of, with_leg, Move, Up, HeadCame, PduCame, PacketCame, Puts, IsDrawn, Marks, Pings, Passage, EndMove, EndPassage, Moves, Gives, Takes, Closes, Recycles, AreAllowedAtEnd, MayEndMove}
 use Rattle.law_moves.proofs.Vocabulary.{MayMove, all_end_moved, end_moved, end_started, is_in_use, moved, put_by, started, taken_by, AreHeld, EndEvent, EndLeads, Event, ComesUp, Hears, Ends, Breaks, Draws, Ticks, Happens, IsClosed, IsGiven, IsRecycled, IsTaken, Leads, after_end_event, after_event, of_leg}
 use Rattle.law_moves.proofs.Lemmas.{leads_keep, leads_one, leads_then, leg_is}
 use Rattle.law_node_history.proofs.Lemmas.{same_itself}
@@ -10,11 +10,12 @@ use Rattle.law_node_causes.proofs.LegChanges.{closed_legs, given_legs, recycled_
 use Rattle.law_node_causes.proofs.OnceUp.{AllFollow, AllFollowAtEnd, Goes, comes_up, first_held, first_once, run_once, run_once_at_end}
 use Rattle.law_node_causes.specs.Once.{AreUpOnce, ComesUpOnce, KeepsUp}
 use Rattle.law_node_streams.proofs.Streams.EndMoves.{did_close, did_give, did_recycle, did_take, leads_one as end_leads_one}
+use Rattle.law_node_streams.proofs.Streams.Going.{free_before}
 use Rattle.law_node_streams.proofs.Streams.Ends.{end_is, end_leg, end_of, none_in}
 use Rattle.law_node_streams.proofs.Streams.Turns.{more_there}
 use Rattle.law_node_streams.proofs.Streams.Ways.{or_false as or_none}
 use Rattle.law_node_streams.specs.Streams.{StaysUnused, StaysUnusedAtEnd, is_end_up_on, is_up_on}
-use Rattle.law_world_ways.proofs.OnPaths.KeptEnds.{Behind, IsAnother, IsLeft, Stands, Unused, behind}
+use Rattle.law_world_ways.proofs.OnPaths.KeptEnds.{IsAnother, IsFree, IsLeft, Stands, Unused, behind}
 use Rattle.law_world_ways.proofs.ExactWays.CameUp.{or_left}
 use Rattle.law_world_ways.specs.OnPaths.Lost.{is_loss_of, was_lost}
 
@@ -122,7 +123,7 @@ module _ {S : Type 0} (rules : Rules S) (Holds : S → Type 0) (once : ComesUpOn
     pub held : AreHeld s
     pub are : AreUpOnce rules Holds s
     pub was : up ≡ true → rules.was_up s.role leg ≡ true
-    pub kept : s.course ≡ Going → up ≡ true → Stands rules leg s ⊎ Gone
+    pub kept : IsFree leg s → up ≡ true → Stands rules leg s ⊎ Gone
 
   pub known_first : (Gone : Type 0) (first : S) (rooms : Rooms) → Holds first
       → Known Gone (begun first rooms) false
@@ -130,11 +131,11 @@ module _ {S : Type 0} (rules : Rules S) (Holds : S → Type 0) (once : ComesUpOn
     held = first_held rules Holds once first rooms;
     are = first_once rules Holds once first rooms holds;
     was = λ e. absurd cc;
-    kept = λ going e. absurd cc;
+    kept = λ free e. absurd cc;
   }
 
   module _ (follow : AllFollow rules) (s : Shell S) (up : Bool) (Gone Then : Type 0)
-      (known : Known Gone s up) (leaves : s.course ≡ Going → IsLeft rules leg s → Gone) where
+      (known : Known Gone s up) (leaves : IsFree leg s → IsLeft rules leg s → Gone) where
     was_new : (event : Event) → IsAccepted rules s event → is_up_of leg event ≡ true
         → rules.was_up (after_event rules s event).role leg ≡ true
     was_new (ComesUp k cookie) ok this =
@@ -160,49 +161,49 @@ module _ {S : Type 0} (rules : Rules S) (Holds : S → Type 0) (once : ComesUpOn
 
     -- a leg that was left stays so
     abbrev Stays : Event → Type 0
-    Stays event = (after_event rules s event).course ≡ Going → up ≡ true → Gone → Then
+    Stays event = IsFree leg (after_event rules s event) → up ≡ true → Gone → Then
 
     -- where it does not come up by the event
     stays_kept : (event : Event) → IsAnother rules leg s known.held event
         → is_loss_of leg event ≡ false → Stays event
-        → (after_event rules s event).course ≡ Going → up ≡ true
+        → IsFree leg (after_event rules s event) → up ≡ true
         → Stands rules leg (after_event rules s event) ⊎ Then
-    stays_kept event other kept stays goes e = by (known.kept (b.going goes) e)
+    stays_kept event other kept stays free e = by (known.kept before e)
       where
-        b : Behind rules leg s (after_event rules s event)
-        b = behind rules leg s known.held event other kept
+        before : IsFree leg s
+        before = free_before rules leg s event free
 
         on : Stands rules leg (after_event rules s event) ⊎ IsLeft rules leg s
             → Stands rules leg (after_event rules s event) ⊎ Then
         on (inl h) = inl h
-        on (inr gone) = inr (stays goes e (leaves (b.going goes) gone))
+        on (inr gone) = inr (stays free e (leaves before gone))
 
         by : Stands rules leg s ⊎ Gone → Stands rules leg (after_event rules s event) ⊎ Then
-        by (inl stands) = on (b.stands goes stands)
-        by (inr gone) = inr (stays goes e gone)
+        by (inl stands) = on (behind rules leg s known.held event other kept stands)
+        by (inr gone) = inr (stays free e gone)
 
     kept_then : (event : Event) → IsAccepted rules s event → is_loss_of leg event ≡ false
-        → Stays event → (after_event rules s event).course ≡ Going
+        → Stays event → IsFree leg (after_event rules s event)
         → (up || is_up_of leg event) ≡ true
         → Stands rules leg (after_event rules s event) ⊎ Then
-    kept_then (ComesUp k cookie) ok kept stays goes e = by (same_leg k leg) refl
+    kept_then (ComesUp k cookie) ok kept stays free e = by (same_leg k leg) refl
       where
         by : (b : Bool) → same_leg k leg ≡ b
             → Stands rules leg (after_event rules s (ComesUp k cookie)) ⊎ Then
         by true this = inl (stands_new s k cookie known.are ok this)
         by false other =
-            stays_kept (ComesUp k cookie) other kept stays goes
+            stays_kept (ComesUp k cookie) other kept stays free
             (or_left up (same_leg k leg) other e)
-    kept_then (Hears k piece) ok kept stays goes e =
-        stays_kept (Hears k piece) tt kept stays goes (or_left up false refl e)
-    kept_then (Ends k) ok kept stays goes e =
-        stays_kept (Ends k) tt kept stays goes (or_left up false refl e)
-    kept_then (Breaks k) ok kept stays goes e =
-        stays_kept (Breaks k) tt kept stays goes (or_left up false refl e)
-    kept_then (Draws k room) ok kept stays goes e =
-        stays_kept (Draws k room) tt kept stays goes (or_left up false refl e)
-    kept_then (Ticks now) ok kept stays goes e =
-        stays_kept (Ticks now) tt kept stays goes (or_left up false refl e)
+    kept_then (Hears k piece) ok kept stays free e =
+        stays_kept (Hears k piece) tt kept stays free (or_left up false refl e)
+    kept_then (Ends k) ok kept stays free e =
+        stays_kept (Ends k) tt kept stays free (or_left up false refl e)
+    kept_then (Breaks k) ok kept stays free e =
+        stays_kept (Breaks k) tt kept stays free (or_left up false refl e)
+    kept_then (Draws k room) ok kept stays free e =
+        stays_kept (Draws k room) tt kept stays free (or_left up false refl e)
+    kept_then (Ticks now) ok kept stays free e =
+        stays_kept (Ticks now) tt kept stays free (or_left up false refl e)
 
     pub known_after : (event : Event) → IsAccepted rules s event
         → is_loss_of leg event ≡ false → Stays event
@@ -345,40 +346,40 @@ module _ {S : Type 0} (rules : Rules S) (Holds : S → Type 0) (once : ComesUpOn
       left_stays_at_end put q r leads l =
           subst (LeftAtEnd put) leads.reached (left_all put q leads.moves leads.allowed l)
 
-    given_going : (s : Shell S) (pdu : List ℕ) (o : Option Cause)
-        → (give_where acts s pdu o).0.course ≡ Going → s.course ≡ Going
-    given_going s pdu None e = e
-    given_going s pdu (Some why) e = e
+    given_free : (s : Shell S) (pdu : List ℕ) (o : Option Cause)
+        → IsFree leg (give_where acts s pdu o).0 → IsFree leg s
+    given_free s pdu None e = e
+    given_free s pdu (Some why) e = e
 
-    taken_going : (s : Shell S) (o : Option Cause) → (take_where acts s o).course ≡ Going
-        → s.course ≡ Going
-    taken_going s None e = e
-    taken_going s (Some why) e = e
+    taken_free : (s : Shell S) (o : Option Cause) → IsFree leg (take_where acts s o)
+        → IsFree leg s
+    taken_free s None e = e
+    taken_free s (Some why) e = e
 
-    closed_going : (s : Shell S) (o : Option Cause) → (close_where acts s o).course ≡ Going
-        → s.course ≡ Going
-    closed_going s None e = e
-    closed_going s (Some why) e = e
+    closed_free : (s : Shell S) (o : Option Cause) → IsFree leg (close_where acts s o)
+        → IsFree leg s
+    closed_free s None e = e
+    closed_free s (Some why) e = e
 
-    recycled_going : (s : Shell S) (x : State) → (recycle_where acts s x).0.course ≡ Going
-        → s.course ≡ Going
-    recycled_going s state.Open e = e
-    recycled_going s state.Opening e = e
-    recycled_going s state.Ended e = e
-    recycled_going s (state.Closed why) e = e
+    recycled_free : (s : Shell S) (x : State) → IsFree leg (recycle_where acts s x).0
+        → IsFree leg s
+    recycled_free s state.Open e = e
+    recycled_free s state.Opening e = e
+    recycled_free s state.Ended e = e
+    recycled_free s (state.Closed why) e = e
 
     module _ (s : Shell S) (up : Bool) (Gone Then : Type 0) (known : Known Gone s up)
-        (leaves : s.course ≡ Going → IsLeft rules leg s → Gone) where
+        (leaves : IsFree leg s → IsLeft rules leg s → Gone) where
       -- an act leaves legs and course
       acted : (event : EndEvent)
           → (let t = after_end_event rules acts s event in
-          t.legs ≡ s.legs → (t.course ≡ Going → s.course ≡ Going)
-          → (t.course ≡ Going → up ≡ true → Gone → Then) → Known Then t (up || false))
-      acted event legs going stays = subst (Known Then t) (sym (or_none up)) (record {
+          t.legs ≡ s.legs → (IsFree leg t → IsFree leg s)
+          → (IsFree leg t → up ≡ true → Gone → Then) → Known Then t (up || false))
+      acted event legs before stays = subst (Known Then t) (sym (or_none up)) (record {
         held = g.held;
         are = g.are;
         was = λ e. g.up leg (known.was e);
-        kept = λ goes e. by goes e (known.kept (going goes) e);
+        kept = λ free e. by free e (known.kept (before free) e);
       })
         where
           t : Shell S
@@ -388,18 +389,18 @@ module _ {S : Type 0} (rules : Rules S) (Holds : S → Type 0) (once : ComesUpOn
           g = run_once_at_end rules Holds once follow acts calls follow_end s (event ∷ [])
               known.held known.are
 
-          by : t.course ≡ Going → up ≡ true → Stands rules leg s ⊎ Gone
+          by : IsFree leg t → up ≡ true → Stands rules leg s ⊎ Gone
               → Stands rules leg t ⊎ Then
-          by goes e (inl h) = inl (record {
+          by free e (inl h) = inl (record {
             end = h.end;
             at = ap (end_of leg) legs ∙ h.at;
             unmarked = h.unmarked;
           })
-          by goes e (inr gone) = inr (stays goes e gone)
+          by free e (inr gone) = inr (stays free e gone)
 
       pub known_at_end : (event : EndEvent) → IsAcceptedAtEnd rules s event
           → is_lost_at leg event ≡ false
-          → ((after_end_event rules acts s event).course ≡ Going → up ≡ true → Gone → Then)
+          → (IsFree leg (after_end_event rules acts s event) → up ≡ true → Gone → Then)
           → Known Then (after_end_event rules acts s event) (up || comes_at leg event)
       known_at_end (Happens event) ok kept stays =
           subst (λ b. Known Then (after_event rules s event) (up || b))
@@ -408,13 +409,13 @@ module _ {S : Type 0} (rules : Rules S) (Holds : S → Type 0) (once : ComesUpOn
           (neither (is_loss_of leg event) false kept).0 stays)
       known_at_end (IsGiven pdu) ok kept stays =
           acted (IsGiven pdu) (given_legs rules s acts pdu (cause_of s.course))
-          (given_going s pdu (cause_of s.course)) stays
+          (given_free s pdu (cause_of s.course)) stays
       known_at_end IsTaken ok kept stays =
           acted IsTaken (taken_legs rules s acts (cause_of s.course))
-          (taken_going s (cause_of s.course)) stays
+          (taken_free s (cause_of s.course)) stays
       known_at_end IsClosed ok kept stays =
           acted IsClosed (closed_legs rules s acts (cause_of s.course))
-          (closed_going s (cause_of s.course)) stays
+          (closed_free s (cause_of s.course)) stays
       known_at_end IsRecycled ok kept stays =
           acted IsRecycled (recycled_legs rules s acts (state_of rules s))
-          (recycled_going s (state_of rules s)) stays
+          (recycled_free s (state_of rules s)) stays

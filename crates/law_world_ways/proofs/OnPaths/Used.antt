@@ -4,7 +4,7 @@ use Rattle.rh_shell.specs.NearEnds.{is_empty}
 use Rattle.rh_wires.specs.Wires.{is_up}
 use Rattle.law_moves.proofs.Vocabulary.{Dir, Pipe, Leg, Course, Going, Closed, Refusing, NearEnd, is_over, Message, Rules, Shell, end_at, is_going, Reading, messages_from, reading}
 use Rattle.law_node_history.proofs.Vocabulary.{in_flight, receiver, sender, World, wire_at, History}
-use Rattle.law_node_streams.specs.Streams.{is_live}
+use Rattle.law_node_streams.specs.Streams.{is_live, is_refused_on}
 use Rattle.law_world_ways.specs.OnPaths.Legs.{IsInUse, has_passed, is_cut, on_leg, was_told, was_up}
 use Rattle.law_world_ways.specs.OnPaths.OnWay.{is_lost, left_on, on_way, read_by, read_on}
 
@@ -18,8 +18,9 @@ both_up a b false y z e f = absurd (cc)
 both_up a b true false z e f = absurd (cc)
 
 pub left_told : {S : Type 0} (s : Shell S) (leg : Leg) (up lost : Bool) (end : NearEnd)
-    → s.course ≡ Going → end_at s leg ≡ Some end → left_on s leg up lost ≡ Some end.begun
-left_told s leg up lost end going at = rw (going, at) refl
+    → is_refused_on leg s.course ≡ false → end_at s leg ≡ Some end
+    → left_on s leg up lost ≡ Some end.begun
+left_told s leg up lost end free at = rw (free, at) refl
 
 pub read_told : {S : Type 0} (rules : Rules S) (s : Shell S) (pipe : Option Pipe) (leg : Leg)
     (up : Bool) (end : NearEnd) → s.course ≡ Going → end_at s leg ≡ Some end
@@ -67,7 +68,7 @@ module _ {K C S I O P T : Type 0} (v : World K C S I O) (h : History) (leg : Leg
       (is_empty (in_flight dir wire)) used.up_there used.up_here)
       (read_told rules takes pipe leg take_up used.far used.takes_on used.kept_there used.of_use
       used.live)
-      (left_told puts leg put_up put_lost used.near used.puts_on used.kept_here)
+      (left_told puts leg put_up put_lost used.near used.free used.kept_here)
 
   pub used_goes : (came : List Item)
       → stops_at (is_lost (on_leg v h leg dir pipe puts rules takes)) came ≡ false

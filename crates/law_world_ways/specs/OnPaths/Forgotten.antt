@@ -3,7 +3,6 @@ use Rattle.std.specs.Prelude.{◌≡◌, ℕ, List, Bool, true, false, None}
 use Rattle.std.specs.declared.option.Option.{Option}
 use Rattle.rh_sig.specs.declared.name.Pipe.{Pipe}
 use Rattle.rh_line.specs.declared.leg.Leg.{Leg}
-use Rattle.rh_shell.specs.declared.course.Course.TheVariants.{Going}
 use Rattle.rh_shell.specs.declared.rooms.Rooms.{Rooms}
 use Rattle.rh_shell.specs.Rules.{Acts, Message, Rules}
 use Rattle.rh_shell.specs.Shells.{Shell, begun, end_at}
@@ -24,17 +23,17 @@ use Rattle.law_moves.specs.Moving.{EndEvent, Event, after_end_events, after_even
 use Rattle.law_moves.specs.Wires.{of_leg}
 use Rattle.law_node_history.specs.Carried.{came_up, drawn_on, end_drawn_on, happened}
 use Rattle.law_node_history.specs.Histories.{History}
-use Rattle.law_node_streams.specs.Streams.{EndStream, Stream}
+use Rattle.law_node_streams.specs.Streams.{EndStream, Stream, is_refused_on}
 use Rattle.law_node_begins.specs.ProxiesBegin.Pipes.{in_pipe}
 use Rattle.law_peers_routes.specs.Downwards.{client_reads, proxy_reads, server_reads}
 use Rattle.law_world_order.specs.Directions.{Directions}
 use Rattle.law_world_order.specs.Flows.{Numbers}
 use Rattle.law_world_ways.specs.OnPaths.Lost.{was_lost}
 
--- the node goes on, and keeps no end of the leg any more, which came up there and of which it was
--- not told that it ended or broke
+-- the node keeps no end of the leg any more, which came up there and of which it was not told that
+-- it ended or broke; and it refuses nobody there
 pub record IsForgotten {S : Type 0} (node : Shell S) (leg : Leg) (up told : Bool) : Type 0 where
-  pub goes : node.course ≡ Going
+  pub free : is_refused_on leg node.course ≡ false
   pub gone : end_at node leg ≡ None
   pub rose : up ≡ true
   pub untold : told ≡ false

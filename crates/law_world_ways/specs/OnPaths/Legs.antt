@@ -14,7 +14,7 @@ use Rattle.rh_wires.specs.Wires.{in_flight, is_up, receiver, sender}
 use Rattle.rh_nodes.specs.World.{World, at}
 use Rattle.law_node_history.specs.Carried.{came_up, events_of, wire_at}
 use Rattle.law_node_history.specs.Histories.{History}
-use Rattle.law_node_streams.specs.Streams.{is_live}
+use Rattle.law_node_streams.specs.Streams.{is_live, is_refused_on}
 use Rattle.law_world_ways.specs.OnPaths.Lost.{was_lost}
 use Rattle.law_world_ways.specs.OnPaths.OnWay.{left_on, on_way, read_on}
 
@@ -46,12 +46,13 @@ on_leg v h leg dir pipe puts rules takes =
     (in_flight dir (wire_at v.legs leg))
     (left_on puts leg (was_up v h leg (sender dir)) (was_told v h leg (sender dir)))
 
--- it is up for both its ends; both nodes go on and keep it, and the one that takes has use for it
+-- it is up for both its ends, and both nodes keep it; the one that takes goes on and has use for
+-- it, and the one that puts refuses nobody there, and may have closed
 pub record IsInUse {K C S I O P T : Type 0} (v : World K C S I O) (leg : Leg) (dir : Dir)
     (puts : Shell P) (rules : Rules T) (takes : Shell T) : Type 0 where
   pub up_here : is_up (sender dir) (wire_at v.legs leg) ≡ true
   pub up_there : is_up (receiver dir) (wire_at v.legs leg) ≡ true
-  pub puts_on : puts.course ≡ Going
+  pub free : is_refused_on leg puts.course ≡ false
   pub takes_on : takes.course ≡ Going
   pub near : NearEnd
   pub far : NearEnd

@@ -11,26 +11,23 @@ use Rattle.rh_shell.specs.NearEnds.{NearEnd, is_over}
 use Rattle.rh_shell.specs.Rules.{Rules, Message}
 use Rattle.rh_shell.specs.Shells.{Shell, end_at}
 use Rattle.law_moves.specs.ReadBack.Reading.{Reading, begin, messages_from, reading}
-use Rattle.law_node_streams.specs.Streams.{is_live}
+use Rattle.law_node_streams.specs.Streams.{is_live, is_refused_on}
 
 -- ---- the end that puts
 
--- the bytes that are begun and not drawn: none where the leg did not come up, and where the node
--- forgot it and was not told that it is lost, since it drew all before. Of a leg that is lost and
--- forgotten, and of a node that closed, they are not told
+-- the bytes that are begun and not drawn, where the node closed as well: none where the leg did not
+-- come up, and where the node forgot it and was not told that it is lost, since it drew all before.
+-- They are not told of a leg that is lost and forgotten, nor of one on which a node refuses its
+-- client, where nothing was put
 abbrev pub left_at : Bool → Bool → Option NearEnd → Option (List ℕ)
 left_at up told (Some end) = Some end.begun
 left_at true true None = None
 left_at true false None = Some []
 left_at false told None = Some []
 
-abbrev pub left_by : Bool → Bool → Option NearEnd → Course → Option (List ℕ)
-left_by up told end Going = left_at up told end
-left_by up told end (Closed why) = None
-left_by up told end (Refusing why leg rest) = None
-
 abbrev pub left_on : {S : Type 0} → Shell S → Leg → Bool → Bool → Option (List ℕ)
-left_on s leg up told = left_by up told (end_at s leg) s.course
+left_on s leg up told =
+    if is_refused_on leg s.course then None else left_at up told (end_at s leg)
 
 -- ---- the end that takes
 

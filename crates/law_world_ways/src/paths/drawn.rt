@@ -41,8 +41,8 @@ use rh_server::ServerRole;
 
 /// In each world of new roles whose numbers are in their ranges, at every moment that changes of
 /// lines and half steps reach, the streams of the nodes are joined in both directions by ones with
-/// which this holds: where a node goes on, was not told that a leg ended or broke, and keeps no end
-/// of it any more, all that it put there was drawn.
+/// which this holds: where a node was not told that a leg ended or broke, keeps no end of it any
+/// more, and refuses nobody there, all that it put there was drawn, whether it goes on or closed.
 pub fn what_was_forgotten_was_drawn<K>()
     ensures { InNewWorlds K (λ m w ours. AtEachMoment m w (λ v by.
         DrawnDirections (numbers_of ours) v (history_at m w v by.leads))) }

@@ -29,7 +29,8 @@ use law_peers_routes::{what_goes_down_is_a_route, what_goes_up_is_a_route};
 
 /// In each world of new roles whose numbers are in their ranges, at every moment that changes of
 /// lines and half steps reach: what was put on a leg and did not come is what is read in the bytes
-/// in flight there and those that are begun, unless the leg gives nothing more. So what was given
+/// in flight there and those that are begun, also where the node that puts closed, unless the leg
+/// gives nothing more. So what was given
 /// is what was taken and what is on its way, while no leg of the channels from the one that is
 /// taken to the one that is written on is lost before its handover mark or END passed. Whatever is
 /// lost, what was given begins with what was taken and what can still be taken.
@@ -50,7 +51,8 @@ pub fn nothing_on_its_way_is_lost<K>()
 }
 
 /// So it is while each leg of these channels is in use, or its handover mark or END passed: it is
-/// up for both its ends, both nodes go on and keep it, and the one that takes has use for it.
+/// up for both its ends, whose nodes keep it; the one that takes goes on and has use for it, and
+/// the one that puts, which may have closed, refuses nobody there.
 pub fn legs_in_use_lose_nothing<K>()
     ensures down { (numbers : Numbers) (v : World K ClientRole Server InProxy OutProxy)
         (h : History) (ways : AreOnTheirWay numbers v h)

@@ -14,10 +14,10 @@ ghost use Rattle.law_node_history.specs.Carried.{wire_at};
 ghost use Rattle.law_node_history.specs.Histories.{History};
 ghost use Rattle.law_world_ways.specs.OnPaths.Legs.{IsInUse, on_leg};
 
-/// On a leg that is up for both its ends, where both nodes go on and keep it, and the one that
-/// takes has use for it, stand the messages that are read in the bytes in flight and then in those
-/// that are begun, behind those that the node holds. Where the node that takes closed, the leg
-/// gives nothing more.
+/// On a leg that is up for both its ends, whose nodes keep it, where the one that takes goes on and
+/// has use for it, stand the messages that are read in the bytes in flight and then in those that
+/// are begun, behind those that the node holds: also where the node that puts closed, unless it
+/// refuses its client there. Where the node that takes closed, the leg gives nothing more.
 pub fn what_stands_on_a_leg_is_read_in_its_bytes<K, C, S, I, O, P, T>()
     ensures used { (v : World K C S I O) (h : History) (leg : Leg) (dir : Dir)
         (pipe : Option Pipe) (puts : Shell P) (rules : Rules T) (takes : Shell T)
