@@ -1,10 +1,10 @@
 //! What the jobs of a node answer.
 
-use crate::actor::Actor;
-use crate::slot::Served;
+use rh_actors::Actor;
 use rh_legs::NodeEnd;
 use rh_machines::Node;
 use rh_net::Net;
+use rh_slots::Served;
 
 /// What a job answers: its node, who acted, why it ended, and what it had of the outside.
 #[derive(Drop)]

@@ -1,8 +1,8 @@
 //! How what the jobs had of the outside comes together again.
 
 use crate::answer::Had;
-use crate::slot::Served;
 use rh_net::Net;
+use rh_slots::Served;
 
 /// What came back of the outside.
 #[derive(Drop)]

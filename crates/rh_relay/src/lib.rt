@@ -2,24 +2,12 @@
 //! its own.
 #![tactic(auto)]
 
-pub mod actor;
 pub mod answer;
-pub mod client;
-pub mod desk;
-pub mod first;
 pub mod gathering;
-pub mod giving;
-pub mod hand_over;
-pub mod keeper;
 pub mod making;
-pub mod plan;
-pub mod proxy;
-pub mod queue;
+pub mod outside;
 pub mod run;
-pub mod server;
-pub mod slot;
-pub mod taking;
 pub mod work;
 
-pub use plan::{Outside, Plan};
+pub use outside::Outside;
 pub use run::{Ran, run_node};

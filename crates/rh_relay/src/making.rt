@@ -2,19 +2,15 @@
 
 ghost use Rattle.std.specs.Prelude.{◌≡◌, ◌+◌, ◌*◌, ◌≤◌, length, vec_len, OnOk};
 
-use crate::actor::Actor;
-use crate::desk::Desk;
-use crate::giving::GivingRooms;
-use crate::hand_over::HandOver;
-use crate::keeper::Keeper;
-use crate::plan::Plan;
-use crate::queue::Queue;
-use crate::slot::{Slot, slots_of};
-use crate::work::{Serving, Task, Work};
+use crate::work::{Task, Work};
+use rh_actors::Actor;
 use rh_io::NoMemory;
+use rh_keepers::{Desk, Keeper, Plan, Queue};
 use rh_legs::Gate;
 use rh_machines::{Node, block_room, piece_room};
 use rh_net::{Clock, Cookies, Net, Ready, ShutSink};
+use rh_slots::{HandOver, Serving, Slot, slots_of};
+use rh_streams::GivingRooms;
 use std::alloc::Global;
 use std::sync::{Arc, Wait};
 

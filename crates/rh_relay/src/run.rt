@@ -2,16 +2,15 @@
 
 ghost use Rattle.std.specs.Prelude.{◌≡◌, ℕ, ◌<◌, length, slice_get, Some};
 
-use crate::actor::Actor;
 use crate::answer::Done;
-use crate::desk::{Books, Desk};
 use crate::gathering::Back;
 use crate::making::Shared;
-use crate::plan::{Outside, Plan};
-use crate::queue::Queue;
+use crate::outside::Outside;
 use crate::work::Work;
+use rh_actors::Actor;
 use rh_io::NoMemory;
 use rh_jobs::{SpawnRefused, Spawner};
+use rh_keepers::{Books, Desk, Plan, Queue};
 use rh_legs::{Gate, NodeEnd};
 use rh_machines::{Node, Role};
 use rh_net::{Clock, Cookies, Net, Ready, ShutSink};

@@ -1,28 +1,17 @@
 //! The jobs of a node.
 
-use crate::actor::Actor;
 use crate::answer::{Done, Had};
-use crate::giving::{GivingRooms, give_all};
-use crate::hand_over::HandOver;
-use crate::keeper::Keeper;
-use crate::slot::{Served, ToRead, ToWrite, read_slot, write_slot};
-use crate::taking::take_all;
+use rh_actors::Actor;
 use rh_jobs::Job;
+use rh_keepers::Keeper;
 use rh_legs::{Gate, NodeEnd};
-use rh_machines::{BlockRoom, Node, PieceRoom};
+use rh_machines::{BlockRoom, Node};
 use rh_net::{Clock, Cookies, Net, Ready, ShutSink};
+use rh_slots::{Serving, ToRead, ToWrite, read_slot, write_slot};
+use rh_streams::{GivingRooms, give_all, take_all};
 use std::alloc::Global;
-use std::sync::{Arc, Wait};
+use std::sync::Wait;
 use std::time;
-
-/// What a slot's job serves: its legs, in the order in which the keeper hands them over.
-#[derive(Drop)]
-pub struct Serving<T: Drop, K: Drop, G: Drop> {
-    pub(crate) legs: Arc<HandOver<T>, Global>,
-    pub(crate) gate: Arc<G, Global>,
-    pub(crate) room: PieceRoom,
-    pub(crate) kept: Vec<Served<K>>,
-}
 
 /// What one job of a node does.
 #[derive(Drop)]

@@ -1,0 +1,7 @@
+-- the value is the same
+use Rattle.std.proofs.Common.{◌≡◌}
+use Rattle.std.specs.Arc.{arc_value}
+use Rattle.rh_keepers.proofs.desk.alone.Given as goal
+
+abbrev pub invariant-loop : goal.invariant-loop
+invariant-loop g l = arc_value l.shared ≡ arc_value l.fn.shared

@@ -1,0 +1,16 @@
+//! The keepers of running nodes: they have legs connected or accept them, tell the moment, and hand
+//! legs to the slots.
+#![tactic(auto)]
+
+pub mod client;
+pub mod desk;
+pub mod keeper;
+pub mod plan;
+pub mod proxy;
+pub mod queue;
+pub mod server;
+
+pub use desk::{Books, Desk};
+pub use keeper::Keeper;
+pub use plan::Plan;
+pub use queue::Queue;

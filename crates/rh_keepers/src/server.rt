@@ -1,0 +1,207 @@
+//! How a server is kept: callers are accepted, and each is known by its first frame.
+
+use crate::keeper::{Came, Keeper, shut};
+use rh_legs::NodeEnd;
+use rh_line::{Leg, LegKind};
+use rh_machines::Node;
+use rh_net::{Clock, Cookies, Net, Ready, Way};
+use rh_rts::NO_COOKIE;
+use rh_server::{FirstKind, first_kind};
+use rh_slots::First;
+use std::alloc::Global;
+use std::sync::Wait;
+use std::time;
+
+/// How many callers a server holds at one time whose first frame is not whole.
+const STRANGERS: usize = 8;
+
+/// How long a look at a caller takes, in milliseconds.
+const LOOK: u32 = 10;
+
+/// How long a caller has for its first frame, in milliseconds.
+const FIRST_FRAME_WITHIN: u64 = 5000;
+
+// A caller whose first frame is not whole: what was read so far, and when it came.
+#[derive(Drop)]
+struct Stranger<I: Drop, O: Drop> {
+    first: First,
+    source: I,
+    sink: O,
+    since: u64,
+}
+
+// What a caller turned out to be.
+#[derive(Clone, Copy)]
+enum Met {
+    Unknown,
+    Leg(LegKind),
+    Nobody,
+}
+
+impl<I: Ready + Drop, O: Drop> Stranger<I, O> {
+    // Reads more of the first frame, where something is there.
+    fn look(&mut self, now: u64) -> Met {
+        let met = if self.source.ready(LOOK) {
+            match self.first.read(&mut self.source) {
+                Ok(0) | Err(_) => Met::Nobody,
+                Ok(_) => kind_of(&self.first),
+            }
+        } else {
+            Met::Unknown
+        };
+        match met {
+            Met::Unknown if FIRST_FRAME_WITHIN <= now.saturating_sub(self.since) => Met::Nobody,
+            met => met,
+        }
+    }
+}
+
+// Who a caller is, by these first bytes.
+fn kind_of(first: &First) -> Met {
+    match first_kind(first.bytes()) {
+        FirstKind::Need => Met::Unknown,
+        FirstKind::In => Met::Leg(LegKind::InServer),
+        FirstKind::Out => Met::Leg(LegKind::OutServer),
+        FirstKind::Stranger => Met::Nobody,
+    }
+}
+
+// The numbers of the next leg of each kind.
+#[derive(Clone, Copy)]
+struct Numbers {
+    ins: u32,
+    outs: u32,
+}
+
+impl Numbers {
+    fn next(&self, kind: LegKind) -> u32 {
+        match kind {
+            LegKind::InServer => self.ins,
+            _ => self.outs,
+        }
+    }
+
+    fn count(&mut self, kind: LegKind) {
+        match kind {
+            LegKind::InServer => self.ins = self.ins.saturating_add(1),
+            _ => self.outs = self.outs.saturating_add(1),
+        }
+    }
+}
+
+impl<M: Node, N: Net + Drop, C: Clock + Drop, K: Cookies + Drop> Keeper<M, N, C, K>
+where
+    M::State: Drop,
+    N::In: Ready + Drop,
+    N::Out: Drop,
+    N::Way: Drop,
+{
+    // Waits a moment for the next caller, where there is room for one.
+    fn accept_stranger<R: Wait>(
+        &mut self,
+        rt: &R,
+        strangers: &mut Vec<Stranger<N::In, N::Out>>,
+    ) -> Result<(), NodeEnd> {
+        if STRANGERS <= strangers.len() {
+            return Ok(());
+        }
+        let Some(came) = self.way.accept() else {
+            return Ok(());
+        };
+        let Ok((source, sink)) = self.desk.leg(rt, came) else {
+            return Err(NodeEnd::NetFault);
+        };
+        let first = First::new();
+        let since = self.desk.now(rt);
+        match strangers.push(Stranger {
+            first,
+            source,
+            sink,
+            since,
+        }) {
+            Ok(()) => Ok(()),
+            Err(_) => Err(NodeEnd::NoMemory),
+        }
+    }
+
+    // Brings a caller's leg up, by the next number of its kind.
+    fn admit<R: Wait>(
+        &mut self,
+        rt: &R,
+        kind: LegKind,
+        numbers: &mut Numbers,
+        came: Came<N::In, N::Out>,
+    ) {
+        let number = numbers.next(kind);
+        if self.bring_up(rt, Leg { kind, number }, NO_COOKIE, came) {
+            numbers.count(kind);
+        }
+    }
+
+    // Looks at one caller, and has it wait further where it isn't known yet.
+    fn meet<R: Wait>(
+        &mut self,
+        rt: &R,
+        stranger: Stranger<N::In, N::Out>,
+        strangers: &mut Vec<Stranger<N::In, N::Out>>,
+        numbers: &mut Numbers,
+    ) {
+        let mut stranger = stranger;
+        let met = stranger.look(self.told);
+        if matches!(met, Met::Unknown) {
+            let _ = strangers.push(stranger);
+            return;
+        }
+        let Stranger {
+            first,
+            mut source,
+            mut sink,
+            ..
+        } = stranger;
+        match met {
+            Met::Leg(kind) => {
+                let came = Came {
+                    first,
+                    source,
+                    sink,
+                };
+                self.admit(rt, kind, numbers, came);
+            }
+            _ => shut(&mut source, &mut sink),
+        }
+    }
+
+    // Looks at each caller once.
+    fn meet_all<R: Wait>(
+        &mut self,
+        rt: &R,
+        strangers: &mut Vec<Stranger<N::In, N::Out>>,
+        numbers: &mut Numbers,
+    ) {
+        for _ in 0..strangers.len() {
+            if strangers.is_empty() {
+                return;
+            }
+            let stranger = strangers.remove(0);
+            self.meet(rt, stranger, strangers, numbers);
+        }
+    }
+
+    /// Keeps a server until it ended, closed or was stopped.
+    pub(crate) fn keep_server<R: Wait + time::Clock>(&mut self, alloc: Global, rt: &R) -> NodeEnd {
+        let mut strangers = Vec::new(alloc);
+        let mut numbers = Numbers { ins: 1, outs: 1 };
+        for _ in rt.forever() {
+            self.tick_in_time(rt);
+            if !self.is_live(rt) {
+                return NodeEnd::Ended;
+            }
+            if let Err(end) = self.accept_stranger(rt, &mut strangers) {
+                self.actor.stop_at(rt, end);
+                return end;
+            }
+            self.meet_all(rt, &mut strangers, &mut numbers);
+        }
+        unreachable!()
+    }
+}

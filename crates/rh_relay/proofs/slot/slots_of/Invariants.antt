@@ -1,6 +1,0 @@
--- two slots for each number before this one
-use Rattle.std.proofs.Common.{◌≡◌, ◌*◌, vec_len}
-use Rattle.rh_relay.proofs.slot.slots_of.Given as goal
-
-abbrev pub invariant-loop-pair : goal.invariant-loop-pair
-invariant-loop-pair g l = vec_len l.slots ≡ l.pair * 2

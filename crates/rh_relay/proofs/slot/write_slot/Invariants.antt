@@ -1,6 +1,0 @@
--- the actor stays at its turn
-use Rattle.std.proofs.Common.{◌≡◌}
-use Rattle.rh_relay.proofs.slot.write_slot.Given as goal
-
-abbrev pub invariant-loop : goal.invariant-loop
-invariant-loop g l = record { turn : l.actor.turn ≡ l.fn.actor.turn }

@@ -1,0 +1,260 @@
+//! The slots of a node. Each has two jobs, which read and write one leg after the other.
+
+ghost use Rattle.std.specs.Prelude.{◌≡◌, ◌≤◌, ℕ, List, length, vec_len, IfOk};
+ghost use Rattle.rh_machines.specs.HandingBack.{IsFed};
+
+use crate::first::First;
+use crate::hand_over::HandOver;
+use rh_actors::Actor;
+use rh_io::NoMemory;
+use rh_legs::{Call, Gate, LegEnd, Pen};
+use rh_line::{Leg, LegKind};
+use rh_machines::{Node, NodeEvent, NodeReply, Piece, PieceRoom, Role};
+use rh_net::{ShutSink, ShutSource};
+use std::alloc::Global;
+use std::sync::{Arc, Wait};
+
+/// A leg that is to be read: the bytes that its keeper read first, and where the rest comes from.
+#[derive(Drop)]
+pub struct ToRead<I: Drop> {
+    pub leg: Leg,
+    pub first: First,
+    pub source: I,
+}
+
+/// A leg that is to be written.
+#[derive(Drop)]
+pub struct ToWrite<O: Drop> {
+    pub leg: Leg,
+    pub sink: O,
+}
+
+/// A leg that was served: its stream, which is shut, and why it was left.
+#[derive(Drop)]
+pub struct Served<T: Drop> {
+    pub leg: Leg,
+    pub stream: T,
+    pub end: LegEnd,
+}
+
+/// A slot of a node, for legs of one kind. It has one leg at a time.
+#[derive(Drop)]
+pub struct Slot<I: Drop, O: Drop> {
+    pub kind: LegKind,
+    pub reads: Arc<HandOver<ToRead<I>>, Global>,
+    pub writes: Arc<HandOver<ToWrite<O>>, Global>,
+}
+
+impl<I: Drop, O: Drop> Slot<I, O> {
+    /// A free slot. Fails where there is no memory.
+    pub fn new(alloc: Global, kind: LegKind) -> Result<Slot<I, O>, NoMemory> {
+        Ok(Slot {
+            kind,
+            reads: Arc::new(alloc, HandOver::new())?,
+            writes: Arc::new(alloc, HandOver::new())?,
+        })
+    }
+
+    /// The same slot, for the keeper. Fails where there is no memory.
+    pub fn share(&self) -> Result<Slot<I, O>, NoMemory> {
+        Ok(Slot {
+            kind: self.kind,
+            reads: Arc::try_clone(&self.reads)?,
+            writes: Arc::try_clone(&self.writes)?,
+        })
+    }
+
+    /// Hands a leg to both jobs, once the slot is free.
+    pub fn hand<R: Wait>(&self, rt: &R, read: ToRead<I>, write: ToWrite<O>) {
+        self.writes.put(rt, write);
+        self.reads.put(rt, read);
+    }
+
+    /// Tells both jobs that no further leg comes.
+    pub fn end<R: Wait>(&self, rt: &R) {
+        self.reads.end(rt);
+        self.writes.end(rt);
+    }
+}
+
+// How many slots a role has of each of its two kinds of leg: as many as it may have legs of the
+// kind at one time.
+fn slots_of_kind(role: Role) -> u32
+    ensures { result ≤ 4 }
+{
+    match role {
+        Role::Client => 2,
+        Role::InProxy | Role::OutProxy => 1,
+        Role::Server => 4,
+    }
+}
+
+// The two kinds of leg of a role.
+fn kinds(role: Role) -> (LegKind, LegKind) {
+    match role {
+        Role::Client => (LegKind::ClientOut, LegKind::ClientIn),
+        Role::InProxy => (LegKind::ClientIn, LegKind::InServer),
+        Role::OutProxy => (LegKind::ClientOut, LegKind::OutServer),
+        Role::Server => (LegKind::OutServer, LegKind::InServer),
+    }
+}
+
+/// The slots of a role, eight at most. Fails where there is no memory.
+pub fn slots_of<I: Drop, O: Drop>(alloc: Global, role: Role) -> Result<Vec<Slot<I, O>>, NoMemory>
+    ensures { IfOk result (λ slots. vec_len slots ≤ 8) }
+{
+    let (one, other) = kinds(role);
+    let mut slots = Vec::new(alloc);
+    for pair in 0..slots_of_kind(role) {
+        slots.push(Slot::new(alloc, one)?)?;
+        slots.push(Slot::new(alloc, other)?)?;
+    }
+    Ok(slots)
+}
+
+// Feeds what the keeper read, as one piece. The room comes back.
+fn feed_first<M: Node, R: Wait>(
+    rt: &R,
+    actor: &mut Actor<M>,
+    leg: Leg,
+    first: &First,
+    room: PieceRoom,
+) -> PieceRoom
+where
+    M::State: Drop,
+    ensures turn { actor.new.turn ≡ actor.old.turn }
+{
+    let bytes = first.bytes();
+    if bytes.is_empty() {
+        return room;
+    }
+    let mut room = room;
+    let (front, _) = room.split_at_mut(bytes.len());
+    front.copy_from_slice(bytes);
+    let piece = Piece::new(bytes.len(), room);
+    let (told, _) = actor.act(rt, NodeEvent::Bytes { leg, piece }, Call::Draws);
+    room_of(told)
+}
+
+// The room of the piece that a reply brings back.
+fn room_of(told: NodeReply) -> PieceRoom
+    requires { (piece : List ℕ) × IsFed piece told }
+{
+    let NodeReply::Fed { piece, .. } = told else {
+        unreachable!()
+    };
+    piece.into_room()
+}
+
+// Reads one leg to its end, and shuts its source.
+fn read_one<M: Node, R: Wait, I: ShutSource + Drop, G: Gate>(
+    rt: &R,
+    actor: &mut Actor<M>,
+    read: ToRead<I>,
+    room: PieceRoom,
+    gate: &G,
+) -> (Served<I>, PieceRoom)
+where
+    M::State: Drop,
+    ensures turn { actor.new.turn ≡ actor.old.turn }
+{
+    let ToRead {
+        leg,
+        first,
+        mut source,
+    } = read;
+    let room = feed_first(rt, actor, leg, &first, room);
+    let (end, room) = actor.read(rt, leg, &mut source, room, gate);
+    source.shut();
+    let served = Served {
+        leg,
+        stream: source,
+        end,
+    };
+    (served, room)
+}
+
+// Writes one leg until it is of no use any more, and shuts its sink.
+fn write_one<M: Node, R: Wait, O: ShutSink + Drop, G: Gate>(
+    rt: &R,
+    actor: &mut Actor<M>,
+    write: ToWrite<O>,
+    room: PieceRoom,
+    gate: &G,
+) -> (Served<O>, PieceRoom)
+where
+    M::State: Drop,
+    ensures turn { actor.new.turn ≡ actor.old.turn }
+{
+    let ToWrite { leg, mut sink } = write;
+    let (end, room) = actor.write(rt, Pen::of(leg), &mut sink, room, gate);
+    sink.shut();
+    let served = Served {
+        leg,
+        stream: sink,
+        end,
+    };
+    (served, room)
+}
+
+/// Reads one leg after the other until none comes, and keeps them. Fails where there is no memory
+/// for them.
+pub fn read_slot<M: Node, R: Wait, I: ShutSource + Drop, G: Gate>(
+    rt: &R,
+    actor: &mut Actor<M>,
+    legs: &HandOver<ToRead<I>>,
+    gate: &G,
+    room: PieceRoom,
+    kept: &mut Vec<Served<I>>,
+) -> Result<(), NoMemory>
+where
+    M::State: Drop,
+    ensures turn { actor.new.turn ≡ actor.old.turn }
+{
+    let mut room = room;
+    for _ in rt.forever() {
+        let Ok(()) = kept.try_reserve(1) else {
+            return Err(NoMemory);
+        };
+        let Some(read) = legs.take(rt) else {
+            return Ok(());
+        };
+        let (served, back) = read_one(rt, actor, read, room, gate);
+        room = back;
+        let Ok(()) = kept.push(served) else {
+            unreachable!()
+        };
+    }
+    unreachable!()
+}
+
+/// Writes one leg after the other until none comes, and keeps them. Fails where there is no memory
+/// for them.
+pub fn write_slot<M: Node, R: Wait, O: ShutSink + Drop, G: Gate>(
+    rt: &R,
+    actor: &mut Actor<M>,
+    legs: &HandOver<ToWrite<O>>,
+    gate: &G,
+    room: PieceRoom,
+    kept: &mut Vec<Served<O>>,
+) -> Result<(), NoMemory>
+where
+    M::State: Drop,
+    ensures turn { actor.new.turn ≡ actor.old.turn }
+{
+    let mut room = room;
+    for _ in rt.forever() {
+        let Ok(()) = kept.try_reserve(1) else {
+            return Err(NoMemory);
+        };
+        let Some(write) = legs.take(rt) else {
+            return Ok(());
+        };
+        let (served, back) = write_one(rt, actor, write, room, gate);
+        room = back;
+        let Ok(()) = kept.push(served) else {
+            unreachable!()
+        };
+    }
+    unreachable!()
+}

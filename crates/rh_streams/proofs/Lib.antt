@@ -1,0 +1,2 @@
+mod TakerCalls
+mod GiverCalls
