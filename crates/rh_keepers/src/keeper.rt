@@ -53,6 +53,8 @@ where
     pub told: u64,
     /// The streams of a caller whose first read failed, at a proxy.
     pub failed: Option<(N::In, N::Out)>,
+    /// The first address at which the net failed.
+    pub unreached: Option<Address>,
 }
 
 /// A leg that came: what was read of it first, and its streams.
@@ -107,6 +109,14 @@ where
 
     pub(crate) fn is_live<R: Wait>(&mut self, rt: &R) -> bool {
         self.actor.is_live(rt, Call::Keeps)
+    }
+
+    /// How the node ends where the net failed at this address, and the first such one is kept.
+    pub(crate) fn net_failed(&mut self, at: Option<Address>) -> NodeEnd {
+        if self.unreached.is_none() {
+            self.unreached = at;
+        }
+        NodeEnd::NetFault
     }
 
     /// Waits until the keeper was called more often than `heard`, a second at most.
@@ -181,7 +191,7 @@ where
             }
             Err(_) => {
                 self.act(rt, NodeEvent::Broken(leg));
-                NodeEnd::NetFault
+                self.net_failed(Some(*to))
             }
         }
     }

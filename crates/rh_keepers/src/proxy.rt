@@ -53,7 +53,10 @@ where
             if let Some(came) = self.way.accept() {
                 return match self.desk.leg(rt, came) {
                     Ok(leg) => Ok(Some(leg)),
-                    Err(_) => Err(NodeEnd::NetFault),
+                    Err(_) => {
+                        let at = self.plan.at;
+                        Err(self.net_failed(at))
+                    }
                 };
             }
             if self.actor.bell.is_stopped(rt) {

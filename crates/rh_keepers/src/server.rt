@@ -109,7 +109,8 @@ where
             return Ok(());
         };
         let Ok((source, sink)) = self.desk.leg(rt, came) else {
-            return Err(NodeEnd::NetFault);
+            let at = self.plan.at;
+            return Err(self.net_failed(at));
         };
         let first = First::new();
         let since = self.desk.now(rt);

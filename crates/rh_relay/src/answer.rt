@@ -3,7 +3,7 @@
 use rh_actors::Actor;
 use rh_legs::NodeEnd;
 use rh_machines::Node;
-use rh_net::Net;
+use rh_net::{Address, Net};
 use rh_slots::Served;
 
 /// What a job answers: its node, who acted, why it ended, and what it had of the outside.
@@ -24,8 +24,12 @@ where
 /// What a job had of the outside.
 #[derive(Drop)]
 pub enum Had<S: Drop, W: Drop, I: Drop, O: Drop> {
-    /// A keeper: the leg of a caller whose first read failed.
-    Failed(Option<(I, O)>),
+    /// A keeper: the leg of a caller whose first read failed, and the first address at which the
+    /// net failed.
+    Kept {
+        failed: Option<(I, O)>,
+        unreached: Option<Address>,
+    },
     /// A slot's reader: the legs that it read, in order.
     Read(Vec<Served<I>>),
     /// A slot's writer: the legs that it wrote, in order.

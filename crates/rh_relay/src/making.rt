@@ -133,6 +133,7 @@ where
             number,
             told: 0,
             failed: None,
+            unreached: None,
         };
         jobs.push(self.job(node, Task::Keep(self.alloc, keeper)))?;
         Ok(())

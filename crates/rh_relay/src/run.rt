@@ -13,7 +13,7 @@ use rh_jobs::{SpawnRefused, Spawner};
 use rh_keepers::{Books, Desk, Plan, Queue};
 use rh_legs::{Gate, NodeEnd};
 use rh_machines::{Node, Role};
-use rh_net::{Clock, Cookies, Net, Ready, ShutSink};
+use rh_net::{Address, Clock, Cookies, Net, Ready, ShutSink};
 use std::alloc::Global;
 use std::sync::{Arc, Wait};
 use std::time;
@@ -29,6 +29,9 @@ pub struct Ran<S: Drop, W: Drop, N: Drop, C: Drop, K: Drop> {
     pub net: N,
     pub clock: C,
     pub cookies: K,
+    /// The first address at which the net failed: it could not be connected or listened at, or
+    /// a caller could not be had. Of several nodes it is that of the first one which has any.
+    pub unreached: Option<Address>,
 }
 
 // The nodes of a run, before it: their jobs, who gathers each one's end, and the streams that no
@@ -225,6 +228,7 @@ fn refused<S: Drop, W: Drop, N: Net + Drop, C: Clock + Drop, K: Cookies + Drop, 
         net,
         clock,
         cookies,
+        unreached: None,
     })
 }
 
@@ -259,9 +263,19 @@ where
         Some((input, output)) => (Some(input), Some(output)),
         None => (None, None),
     };
-    let mut back = Back { net, input, output };
+    let mut back = Back {
+        net,
+        input,
+        output,
+        unreached: None,
+    };
     let ends = gather(rt, alloc, actors, dones, &mut back)?;
-    let Back { net, input, output } = back;
+    let Back {
+        net,
+        input,
+        output,
+        unreached,
+    } = back;
     Ok(Ran {
         ends,
         input,
@@ -269,6 +283,7 @@ where
         net,
         clock,
         cookies,
+        unreached,
     })
 }
 
@@ -322,6 +337,7 @@ where
             net,
             clock,
             cookies,
+            unreached: plan.at,
         });
     };
     let books = Books {

@@ -120,12 +120,17 @@ where
 {
     let mut keeper = keeper;
     let end = keeper.run(alloc, rt);
-    let Keeper { actor, failed, .. } = keeper;
+    let Keeper {
+        actor,
+        failed,
+        unreached,
+        ..
+    } = keeper;
     Done {
         node,
         actor,
         end,
-        had: Had::Failed(failed),
+        had: Had::Kept { failed, unreached },
     }
 }
 

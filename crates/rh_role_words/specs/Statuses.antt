@@ -1,7 +1,8 @@
 -- the statuses of the role words: their numbers and texts
-use Rattle.std.specs.Prelude.{ℕ, List, ◌++◌, codes}
+use Rattle.std.specs.Prelude.{ℕ, List, ◌++◌, codes, take}
 use Rattle.std.specs.Fmt.{decimal}
 use Rattle.rh_line.specs.Texts.{cause_text}
+use Rattle.rh_net.specs.declared.address.Address.{Address}
 use Rattle.rh_legs.specs.declared.end.NodeEnd.{NodeEnd}
 use Rattle.rh_legs.specs.declared.end.NodeEnd.TheVariants as ends
 use Rattle.rh_role_words.specs.declared.status.RoleStatus.{RoleStatus}
@@ -36,6 +37,10 @@ abbrev pub status_text : RoleStatus → List ℕ
 status_text (BadInput pdu) = status_name (BadInput pdu) ++ codes " " ++ decimal pdu
 status_text (Closed cause) = status_name (Closed cause) ++ codes " " ++ cause_text cause
 status_text status = status_name status
+
+-- where the net failed, behind the text of that status
+abbrev pub address_text : Address → List ℕ
+address_text at = codes " " ++ take at.len at.host ++ codes ":" ++ decimal at.port
 
 -- the status of how a node ended
 abbrev pub status_of : NodeEnd → RoleStatus

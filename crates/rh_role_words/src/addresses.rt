@@ -1,17 +1,21 @@
 //! Addresses as words: a host, a colon and a port.
 
-ghost use Rattle.std.specs.Prelude.{◌≡◌, ◌++◌, ◌∷◌, ◌==◌, ◌≤◌, ℕ, List, IfNone, IfSome, IfOk, MatchOption, take, vec_len};
+ghost use Rattle.std.specs.Prelude.{◌≡◌, ◌++◌, ◌∷◌, ◌==◌, ◌≤◌, ℕ, List, IfNone, IfSome, IfOk, MatchOption, string_bytes, take, vec_len};
 ghost use Rattle.std.specs.List.{before_first};
+ghost use Rattle.std.specs.Str.{IsUtf8};
+ghost use Rattle.rh_text.specs.Writing.{Writes};
 ghost use Rattle.rh_http.specs.Requests.{host_text};
 ghost use Rattle.rh_role_words.specs.declared.addresses.HostPort.{HostPort as Named};
 ghost use Rattle.rh_role_words.specs.Forms.{AreHostPorts, AreJoined, IsHostPort};
+ghost use Rattle.rh_role_words.specs.Statuses.{address_text};
 
 use memchr::memchr;
 use rh_http::Host;
 use rh_io::NoMemory;
 use rh_net::Address;
-use rh_text::read_number;
-use std::alloc::Global;
+use rh_text::{Part, read_number, write_parts};
+use std::alloc::{AllocError, Global};
+use std::str;
 
 /// What stands between a host and its port.
 pub const COLON: u8 = b':';
@@ -62,6 +66,23 @@ impl HostPorts {
         }
         Ok(addresses)
     }
+}
+
+/// Appends a space, the host, a colon and the port; nothing where the host is no text.
+///
+/// Fails where there is no memory for it; a front of it may stand in `out` then.
+pub fn write_address(at: &Address, out: &mut String) -> Result<(), AllocError>
+    ensures { IsUtf8 (take at.now.len at.now.host) → Writes (address_text at.now) result
+        (string_bytes out.old) (string_bytes out.new) }
+{
+    let Ok(host) = str::from_utf8(at.host()) else {
+        return Ok(());
+    };
+    let port = Part::Number(u64::from(at.port));
+    write_parts(
+        &[Part::Text(" "), Part::Text(host), Part::Text(":"), port],
+        out,
+    )
 }
 
 /// What stands before the first such byte and what behind it, where there is one.

@@ -9,7 +9,7 @@ pub mod numerals;
 pub mod running;
 pub mod status;
 
-pub use addresses::{HostPort, HostPorts};
+pub use addresses::{HostPort, HostPorts, write_address};
 pub use configs::{DEFAULT_LIMITS, Limits};
 pub use form::{RoleForm, role_form_of};
 pub use numerals::numbers_are_fixed;

@@ -63,6 +63,7 @@ fn without_cookies<S: Drop, W: Drop, N: Drop, C: Drop, K: Drop>(
         net,
         clock,
         cookies,
+        unreached: None,
     })
 }
 

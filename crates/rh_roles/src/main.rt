@@ -3,10 +3,11 @@
 
 use rh_io::{Sink, WriterSink, write_whole};
 use rh_jobs::ThreadSpawner;
-use rh_net::{Ready, ShutSink};
-use rh_relay::{Outside, Ran};
+use rh_net::{Address, Ready, ShutSink};
+use rh_relay::Outside;
 use rh_role_words::{
     DEFAULT_LIMITS, RoleForm, RoleStatus, Running, role_form_of, run_role, status_of_ends,
+    write_address,
 };
 use rh_tcp::{RandomCookies, StdInput, SystemClock, TcpNet};
 use std::io::ErrorKind;
@@ -41,12 +42,24 @@ A status other than 0 has its text on standard error:
   2  bad input <pdu>
   3  read fault
   4  write fault
-  5  net fault
+  5  net fault <address>
   6  spawn fault
   7  closed <cause>
   8  no memory
   10  cookie fault
 ";
+
+/// How the program ends, and the address that its text names.
+struct Ending {
+    status: RoleStatus,
+    at: Option<Address>,
+}
+
+impl From<RoleStatus> for Ending {
+    fn from(status: RoleStatus) -> Ending {
+        Ending { status, at: None }
+    }
+}
 
 /// Runs a role over the system's sockets, clock and random source.
 fn run<
@@ -62,11 +75,11 @@ fn run<
         + Send
         + Drop
         + 'static,
->(rt: R, form: &RoleForm, input: S, output: W) -> RoleStatus {
+>(rt: R, form: &RoleForm, input: S, output: W) -> Ending {
     let alloc = rt.alloc();
     // No status tells of a clock that can't be read.
     let Ok(clock) = SystemClock::new(rt) else {
-        return RoleStatus::NoMemory;
+        return Ending::from(RoleStatus::NoMemory);
     };
     let outside = Outside {
         input,
@@ -82,8 +95,19 @@ fn run<
     };
     let mut spawner = ThreadSpawner::new(alloc, rt);
     match run_role(running, form, outside, &mut spawner) {
-        Ok(Ran { ends, .. }) => status_of_ends(&ends),
-        Err(_) => RoleStatus::NoMemory,
+        Ok(ran) => ending_of(status_of_ends(&ran.ends), ran.unreached),
+        Err(_) => Ending::from(RoleStatus::NoMemory),
+    }
+}
+
+/// How it ends where a run ended so, and its net failed there first.
+fn ending_of(status: RoleStatus, unreached: Option<Address>) -> Ending {
+    match status {
+        RoleStatus::NetFault => Ending {
+            status,
+            at: unreached,
+        },
+        _ => Ending::from(status),
     }
 }
 
@@ -115,29 +139,33 @@ fn words_of(rt: &HostRuntime) -> Result<Vec<String>, RoleStatus> {
 fn main(rt: HostRuntime) -> ExitCode {
     let words = match words_of(&rt) {
         Ok(words) => words,
-        Err(status) => return end(&rt, status),
+        Err(status) => return end(&rt, Ending::from(status)),
     };
     let mut output = WriterSink::new(rt.stdout());
-    let status = match words.as_slice() {
-        [word] if word.as_str() == "--help" => tell(HELP, &mut output),
-        [word] if word.as_str() == "--version" => tell(VERSION, &mut output),
+    let ending = match words.as_slice() {
+        [word] if word.as_str() == "--help" => Ending::from(tell(HELP, &mut output)),
+        [word] if word.as_str() == "--version" => Ending::from(tell(VERSION, &mut output)),
         words => match role_form_of(rt.alloc(), words) {
             Ok(Some(form)) => {
                 let input = StdInput::new(&rt, rt.alloc(), rt.stdin());
                 run(rt, &form, input, output)
             }
-            Ok(None) => RoleStatus::Usage,
-            Err(_) => RoleStatus::NoMemory,
+            Ok(None) => Ending::from(RoleStatus::Usage),
+            Err(_) => Ending::from(RoleStatus::NoMemory),
         },
     };
-    end(&rt, status)
+    end(&rt, ending)
 }
 
 // Tells a status but `Done` on standard error, and answers its exit status.
-fn end(rt: &HostRuntime, status: RoleStatus) -> ExitCode {
+fn end(rt: &HostRuntime, ending: Ending) -> ExitCode {
+    let Ending { status, at } = ending;
     if status != RoleStatus::Done {
         let mut text = String::new(rt.alloc());
         let _ = status.write(&mut text);
+        if let Some(at) = at {
+            let _ = write_address(&at, &mut text);
+        }
         let _ = eprintln!(rt; "{text}");
     }
     ExitCode::from(status.number())
