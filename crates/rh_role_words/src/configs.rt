@@ -19,6 +19,15 @@ use std::alloc::Global;
 /// The address of a client that a running in proxy tells: it knows none.
 const UNKNOWN_ADDRESS: [u8; 4] = [0; 4];
 
+/// The size of a receive window by default, in bytes.
+pub const WINDOW: u32 = 65_536;
+/// The lifetime of a channel by default, in bytes.
+pub const LIFETIME: u32 = 1_073_741_824;
+/// The connection timeout of a proxy by default, in milliseconds.
+pub const TIMEOUT: u32 = 120_000;
+/// The keepalive of a client by default, in milliseconds.
+pub const KEEPALIVE: u32 = 300_000;
+
 /// The numbers of a node.
 #[derive(Clone, Copy, Debug)]
 pub struct Limits {
@@ -35,15 +44,22 @@ pub struct Limits {
     ghost is_timeout: { IsTimeout timeout },
 }
 
-/// The numbers that a role has where nothing else is said.
-pub const DEFAULT_LIMITS: Limits = Limits {
-    window: 65_536,
-    lifetime: 1_073_741_824,
-    timeout: 120_000,
-    keepalive: 300_000,
-};
-
 impl Limits {
+    /// The numbers that a role has where nothing else is said (profile).
+    pub fn by_default() -> Limits
+        ensures window { result.window ≡ WINDOW }
+        ensures lifetime { result.lifetime ≡ LIFETIME }
+        ensures timeout { result.timeout ≡ TIMEOUT }
+        ensures keepalive { result.keepalive ≡ KEEPALIVE }
+    {
+        Limits {
+            window: WINDOW,
+            lifetime: LIFETIME,
+            timeout: TIMEOUT,
+            keepalive: KEEPALIVE,
+        }
+    }
+
     /// What a client is made with, by the cookies of its connection and of its group.
     pub(crate) fn client(
         &self,

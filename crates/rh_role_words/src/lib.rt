@@ -10,7 +10,7 @@ pub mod running;
 pub mod status;
 
 pub use addresses::{HostPort, HostPorts, write_address};
-pub use configs::{DEFAULT_LIMITS, Limits};
+pub use configs::Limits;
 pub use form::{RoleForm, role_form_of};
 pub use numerals::numbers_are_fixed;
 pub use running::{Running, run_role};

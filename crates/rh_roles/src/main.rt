@@ -6,8 +6,7 @@ use rh_jobs::ThreadSpawner;
 use rh_net::{Address, Ready, ShutSink};
 use rh_relay::Outside;
 use rh_role_words::{
-    DEFAULT_LIMITS, RoleForm, RoleStatus, Running, role_form_of, run_role, status_of_ends,
-    write_address,
+    Limits, RoleForm, RoleStatus, Running, role_form_of, run_role, status_of_ends, write_address,
 };
 use rh_tcp::{RandomCookies, StdInput, SystemClock, TcpNet};
 use std::io::ErrorKind;
@@ -91,7 +90,7 @@ fn run<
     let running = Running {
         rt,
         alloc,
-        limits: DEFAULT_LIMITS,
+        limits: Limits::by_default(),
     };
     let mut spawner = ThreadSpawner::new(alloc, rt);
     match run_role(running, form, outside, &mut spawner) {
