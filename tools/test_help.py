@@ -1,8 +1,9 @@
 #!/usr/bin/env python3
-"""Tests that --help, the page on recordings and the sources tell the same, numbers included.
+"""Tests that --help, the pages and the sources tell the same, numbers included.
 
-No program is run: the page of --help is put together from the rows of statuses and the macro that
-make it in the program. What the built program writes is tested by test_statuses.py.
+No program is run: rh_cli's page of --help is put together from the rows of statuses and the macro
+that make it in the program. What the built programs write is tested by test_statuses.py, and by
+test_relays.py, with the statuses of rh_roles.
 """
 import pathlib
 import re
@@ -32,6 +33,10 @@ ON_PAGE = {
         "More than {} bytes came.",
     ],
 }
+# What rh_roles' --help tells of its numbers, and the page on it.
+ROLE_WORDS = TOP / "crates/rh_role_words/src"
+ROLES_HELP = TOP / "crates/rh_roles/src/main.rt"
+ROLES_PAGE = TOP / "docs/RELAYS.md"
 NUMBER = re.compile(r"\d+(?:,\d{3})*")
 
 
@@ -118,6 +123,47 @@ class Texts(unittest.TestCase):
         forms = re.findall(r"^  rh_cli (\S+)(?: <n>)?  ", help_page(), re.MULTILINE)
         [when] = [when for _, text, when in rows_of_page() if text == "`usage`"]
         self.assertEqual(sorted(forms), sorted(re.findall(r"`(\S+)`", when)))
+
+
+def number(file, name):
+    """The value of a constant of the role words."""
+    text = (ROLE_WORDS / file).read_text()
+    [value] = re.findall(rf"^pub const {name}: \w+ = ([\d_]+);", text, re.MULTILINE)
+    return int(value.replace("_", ""))
+
+
+class Roles(unittest.TestCase):
+    def setUp(self):
+        self.help = re.search(r'const HELP: &str =\n +"(.*?)";', ROLES_HELP.read_text(), re.DOTALL)[1]
+        self.page = ROLES_PAGE.read_text()
+        self.addresses = number("addresses.rt", "MOST_MORE") + 1
+        self.channels = number("form.rt", "MOST_CHANNELS")
+
+    def test_counts(self):
+        for way in "IN", "OUT":
+            self.assertIn(f"so many {way} channels, 1 to {self.channels}\n", self.help)
+        self.assertIn(f"1 to {self.addresses} host:port", self.help)
+        self.assertIn(f"so many IN channels, 1 to {self.channels}, each", self.page)
+        self.assertIn(f"is 1 to {self.addresses} `<host:port>`", self.page)
+
+    def test_all_numbers(self):
+        """No other number stands in --help than those, the statuses and the protocol's version."""
+        rest, statuses = self.help.split("\n\nA status other than 0 has")
+        rest = rest.replace("HTTP version 2", "")
+        counts = [str(self.addresses), str(self.channels), str(self.channels)]
+        told = [it for count in counts for it in ("1", count)]
+        self.assertEqual(NUMBER.findall(rest), told)
+        rows = [line for line in statuses.split("\n") if line[:2] == "  "]
+        self.assertTrue(all(re.fullmatch(r"  \d+  [a-z ]+( <\w+>)?", row) for row in rows), rows)
+
+    def test_numbers_by_default(self):
+        said = (
+            f"windows of {number('configs.rt', 'WINDOW'):,} bytes, "
+            f"lifetimes of {number('configs.rt', 'LIFETIME'):,} bytes, "
+            f"a connection timeout of {number('configs.rt', 'TIMEOUT'):,} ms, "
+            f"a keepalive of {number('configs.rt', 'KEEPALIVE'):,} ms."
+        )
+        self.assertIn(said, self.page)
 
 
 if __name__ == "__main__":

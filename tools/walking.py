@@ -22,7 +22,7 @@ DEFINED = "what a line is answered is the definition of a report itself"
 OVER_WORLDS = {
     "held": "A node holds more of a channel's PDUs than its window.",
     "onwards": "The same in the midst of a line, or behind half steps from there.",
-    "hops": "On a server leg more is put than was told, or more acknowledged than came.",
+    "hops": "On a leg more is put than was told, or more acknowledged than came.",
     "directly": "A PDU of a direct recording was given, not taken, and is nowhere between.",
     "ways": (
         "A PDU was given, not taken, and is on no way, and no leg was lost; "
