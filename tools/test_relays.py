@@ -443,7 +443,7 @@ class Callers(FourRoles):
         self.passes(1)
         self.all_end(pdu(72, 1), b"")
         self.call()
-        self.check(self.client, status=5, said=f"net fault {HOST}:{self.ports_of[2]}")
+        self.check(self.client, status=5, said=f"net fault\nat {HOST}:{self.ports_of[2]}")
 
 
 class Statuses(Roles):
@@ -504,17 +504,17 @@ class Statuses(Roles):
         _, port = self.listener()
         at = f"{HOST}:{port}"
         for words in ["server", at], ["inproxy", at, 1], ["outproxy", at, 1]:
-            self.check(self.start(*words), status=5, said=f"net fault {at}")
+            self.check(self.start(*words), status=5, said=f"net fault\nat {at}")
 
     def test_5_net_fault_where_an_address_is_no_own_one(self):
         at = "192.0.2.1:593"
-        self.check(self.start("server", at), status=5, said=f"net fault {at}")
+        self.check(self.start("server", at), status=5, said=f"net fault\nat {at}")
 
     def test_5_net_fault_where_a_connection_is_refused(self):
         nowhere = self.ports(1)[0]
         for ports in (593, nowhere, self.peer()), (593, self.peer(), nowhere):
             client = self.start("client", *(f"{HOST}:{port}" for port in ports))
-            self.check(client, status=5, said=f"net fault {HOST}:{nowhere}")
+            self.check(client, status=5, said=f"net fault\nat {HOST}:{nowhere}")
 
     def test_a_server_that_is_not_there_is_a_net_fault_of_the_proxy_and_refuses_the_client(self):
         nowhere, port = self.ports(2)
@@ -522,7 +522,7 @@ class Statuses(Roles):
         ports = nowhere, port, self.peer()
         client = self.start("client", *(f"{HOST}:{port}" for port in ports))
         self.check(client, status=7, said="closed 9 HttpRefused ci1 503")
-        self.check(proxy, status=5, said=f"net fault {HOST}:{nowhere}")
+        self.check(proxy, status=5, said=f"net fault\nat {HOST}:{nowhere}")
 
     def test_7_closed_for_bytes_that_are_no_frame(self):
         client = self.client(RESPONSE + b"\4" + bytes(15))

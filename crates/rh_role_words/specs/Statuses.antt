@@ -38,9 +38,9 @@ status_text (BadInput pdu) = status_name (BadInput pdu) ++ codes " " ++ decimal 
 status_text (Closed cause) = status_name (Closed cause) ++ codes " " ++ cause_text cause
 status_text status = status_name status
 
--- where the net failed, behind the text of that status
+-- where the net failed, a line behind that status
 abbrev pub address_text : Address → List ℕ
-address_text at = codes " " ++ take at.len at.host ++ codes ":" ++ decimal at.port
+address_text at = codes "at " ++ take at.len at.host ++ codes ":" ++ decimal at.port
 
 -- the status of how a node ended
 abbrev pub status_of : NodeEnd → RoleStatus

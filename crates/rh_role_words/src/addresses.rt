@@ -68,7 +68,7 @@ impl HostPorts {
     }
 }
 
-/// Appends a space, the host, a colon and the port; nothing where the host is no text.
+/// Appends `at`, a space, the host, a colon and the port; nothing where the host is no text.
 ///
 /// Fails where there is no memory for it; a front of it may stand in `out` then.
 pub fn write_address(at: &Address, out: &mut String) -> Result<(), AllocError>
@@ -80,7 +80,7 @@ pub fn write_address(at: &Address, out: &mut String) -> Result<(), AllocError>
     };
     let port = Part::Number(u64::from(at.port));
     write_parts(
-        &[Part::Text(" "), Part::Text(host), Part::Text(":"), port],
+        &[Part::Text("at "), Part::Text(host), Part::Text(":"), port],
         out,
     )
 }

@@ -41,14 +41,16 @@ A status other than 0 has its text on standard error:
   2  bad input <pdu>
   3  read fault
   4  write fault
-  5  net fault <address>
+  5  net fault
   6  spawn fault
   7  closed <cause>
   8  no memory
   10  cookie fault
+
+Behind 'net fault' a second line tells where: 'at' and the address.
 ";
 
-/// How the program ends, and the address that its text names.
+/// How the program ends, and where the net failed.
 struct Ending {
     status: RoleStatus,
     at: Option<Address>,
@@ -156,15 +158,17 @@ fn main(rt: HostRuntime) -> ExitCode {
     end(&rt, ending)
 }
 
-// Tells a status but `Done` on standard error, and answers its exit status.
+// Tells a status but `Done` on standard error, and where the net failed; answers its exit status.
 fn end(rt: &HostRuntime, ending: Ending) -> ExitCode {
     let Ending { status, at } = ending;
     if status != RoleStatus::Done {
         let mut text = String::new(rt.alloc());
         let _ = status.write(&mut text);
-        if let Some(at) = at {
-            let _ = write_address(&at, &mut text);
-        }
+        let _ = eprintln!(rt; "{text}");
+    }
+    if let Some(at) = at {
+        let mut text = String::new(rt.alloc());
+        let _ = write_address(&at, &mut text);
         let _ = eprintln!(rt; "{text}");
     }
     ExitCode::from(status.number())
