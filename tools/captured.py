@@ -26,6 +26,8 @@ FIN, SYN, RESET, ACK = 1, 2, 4, 16
 FARTHEST = 2**30
 # A number above those of all frames.
 NEVER = float("inf")
+# With fewer of an end's first bytes it can't be told what it speaks.
+LEAST_FRONT = 4
 # The type of a record and the version, with which each TLS connection begins.
 TLS_START = re.compile(rb"[\x14-\x17]\x03[\x00-\x04]")
 
@@ -105,12 +107,19 @@ class Run:
         first, last = (bisect.bisect_right(self.ends, at) for at in (place, end - 1))
         return self.frames[first : last + 1]
 
-    def starts_from(self, place):
-        """Where each piece at or behind this place begins."""
-        if place <= self.start:
-            yield self.start
-        for number in range(bisect.bisect_left(self.ends, place), len(self.ends) - 1):
-            yield self.ends[number]
+    def is_start(self, place):
+        """Whether a frame's bytes begin at this place, which is in the run."""
+        number = bisect.bisect_left(self.ends, place)
+        return place == self.start or self.ends[number] == place
+
+    def pieces(self, place, end):
+        """What each frame brought of the bytes from a place up to another, with its number."""
+        for number in range(bisect.bisect_right(self.ends, place), len(self.ends)):
+            if place >= end:
+                return
+            behind = min(end, self.ends[number])
+            yield self.frames[number], self.bytes[place - self.start : behind - self.start]
+            place = behind
 
 
 class Direction:
@@ -119,6 +128,8 @@ class Direction:
     def __init__(self, source, target):
         self.ends = f"{source} > {target}"
         self.segments = []
+        # Whether the SYN with which this end began was captured.
+        self.is_opened = False
         self.first = None
         self.last = None
         self.finished = 0
@@ -127,6 +138,8 @@ class Direction:
         self.reset_in = None
         self.acknowledged = 0
         self.runs = []
+        # The frames of the segments, once these are in order.
+        self.frames = []
         self.has_gap = False
         # Where the captured segments end so far, and whether one was missing at some time.
         self.reached = None
@@ -146,6 +159,7 @@ class Direction:
         if flags & SYN:
             number += 1
             self.first = number
+            self.is_opened = True
         if length:
             self.segments.append(Segment(number, frame, length, payload))
         if self.reached is not None and number > self.reached:
@@ -186,6 +200,14 @@ class Direction:
             whole = self.acknowledged
         self.lay(whole, end, cuts)
         self.has_gap = any(run.lost for run in self.runs)
+        # The runs have the bytes.
+        self.frames, self.segments = [segment.frame for segment in segments], []
+
+    @property
+    def cut_front(self):
+        """The frame that was cut, where that took this end's first bytes; none where it didn't."""
+        is_blank = self.runs and len(self.runs[0].bytes) < LEAST_FRONT
+        return next((run.cut for run in self.runs[1:2] if is_blank), None)
 
     def lay(self, number, end, cuts):
         """Begins a run where bytes are missing between the end so far and this number."""
@@ -197,7 +219,7 @@ class Direction:
         gaps = [(run.frames[0] if run.frames else NEVER, run) for run in self.runs if run.lost]
         gaps.sort(key=lambda gap: gap[0], reverse=True)
         self.runs = [Run(0)]
-        frames = sorted(segment.frame for segment in self.segments if segment.frame in clear)
+        frames = sorted(frame for frame in self.frames if frame in clear)
         for frame in frames + [NEVER]:
             while gaps and gaps[-1][0] <= frame:
                 _, gap = gaps.pop()

@@ -39,6 +39,8 @@ def pdu(number, length=72):
 # An RTS packet with no command.
 RTS = struct.pack("<4B4BHHIHH", 5, 0, 20, 3, 0x10, 0, 0, 0, 20, 0, 0, 0, 0)
 PDUS = [pdu(number) for number in range(1, 10)]
+# What is told where no packet was found.
+NONE = "no packet of RPC over HTTP was found"
 
 
 # A client's OUT channel under TLS 1.2: OUT_REQUEST and RTS, then ANSWER with PDUS[0], then PDUS[1].
@@ -94,7 +96,8 @@ class Made:
             piece = payload[at : at + step]
             place = at // 8 | (0x2000 if at + step < len(payload) else 0)
             hosts = b"".join(bytes(map(int, end[0].split("."))) for end in (source, target))
-            head = struct.pack(">BBHHHBBH", 0x45, 0, 20 + len(piece), number % 2**16, place, 64, 6, 0)
+            size, number = 20 + len(piece), number % 2**16
+            head = struct.pack(">BBHHHBBH", 0x45, 0, size, number, place, 64, 6, 0)
             self.frame(bytes(12) + tag + b"\x08\x00" + head + hosts + piece, cut)
 
     def segment(self, source, target, number, payload=b"", flags=ACK, other=0, **how):
@@ -167,6 +170,17 @@ def lost_of(*lost, pdus=PDUS, **how):
     return made
 
 
+def opened_and_answered():
+    """A client's OUT channel: a request with a packet, and an answer with two."""
+    made = Made()
+    talk = Talk(made, server=PROXY, greeted=False)
+    talk.up(OUT_REQUEST + RTS)
+    talk.down(ANSWER)
+    talk.down(PDUS[0])
+    talk.down(PDUS[1])
+    return made
+
+
 class Case(unittest.TestCase):
     def run_tool(self, capture, *words):
         """What the tool writes of a capture, its lines of standard error, and its status."""
@@ -197,14 +211,39 @@ class Captures(Case):
         self.assertEqual([(line[4:6], len(line) // 2) for line in lines], [
             ("14", 76), ("14", 104), ("14", 28), ("14", 44), ("0b", 72), ("0c", 60), ("14", 56)])
 
-    def test_context_tells_time_connection_and_direction(self):
+    def test_context_tells_time_frame_connection_and_direction(self):
         lines, _, _ = self.run_tool(EXAMPLE.read_bytes(), "--context")
+        out, inbound = "0 10.0.0.2:49152 > 10.0.0.9:80", "1 10.0.0.2:49153 > 10.0.0.8:80"
+        second = "2023-11-14T22:13:20"
         for number, context in (
-            (0, "2023-11-14T22:13:20.005000000Z 0 10.0.0.2:49152 > 10.0.0.9:80 0500140310"),
-            (1, "2023-11-14T22:13:20.008000000Z 1 10.0.0.2:49153 > 10.0.0.8:80 0500140310"),
-            (2, "2023-11-14T22:13:20.010000000Z 0 10.0.0.9:80 > 10.0.0.2:49152 0500140310"),
+            (0, f"{second}.005000000Z 5 {out} http RPC_OUT_DATA /rpc/rpcproxy.dll?server:593"),
+            (1, f"{second}.005000000Z 5 {out} 0500140310"),
+            (2, f"{second}.008000000Z 8 {inbound} http RPC_IN_DATA /rpc/rpcproxy.dll?server:593"),
+            (3, f"{second}.008000000Z 8 {inbound} 0500140310"),
+            (4, f"{second}.010000000Z 10 0 10.0.0.9:80 > 10.0.0.2:49152 http 200 Success"),
         ):
             self.assertTrue(lines[number].startswith(context), lines[number])
+
+    def test_context_tells_heads_and_ends(self):
+        made = Made()
+        talk = Talk(made, server=PROXY, greeted=False)
+        talk.up(OUT_REQUEST + RTS)
+        talk.down(b"HTTP/1.1 503 RPC Error: 6ba\r\nContent-Length: 0\r\n\r\n")
+        talk.up(b"", flags=FIN | ACK)
+        made.segment(PROXY, CLIENT, talk.next[PROXY], flags=4)
+        lines, error, status = self.run_tool(made, "--context")
+        up, down = "0 10.0.0.1:40000 > 10.0.0.2:80", "0 10.0.0.2:80 > 10.0.0.1:40000"
+        self.assertEqual((error, status), ("", 0))
+        self.assertEqual(lines, [
+            f"1970-01-01T00:00:00.00{number - 1}000000Z {number} {text}"
+            for number, text in (
+                (3, f"{up} http RPC_OUT_DATA /rpc/rpcproxy.dll?server:593"),
+                (3, f"{up} {RTS.hex()}"),
+                (4, f"{down} http 503 RPC Error: 6ba"),
+                (5, f"{up} fin"),
+                (6, f"{down} rst"),
+            )
+        ])
 
     def test_heads_and_packets_of_a_client(self):
         made = Made()
@@ -249,15 +288,6 @@ class Captures(Case):
         talk.down(b"5\r\nhello\r\nA;x=y\r\n0123456789\r\n0\r\n\r\n")
         talk.down(ANSWER + PDUS[0])
         self.check(made, [RTS, PDUS[0]])
-
-    def test_packets_in_chunks_are_told(self):
-        made = Made()
-        talk = Talk(made, server=PROXY, greeted=False)
-        talk.up(OUT_REQUEST + RTS)
-        head = ANSWER.replace(b"Content-Length: 1073741824", b"Transfer-Encoding: chunked")
-        talk.down(head + b"14\r\n" + RTS + b"\r\n")
-        told = f"byte {len(head)}: the chunked body of an answer is left out"
-        self.check(made, [RTS], [told], 1)
 
     def test_an_echo_request_has_no_packet(self):
         made = Made()
@@ -399,7 +429,7 @@ class Captures(Case):
     def test_pdus_alone_are_taken_where_their_port_is_named(self):
         made = Made()
         Talk(made, greeted=False).up(PDUS[0])
-        self.check(made, [], ["connections left out: 1 of RPC PDUs alone, of 1"])
+        self.check(made, [], ["connections left out: 1 of RPC PDUs alone, of 1", NONE], 1)
         self.check(made, PDUS[:1], words=["--port", "593"])
 
     def test_ports_filter(self):
@@ -416,7 +446,8 @@ class Captures(Case):
         for payload in (PDUS[0], b"\xff" * 50, PDUS[1]):
             talk.up(payload)
         told = "byte 72: neither a packet nor a head begins here, frame 6: " + "ff" * HEADER_LEN
-        self.check(made, PDUS[:2], [told + "; read on from byte 122, frame 7"], 1)
+        told += "; 50 bytes are left out; read on from byte 122, frame 7"
+        self.check(made, PDUS[:2], [told], 1)
 
     def test_a_length_below_that_of_a_header(self):
         made = Made()
@@ -451,8 +482,172 @@ class Captures(Case):
             told = ["10.0.0.2:443 > 10.0.0.1:40000, byte 0: 90 bytes are missing", "out of order"]
             self.check(made, [RTS], told, 1, ["--keys", str(keys)])
 
-    def test_tls_without_keys_is_left_out(self):
-        self.check(talk_under_tls(), [], ["connections left out: 1 under TLS, not decrypted, of 1"])
+
+@unittest.skipUnless(shutil.which("tshark"), "no tshark")
+class Trouble(Case):
+    """Captures that lack something, or hold what isn't read: each ends with status 1 and why."""
+
+    def test_a_snap_length_that_leaves_the_fronts_of_heads(self):
+        made = opened_and_answered()
+        made.frames = [(data[:64], length) for data, length in made.frames]
+        lost = len(OUT_REQUEST + RTS) - 10
+        told = f"{lost} bytes are missing, as frame 3 was cut, inside a head"
+        self.check(made, [], [told, "as frame 4 was cut", NONE], 1)
+
+    def test_a_snap_length_that_leaves_nothing(self):
+        made = opened_and_answered()
+        made.frames = [(data[:54], length) for data, length in made.frames]
+        told = "connections left out: 1 whose first bytes were cut; capture whole frames"
+        self.check(made, [], [told, NONE], 1)
+
+    def test_a_snap_length_of_another_protocol(self):
+        made = opened_and_answered()
+        talk = Talk(made, client=("10.0.0.9", 50_000), server=("10.0.0.8", 22), greeted=False)
+        talk.down(b"SSH-2.0-OpenSSH_9.2\r\n", cut=60)
+        told = "connections left out: 1 without RPC over HTTP, of 2"
+        self.check(made, [RTS, PDUS[0], PDUS[1]], [told])
+
+    def test_a_capture_begun_in_the_midst_of_a_leg(self):
+        made = opened_and_answered()
+        # Up to the first packet of the answer, so that each packet left is whole.
+        del made.frames[:5]
+        told = "10.0.0.2:80 > 10.0.0.1:40000, byte 0: what this end sent before the capture began"
+        self.check(made, [PDUS[1]], [told], 1, ["--port", "80"])
+        told = "connections left out: 1 of RPC PDUs alone, begun before the capture; --port N takes"
+        self.check(made, [], [told, NONE], 1)
+        Talk(made, first=9000, opened=False, greeted=False, server=("10.0.0.3", 80)).up(RTS)
+        told = "connection 1, 10.0.0.1:40000 > 10.0.0.3:80, byte 0: what this end sent before the"
+        self.check(made, [RTS], [told], 1)
+
+    def test_a_capture_begun_within_a_packet(self):
+        made = Made()
+        talk = Talk(made, opened=False, greeted=False)
+        talk.up(PDUS[0][30:] + RTS)
+        told = "byte 0: neither a packet nor a head begins here, frame 1: 0101"
+        self.check(made, [RTS], [told, "; 42 bytes are left out; read on from byte 42, frame 1"], 1)
+
+    def test_a_capture_begun_at_a_head(self):
+        made = opened_and_answered()
+        del made.frames[:2]
+        self.check(made, [RTS, PDUS[0], PDUS[1]])
+
+    def test_tls_without_keys(self):
+        told = "connections left out: 1 under TLS, not decrypted; --keys FILE tells the secrets"
+        self.check(talk_under_tls(), [], [told, NONE], 1)
+        made = opened_and_answered()
+        made.frames += talk_under_tls().frames
+        self.check(made, [RTS, PDUS[0], PDUS[1]], [told], 1)
+        self.check(made, [RTS, PDUS[0], PDUS[1]], words=["--port", "80"])
+
+    def test_a_tunnel(self):
+        made = Made()
+        talk = Talk(made, server=("10.0.0.2", 3128), greeted=False)
+        talk.up(b"CONNECT proxy:443 HTTP/1.1\r\n\r\n")
+        talk.down(b"HTTP/1.1 200 OK\r\n\r\n")
+        talk.up(bytes.fromhex(TLS_TALK.split()[1]))
+        told = "connections left out: 1 in a tunnel of CONNECT, not read"
+        self.check(made, [], [told, NONE], 1)
+
+    def test_bytes_between_two_packets_of_a_segment(self):
+        made = Made()
+        Talk(made).up(PDUS[0] + b"\xff" * 50 + PDUS[1] + PDUS[2])
+        told = f"byte 72: neither a packet nor a head begins here, frame 5: {'ff' * HEADER_LEN}"
+        told += "; 50 bytes are left out; read on from byte 122, frame 5"
+        self.check(made, PDUS[:3], [told], 1)
+
+    def test_bytes_that_only_look_like_a_packet(self):
+        made = Made()
+        # A header of a packet of 72 bytes, behind which there are more than these.
+        talk = Talk(made)
+        talk.up(PDUS[0] + b"\xff" * 50 + PDUS[8][:HEADER_LEN] + b"\xff" * 100)
+        talk.up(PDUS[1])
+        told = "; 166 bytes are left out; read on from byte 238, frame 6"
+        self.check(made, PDUS[:2], [told], 1)
+
+    def test_bytes_behind_the_last_packet(self):
+        made = Made()
+        Talk(made).up(PDUS[0] + b"\xff" * 50)
+        self.check(made, PDUS[:1], ["; 50 bytes from byte 72 on are left out"], 1)
+
+    def test_no_connection(self):
+        made = Made()
+        told = "no TCP connection is in the capture"
+        self.check(made, [], [told], 1)
+        # A datagram of UDP, from port 500 to port 500.
+        packet = bytes.fromhex("4500001c0000000040110000" + "00" * 8 + "01f401f400080000")
+        made.frame(bytes(12) + b"\x08\x00" + packet)
+        self.check(made, [], [told], 1)
+        told = "no TCP connection with these ports is in the capture"
+        self.check(opened_and_answered(), [], [told], 1, ["--port", "81"])
+
+    def test_no_packet(self):
+        made = Made()
+        talk = Talk(made, server=PROXY, greeted=False)
+        talk.up(OUT_REQUEST)
+        talk.down(b"HTTP/1.1 401 Unauthorized\r\nContent-Length: 3\r\n\r\nabc")
+        self.check(made, [], [NONE], 1)
+
+
+@unittest.skipUnless(shutil.which("tshark"), "no tshark")
+class Chunks(Case):
+    """Packets in chunked bodies."""
+
+    HEAD = ANSWER.replace(b"Content-Length: 1073741824", b"Transfer-Encoding: chunked")
+
+    def check_down(self, pieces, packets, told=(), status=0):
+        made = Made()
+        talk = Talk(made, server=PROXY, greeted=False)
+        talk.up(OUT_REQUEST + RTS)
+        for piece in pieces:
+            talk.down(piece)
+        self.check(made, [RTS, *packets], told, status)
+
+    def test_a_chunk_a_packet(self):
+        second = b"\r\n48;x=y\r\n" + PDUS[0] + b"\r\n"
+        self.check_down([self.HEAD + b"14\r\n" + RTS, second], [RTS, PDUS[0]])
+
+    def test_packets_and_chunks_cut_elsewhere(self):
+        text = PDUS[0] + PDUS[1]
+        body = b"1\r\n" + text[:1] + b"\r\n8E\r\n" + text[1:143] + b"\r\n1\r\n" + text[143:]
+        for step in (1, 7, 50):
+            pieces = [body[at : at + step] for at in range(0, len(body), step)]
+            self.check_down([self.HEAD, *pieces], PDUS[:2])
+
+    def test_a_message_behind_the_last_chunk(self):
+        body = b"48\r\n" + PDUS[0] + b"\r\n0\r\nA: b\r\n\r\n"
+        self.check_down([self.HEAD + body + ANSWER + PDUS[1]], PDUS[:2])
+
+    def test_a_request_in_chunks(self):
+        made = Made()
+        talk = Talk(made, server=PROXY, greeted=False)
+        talk.up(REQUEST.replace(b"Content-Length: 1073741824", b"Transfer-Encoding: chunked"))
+        talk.up(b"48\r\n" + PDUS[0] + b"\r\n48\r\n" + PDUS[1] + b"\r\n")
+        self.check(made, PDUS[:2])
+
+    def test_what_is_no_size(self):
+        place = len(self.HEAD) + 4 + 72 + 2
+        told = f"byte {place}: neither a packet nor a head begins here, frame 4: 7878"
+        body = b"48\r\n" + PDUS[0] + b"\r\nxx\r\n" + PDUS[1]
+        self.check_down([self.HEAD + body], PDUS[:2], [told], 1)
+
+    def test_a_body_that_ends_inside_a_packet(self):
+        told = f"byte {len(self.HEAD)}: the chunked body ends inside a packet of 72 bytes"
+        body = b"47\r\n" + PDUS[0][:71] + b"\r\n0\r\n\r\n"
+        self.check_down([self.HEAD + body + ANSWER + PDUS[1]], [PDUS[1]], [told], 1)
+
+    def test_a_capture_that_ends_inside_a_chunk(self):
+        told = "the capture ends inside a packet of 72 bytes that begins at byte"
+        self.check_down([self.HEAD + b"48\r\n" + PDUS[0][:20]], [], [told], 1)
+
+    def test_a_gap_inside_a_chunk(self):
+        made = Made()
+        talk = Talk(made, server=PROXY, greeted=False)
+        talk.up(OUT_REQUEST + RTS)
+        talk.down(self.HEAD + b"48\r\n" + PDUS[0] + b"\r\n48\r\n" + PDUS[1][:10])
+        talk.down(PDUS[1][10:20], is_kept=False)
+        talk.down(PDUS[1][20:] + b"\r\n48\r\n" + PDUS[2])
+        told = "10 bytes are missing, inside the header of a packet"
+        self.check(made, [RTS, PDUS[0], PDUS[2]], [told, "; 58 bytes are left out; read on"], 1)
 
 
 def opening_of_a_client(made, last=b""):
