@@ -10,6 +10,7 @@ import subprocess
 import sys
 
 import build_program
+import given_input
 from program_crates import TOP
 
 READS = "replay", "show", "play"
@@ -39,8 +40,35 @@ def say_what_to_type(program, words):
         say(program, hint)
 
 
+def commit():
+    """What git calls the sources as they stand, with -dirty where they were changed since; nothing
+    where this isn't the top of what git knows."""
+    git = ["git", "-C", TOP]
+    how = {"capture_output": True, "text": True, "check": False}
+    try:
+        top = subprocess.run([*git, "rev-parse", "--show-toplevel"], **how).stdout.strip()
+        describe = [*git, "describe", "--tags", "--always", "--dirty"]
+        return subprocess.run(describe, **how).stdout.strip() if top == str(TOP) else ""
+    except OSError:
+        return ""
+
+
+def tell_version(command, place):
+    """Writes the program's name and version, and the commit of its sources."""
+    done = subprocess.run([*command, "--version"], cwd=place, stdout=subprocess.PIPE, check=False)
+    text, found = done.stdout.decode(), commit()
+    text = text.replace("\n", f" ({found})\n", 1) if found else text
+    is_written = given_input.written(lambda: print(text, end=""))
+    return done.returncode if is_written else given_input.fails(*given_input.WRITE_FAULT)
+
+
 def run(program, command, words, place=None):
     """Runs it, and says what to type behind a usage error."""
+    if words == ["--version"]:
+        return tell_version(command, place)
+    is_reading = len(words) == 1 and program == "rh_cli" and words[0] in READS
+    if is_reading and given_input.is_readable():
+        return given_input.run(command, words[0], lambda text: say(program, text), place)
     if is_form(program, words):
         # The program takes the place of this process, so that signals come to it.
         os.chdir(place or os.curdir)

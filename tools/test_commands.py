@@ -16,6 +16,7 @@ import program_crates
 
 TOP = pathlib.Path(__file__).resolve().parent.parent
 SCRIPTS = ["launch", "run_program.py", "build_program.py", "prove_beside.py", "program_crates.py"]
+SCRIPTS += ["given_input.py", "teaching.py", "line_forms.py"]
 PROGRAMS = ["rh_cli", "rh_roles"]
 CRATES = """# crates
 low: hex
@@ -27,7 +28,12 @@ rh_roles: middle low
 """
 PROGRAM = """#!/bin/sh
 case "$*" in
-replay | show | play | "server here:1") exec cat ;;
+replay | show | play)
+    input="$(cat; echo .)"
+    number="$(echo "$input" | grep -n bad | head -n 1 | cut -d : -f 1)"
+    [ -z "$number" ] || { echo "bad input $number" >&2; exit 2; }
+    printf %s "${input%.}" ;;
+"server here:1") exec cat ;;
 --help) echo the page of the program ;;
 --version) echo "$(basename "$0") of a test" ;;
 *) echo usage >&2; exit 1 ;;
@@ -471,6 +477,93 @@ class Words(Commands):
             done = self.run_it("./replay", *words)
             self.check(done, "", done.stderr, 1)
             self.assertIn("replay: ", done.stderr)
+
+
+class Inputs(Commands):
+    """What a word is given of standard input, and what is said of a line that is refused."""
+
+    def setUp(self):
+        super().setUp()
+        self.build()
+
+    def test_comments_and_crs_are_left_out_with_a_note(self):
+        text = "rh 1 direct\r\n# a comment\r\ntake s # another\r\ntake c"
+        done = self.run_it("./rh_cli", "replay", text=text)
+        told = "rh_cli: left out of what replay reads: 2 comments and 3 CRs\n"
+        self.check(done, "rh 1 direct\ntake s\ntake c", told, 0)
+        done = self.run_it("./rh_cli", "show", text="05\n#\n")
+        self.check(done, "05\n", "rh_cli: left out of what show reads: 1 comment\n", 0)
+
+    def test_comments_of_a_script_are_its_own(self):
+        text = "# one\ncase #2\nstate # three\n"
+        told = "rh_cli: left out of what play reads: 1 comment\n"
+        done = self.run_it("./rh_cli", "play", text=text)
+        self.check(done, "# one\ncase #2\nstate\n", told, 0)
+
+    def test_a_line_that_is_refused_is_told_with_its_place(self):
+        text = "rh 1 roles\nset cwin 100 bad\n"
+        said = "rh_cli: line 2: 'set cwin 100 bad': '100' is no window: 8,192 to 262,144 bytes\n"
+        done = self.run_it("./rh_cli", "replay", text=text)
+        self.check(done, "", "bad input 2\n" + said, 2)
+        (self.top / "recording").write_text("# one\n\t# two\nrh 1 roles\n#\ntake bad\n")
+        said = "rh_cli: left out of what replay reads: 3 comments\nbad input 2\n"
+        said += "rh_cli: line 5: 'take bad': 'bad' is no end: c or s\n"
+        self.check(self.run_it("./replay", "recording"), "", said, 2)
+        done = self.run_it("./rh_cli", "--unproved", "replay", text=text)
+        self.assertIn("bad input 2\nrh_cli: line 2: 'set cwin 100 bad': ", done.stderr)
+
+    def test_contexts_stand_in_front_of_what_is_told(self):
+        front = "2023-11-14T22:13:20.005000000Z 5 0 10.0.0.2:49152 > 10.0.0.9:80"
+        text = f"{front} http 200 #1\n{front} 05\n0500 # of mine\n{front} 06\r\n{front} fin\n"
+        wanted = f"{front} http 200 #1\n{front} 05\n0500\n{front} 06\n{front} fin\n"
+        told = "rh_cli: left out of what show reads: 1 comment and 1 CR\n"
+        self.check(self.run_it("./rh_cli", "show", text=text), wanted, told, 0)
+        text += f"{front} rst\n{front} bad\n"
+        said = f"{told}bad input 4\nrh_cli: line 7: 'bad': the line is no hex: an even number of "
+        said += "hex digits, of 1 to 65,535 bytes\n"
+        self.check(self.run_it("./rh_cli", "show", text=text), "", said, 2)
+        with open("/dev/full", "w") as full:
+            how = {"input": wanted, "stderr": subprocess.PIPE, "text": True, "check": False}
+            words = ["./rh_cli", "show"]
+            done = subprocess.run(words, stdout=full, cwd=self.top, env=self.variables, **how)
+        self.assertEqual((done.stderr, done.returncode), ("write fault\n", 4))
+
+    def test_inputs_of_many_pieces(self):
+        line = "0" * 4_000 + "\n"
+        text = line * 1_000
+        self.check(self.run_it("./rh_cli", "show", text=text), text, "", 0)
+        done = self.run_it("./rh_cli", "show", text=text.replace("\n", " #\r\n") + "05")
+        told = "rh_cli: left out of what show reads: 1000 comments and 1000 CRs\n"
+        self.check(done, text + "05", told, 0)
+
+    def test_no_input(self):
+        self.check(self.run_it("./rh_cli", "show"), "", "", 0)
+        how = {"stdin": None, "stderr": subprocess.DEVNULL, "preexec_fn": lambda: os.close(0)}
+        self.assertEqual(self.begin("./rh_cli", "show", **how).wait(), 0)
+
+    def test_a_signal_ends_the_word(self):
+        pipes = {"stdin": subprocess.PIPE, "stdout": subprocess.PIPE}
+        child = self.begin("./rh_cli", "show", **pipes)
+        with child.stdin, child.stdout:
+            child.stdin.write(b"05\n")
+            child.stdin.flush()
+            time.sleep(1)
+            child.terminate()
+            self.assertEqual(child.stdout.read(), b"")
+        self.assertEqual(child.wait(), -signal.SIGTERM)
+
+    def test_the_version_has_the_commit_where_git_is_there(self):
+        git = ["git", "-c", "user.name=a", "-c", "user.email=a@b", "-C", self.top]
+        for words in (["init", "-q"], ["add", "rh_cli", "tools"], ["commit", "-q", "-m", "first"]):
+            subprocess.run([*git, *words], check=True)
+        told = self.run_it("./rh_cli", "--version").stdout
+        self.assertRegex(told, r"^rh_cli of a test \([0-9a-f]{7,}\)\n$")
+        with open(self.top / "rh_cli", "a") as file:
+            file.write("# changed\n")
+        self.assertEqual(self.run_it("./rh_cli", "--version").stdout, told.replace(")", "-dirty)"))
+        # What lies in somebody else's repository has no commit of its own.
+        (self.top / ".git").rename(self.top.parent / ".git")
+        self.assertEqual(self.run_it("./rh_cli", "--version").stdout, "rh_cli of a test\n")
 
 
 class Durations(unittest.TestCase):

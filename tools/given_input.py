@@ -1,0 +1,230 @@
+"""Runs a word of a program over standard input, which may have what its grammar doesn't.
+
+Comments, `#` to the end of a line, and CRs in front of LFs are left out of what the program reads,
+and that is noted. Lines of `tools/pcap_packets.py --context` are taken by words that tell each line
+of packets in a line: what follows the context is what the program reads, and the context is
+written in front of what it tells; heads and ends are written as they are. Behind `bad input` the
+refused line is told, and what may stand there.
+"""
+import bisect
+import os
+import re
+import signal
+import stat
+import subprocess
+import sys
+import threading
+from collections import deque
+
+from teaching import said_of
+
+SIGNALS = signal.SIGINT, signal.SIGTERM, signal.SIGHUP
+PIECE = 1 << 20
+# As much of the input is kept as the program reads of one (MOST_INPUT of rh_words).
+MOST_KEPT = 67_108_865
+READ_FAULT, WRITE_FAULT = (3, "read fault"), (4, "write fault")
+# Words that tell each line of packets in a line.
+OF_PACKETS = "show", "name"
+# The words of a context, and what is told behind it.
+CONTEXT = re.compile(rb"(\d{4}-\d\d-\d\dT[\d:.]+Z \d+ \d+ \S+ > \S+) (.*)")
+NO_PACKET = re.compile(rb"(?:http .*|fin|rst|ncacn_http/1\.0)")
+# A comment behind words, and lines of scripts in which no comment stands.
+COMMENT = re.compile(rb"[ \t]*#.*")
+WHOLE = b"#", b"case "
+
+
+class Given:
+    """What the program is given of the input, line by line."""
+
+    def __init__(self, word):
+        self.word = word
+        self.comments = self.returns = 0
+        # How many lines the program was given, and behind how many of them a line was left out.
+        self.count, self.left_out = 0, []
+        # What it was given so far, up to MOST_KEPT bytes.
+        self.kept = bytearray()
+        # What is written, where there are contexts: each in front of what is told of a line, and
+        # lines as they are.
+        self.told = deque() if word in OF_PACKETS else None
+
+    def take(self, text):
+        """What the program is given of these lines; all but the last end with LF."""
+        lines = text.splitlines(True) if self.is_plain(text) else self.taken(text)
+        self.count += len(lines)
+        given = b"".join(lines)
+        self.kept += given[: MOST_KEPT - len(self.kept)]
+        return given
+
+    def is_plain(self, text):
+        return self.told is None and b"\r" not in text and b"#" not in text
+
+    def taken(self, text):
+        lines = []
+        for line in text.split(b"\n")[: -1 if text.endswith(b"\n") else None]:
+            given = self.line(line)
+            if given is None:
+                self.left_out.append(self.count + len(lines))
+            else:
+                lines.append(given + b"\n")
+        if lines and not text.endswith(b"\n"):
+            lines[-1] = lines[-1][:-1]
+        return lines
+
+    def line(self, line):
+        """What the program is given of a line; none where that is left out."""
+        if line.endswith(b"\r"):
+            line, self.returns = line[:-1], self.returns + 1
+        found = CONTEXT.fullmatch(line) if self.told is not None else None
+        if found and NO_PACKET.fullmatch(found[2]):
+            self.told.append((line, True))
+            return None
+        if found:
+            self.told.append((found[1] + b" ", False))
+            return found[2]
+        line = self.without_comment(line)
+        if line is not None and self.told is not None:
+            self.told.append((b"", False))
+        return line
+
+    def without_comment(self, line):
+        if b"#" not in line or self.word == "play" and line.startswith(WHOLE):
+            return line
+        self.comments += 1
+        return COMMENT.sub(b"", line, count=1) or None
+
+    def note(self):
+        """What is noted of the input, if there is anything."""
+        counts = [(self.comments, "comment"), (self.returns, "CR")]
+        told = [f"{count} {it}{'s' * (count != 1)}" for count, it in counts if count]
+        return f"left out of what {self.word} reads: {' and '.join(told)}" if told else None
+
+    def place(self, number):
+        """Which line of the input the line is that the program has as this one, from 1."""
+        return number + bisect.bisect_left(self.left_out, number)
+
+
+class Running:
+    """A program that runs over what it is given of standard input."""
+
+    def __init__(self, command, word, say, place=None):
+        self.given, self.say, self.rest = Given(word), say, b""
+        self.first = self.read()
+        self.has_context = bool(self.given.told is not None and CONTEXT.match(self.first))
+        if not self.has_context:
+            self.given.told = None
+        output = subprocess.PIPE if self.has_context else None
+        pipes = {"stdin": subprocess.PIPE, "stdout": output, "stderr": subprocess.PIPE}
+        self.child = subprocess.Popen([*command, word], cwd=place, **pipes)
+        # The line that was refused; whether reading failed, and whether writing did.
+        self.bad, self.is_broken, self.is_full = None, False, False
+
+    def read(self):
+        """The next whole lines of the input, or what is behind the last; none at its end."""
+        while True:
+            more = os.read(0, PIECE)
+            end = more.rfind(b"\n") + 1
+            if not more:
+                text, self.rest = self.rest, b""
+                return text
+            if end:
+                text, self.rest = self.rest + more[:end], more[end:]
+                return text
+            self.rest += more
+
+    def feed(self):
+        """Gives the program all of the input."""
+        try:
+            text = self.first
+            while text:
+                self.child.stdin.write(self.given.take(text))
+                text = self.read()
+        except BrokenPipeError:
+            pass
+        except OSError:
+            self.is_broken = True
+            self.child.kill()
+        if self.given.note():
+            self.say(self.given.note())
+        try:
+            self.child.stdin.close()
+        except BrokenPipeError:
+            pass
+
+    def hear(self):
+        """Passes standard error on, and keeps the number of the line that was refused."""
+        for line in self.child.stderr:
+            sys.stderr.buffer.write(line)
+            sys.stderr.flush()
+            found = re.fullmatch(rb"bad input (\d+)\n", line)
+            self.bad = int(found[1]) if found else self.bad
+
+    def write(self):
+        """Writes what the program tells, each line behind its context."""
+        for line in self.child.stdout:
+            self.write_whole()
+            front, _ = self.given.told.popleft()
+            sys.stdout.buffer.write(front + line)
+
+    def write_whole(self):
+        """Writes the lines that are written as they are, up to the next that the program tells."""
+        while self.given.told and self.given.told[0][1]:
+            sys.stdout.buffer.write(self.given.told.popleft()[0] + b"\n")
+
+    def end(self):
+        """Waits for the program's end. Its status, as a process has it."""
+        for number in SIGNALS:
+            signal.signal(number, lambda it, _: self.child.send_signal(it))
+        threads = [threading.Thread(target=it, daemon=True) for it in (self.feed, self.hear)]
+        for thread in threads:
+            thread.start()
+        self.is_full = self.has_context and not written(self.write)
+        if self.is_full:
+            self.child.kill()
+        status = self.child.wait()
+        if status >= 0:
+            threads[1].join()
+        if self.has_context and status == 0 and not self.is_full:
+            self.is_full = not written(self.write_whole)
+        return status
+
+
+def is_readable():
+    """Whether standard input is there, and no folder."""
+    try:
+        return not stat.S_ISDIR(os.fstat(0).st_mode)
+    except OSError:
+        return False
+
+
+def fails(status, text):
+    """Tells of a failure as the program does."""
+    print(text, file=sys.stderr)
+    return status
+
+
+def written(write):
+    """Whether standard output took what is written; where it doesn't, it gets nothing more."""
+    try:
+        write()
+        sys.stdout.flush()
+        return True
+    except OSError:
+        os.dup2(os.open(os.devnull, os.O_WRONLY), sys.stdout.fileno())
+        return False
+
+
+def run(command, word, say, place=None):
+    """Runs the program with this word. Its status; a signal that ended it ends this process."""
+    running = Running(command, word, say, place)
+    status = running.end()
+    if running.is_broken:
+        return fails(*READ_FAULT)
+    if running.is_full:
+        return fails(*WRITE_FAULT)
+    if running.bad is not None:
+        given = running.given
+        say(said_of(word, bytes(given.kept), running.bad, given.place(running.bad)))
+    if status < 0:
+        signal.signal(-status, signal.SIG_DFL)
+        os.kill(os.getpid(), -status)
+    return status

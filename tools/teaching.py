@@ -1,0 +1,126 @@
+"""What is said of a line that replay, show or play refused: what stands there, and what may.
+
+The program's own text and status stay as they are; this is a line behind it.
+"""
+import re
+
+import line_forms
+
+# What files of pcap and pcapng begin with.
+MAGICS = "a1b2c3d4", "d4c3b2a1", "a1b23c4d", "4d3cb2a1", "0a0d0d0a"
+CAPTURES = tuple(map(bytes.fromhex, MAGICS))
+ONLY_HEX = re.compile(rb"[0-9A-Fa-f]+\s*")
+SCRIPT_FIRST = re.compile(rb"(?:#.*|case .*|set .*|client|server|(?:in|out)proxy \d+)\s*")
+# What a file of each kind is read by.
+READ_BY = {
+    "replay": "a recording, which replay reads: type ./replay FILE",
+    "show": "hex, which show reads: type ./rh_cli show < FILE",
+    "play": "a script of one role, which play reads: type ./rh_cli play < FILE",
+    "capture": "a capture: type tools/pcap_packets.py FILE | ./rh_cli show",
+}
+# How much of a line is told.
+MOST_TOLD = 60
+
+
+def kind_of(text):
+    """The word that reads texts which begin like this, or 'capture'; none where it is unclear."""
+    first = text[:65_536].partition(b"\n")[0]
+    if text.startswith(CAPTURES):
+        return "capture"
+    if first.startswith(b"rh "):
+        return "replay"
+    if ONLY_HEX.fullmatch(first):
+        return "show"
+    return "play" if SCRIPT_FIRST.fullmatch(first) else None
+
+
+def shortened(line):
+    return line if len(line) <= MOST_TOLD else f"{line[: MOST_TOLD - 2]}.."
+
+
+def spacing(line):
+    """What is wrong with the spaces of a line."""
+    if not line.strip():
+        return "the line is empty"
+    if not line.isascii() or not line.isprintable():
+        odd = next(it for it in line if not " " <= it <= "~")
+        return f"{odd!r} stands in it, and lines are of printed ASCII"
+    if line != line.strip(" "):
+        return "there are spaces at its end" if line[0] != " " else "there are spaces before it"
+    return "there are two spaces between words" if "  " in line else None
+
+
+def of_forms(forms, line):
+    """Why a line is in none of these forms; none where it is in one."""
+    words = line.split(" ")
+    likely = [form for form in forms if form[0] == words[0]]
+    if not likely:
+        begins = sorted({form[0] for form in forms})
+        return f"no line begins with {words[0]!r}: they begin with {', '.join(begins)}"
+    if any(line_forms.is_taken(form, words) for form in likely):
+        return None
+    if words[0] == "set" and len(words) > 1 and words[1] not in line_forms.KEYS:
+        return f"{words[1]!r} is no setting: they are {', '.join(line_forms.KEYS)}"
+    best = max(likely, key=lambda form: (line_forms.fitting(form, words), len(form)))
+    return line_forms.amiss(best, words)
+
+
+def of_settings(lines, number):
+    """Why a setting may not stand in this line, from 1; none where it may."""
+    key = lines[number - 1].split(" ")[1]
+    for at, line in enumerate(lines[1 : number - 1], start=2):
+        words = line.split(" ")
+        if words[0] != "set":
+            return f"settings stand before all other lines, and line {at} is none"
+        if words[1] == key:
+            return f"{key} was set in line {at}"
+    return None
+
+
+def of_recording(lines, number):
+    """Why this line, from 1, isn't one of a recording."""
+    line, header = lines[number - 1], lines[0]
+    if number == 1 or header not in line_forms.HEADERS:
+        return f"the first line is {' or '.join(map(repr, line_forms.HEADERS))}"
+    why = spacing(line) or of_forms(line_forms.HEADERS[header], line)
+    if why is None and line.startswith("set "):
+        return of_settings(lines, number)
+    if line in line_forms.HEADERS:
+        return f"{line!r} is the first line alone"
+    return why
+
+
+def of_show(line):
+    why = spacing(line)
+    return why or f"the line is no {line_forms.LONG_HEX.told}"
+
+
+def of_script(line):
+    if line.startswith("case ") and len(line) > 5 and line.isascii():
+        return None
+    return spacing(line) or of_forms(line_forms.PLAY, line)
+
+
+def why_refused(word, text, number):
+    """Why line `number`, from 1, of a text is none that this word reads; none where that isn't
+    clear."""
+    if word not in READ_BY:
+        return None
+    if number == 1 and kind_of(text) not in (word, None):
+        return f"this is {READ_BY[kind_of(text)]}"
+    lines = [it.decode("utf-8", "replace") for it in text.split(b"\n", number)[:number]]
+    if not text.strip():
+        return "the input is empty"
+    if word == "replay":
+        return of_recording(lines, number)
+    return of_show(lines[-1]) if word == "show" else of_script(lines[-1])
+
+
+def said_of(word, text, number, place):
+    """What is said of the refused line, which is line `place` of the input."""
+    why = why_refused(word, text, number)
+    if why is None:
+        return f"line {place}: docs/RECORDINGS.md has the lines that {word} reads"
+    line = text.split(b"\n", number)[number - 1 : number] or [b""]
+    told = shortened(line[0].decode("utf-8", "replace"))
+    return f"line {place}: {told!r}: {why}"
