@@ -143,6 +143,25 @@ fn read_same(text: &[u8]) -> Option<Leg>
     if is_same(same) { Some(leg) } else { None }
 }
 
+/// Whether the word tells the one version.
+fn is_version(word: &[u8]) -> bool
+    ensures { IsTrue result ↔ (word.now ≡ codes "1") }
+{
+    word == b"1".as_slice()
+}
+
+/// The form of the recording that the word names.
+fn form_of_word(word: &[u8]) -> Option<bool>
+    ensures { MatchOption result ((roles : Bool) → ¬ (word.now ≡ form_word roles))
+        (λ roles. word.now ≡ form_word roles) }
+{
+    match word {
+        b"direct" => Some(false),
+        b"roles" => Some(true),
+        _ => None,
+    }
+}
+
 /// The form of the recording behind the number of its version.
 fn read_form(text: &[u8]) -> Option<bool>
     ensures { MatchOption result ((roles : Bool)
@@ -150,10 +169,11 @@ fn read_form(text: &[u8]) -> Option<bool>
         (λ roles. Word (codes "1") (Is (form_word roles)) text.now) }
 {
     let (version, form) = split_word(text)?;
-    match (version, form) {
-        (b"1", b"direct") => Some(false),
-        (b"1", b"roles") => Some(true),
-        _ => None,
+    let roles = form_of_word(form)?;
+    if is_version(version) {
+        Some(roles)
+    } else {
+        None
     }
 }
 

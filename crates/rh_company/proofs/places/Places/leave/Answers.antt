@@ -1,6 +1,6 @@
 -- by lemmas over plain variables
 use Rattle.std.proofs.Common.{◌∙◌}
-use Rattle.rh_wires.proofs.Keeping.{idle_set, change_at}
+use Rattle.rh_wires.proofs.Keeping.{change_at, change_past, idle_set}
 use Rattle.rh_company.proofs.places.Places.leave.Goals as goal
 
 pub invariant_of-self : goal.invariant_of-self
@@ -12,3 +12,8 @@ returns-then-at-len g c =
     change_at _ _ _ _ _ _ _ c.self.view_is
     (c.len.ensures ∙ c.self.inside.list.ok.0) c.if-at-len.true
     c.index_mut.ensures.value c.leave.ensures
+
+pub returns-else-at-len : goal.returns-else-at-len
+returns-else-at-len g c =
+    change_past _ _ _ _ _ c.self.view_is (c.len.ensures ∙ c.self.inside.list.ok.0)
+    c.if-at-len.false

@@ -1,6 +1,6 @@
 -- by lemmas over plain variables
 use Rattle.std.proofs.Common.{◌∙◌}
-use Rattle.rh_wires.proofs.Keeping.{idle_set, act_at}
+use Rattle.rh_wires.proofs.Keeping.{act_at, act_past, idle_set}
 use Rattle.rh_company.proofs.places.Places.tell.Goals as goal
 
 pub invariant_of-self : goal.invariant_of-self
@@ -12,3 +12,8 @@ returns-then-at-len g c =
     act_at _ _ _ _ _ _ _ _ _ c.self.view_is
     (c.len.ensures ∙ c.self.inside.list.ok.0) c.if-at-len.true
     c.index_mut.ensures.value c.tell.ensures
+
+pub returns-else-at-len : goal.returns-else-at-len
+returns-else-at-len g c =
+    act_past _ _ _ _ _ _ c.self.view_is (c.len.ensures ∙ c.self.inside.list.ok.0)
+    c.if-at-len.false
