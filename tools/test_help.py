@@ -5,13 +5,12 @@ No program is run: rh_cli's page of --help is put together from the rows of stat
 that make it in the program. What the built programs write is tested by test_statuses.py, and by
 test_relays.py, with the statuses of rh_roles.
 """
-import pathlib
 import re
 import unittest
 
-TOP = pathlib.Path(__file__).resolve().parent.parent
+from help_page import PAGE, TOP, forms, help_page, rows_of_page, statuses
+
 WORDS = TOP / "crates/rh_words"
-PAGE = TOP / "docs/RECORDINGS.md"
 # The constants that --help tells of, and where they stand.
 CONSTANTS = {
     "MOST_GIVEN": TOP / "crates/rh_generate/src/count.rt",
@@ -45,30 +44,6 @@ def constant(name):
     text = CONSTANTS[name].read_text()
     [value] = re.findall(rf"^pub const {name}: \w+ = ([\d_]+);", text, re.MULTILINE)
     return f"{int(value.replace('_', '')):,}"
-
-
-def statuses():
-    """The rows of the program's statuses: number, text, and what --help tells behind it."""
-    text = (WORDS / "src/status.rt").read_text()
-    rows = re.search(r"\$rows! \{(.*?)\}", text, re.DOTALL)[1]
-    return re.findall(r'^\s*\w+ (\d+) "(.*)" "(.*)";$', rows, re.MULTILINE)
-
-
-def help_page():
-    """What --help writes."""
-    text = (WORDS / "src/help.rt").read_text()
-    front, row = re.search(r'concat!\(\s*"(.*?)",\s*\$\((.*?)\)\*', text, re.DOTALL).groups()
-    if row.split() != ['"', '",', "$number,", '"', '",', "$name,", "$more,", '"\\n",']:
-        raise ValueError(f"a row of a status is made otherwise: {row}")
-    rows = (f"  {number}  {name}{more}\n" for number, name, more in statuses())
-    return front.replace("\\\\", "\\") + "".join(rows)
-
-
-def rows_of_page():
-    """The statuses on the page: number, text, and when."""
-    table = PAGE.read_text().split("\n| Status | Standard error | When |\n|---|---|---|\n")[1]
-    for line in table.split("\n\n")[0].split("\n"):
-        yield [cell.strip() for cell in line.strip("|").split("|")]
 
 
 def definition(name):
@@ -120,9 +95,9 @@ class Texts(unittest.TestCase):
 
     def test_words(self):
         """The page's row of wrong words names each form that --help tells."""
-        forms = re.findall(r"^  rh_cli (\S+)(?: <n>)?  ", help_page(), re.MULTILINE)
+        words = [form.split()[0] for form, _ in forms()]
         [when] = [when for _, text, when in rows_of_page() if text == "`usage`"]
-        self.assertEqual(sorted(forms), sorted(re.findall(r"`(\S+)`", when)))
+        self.assertEqual(sorted(words), sorted(re.findall(r"`(\S+)`", when)))
 
 
 def number(file, name):
