@@ -7,7 +7,8 @@
 On a page,
 - a link leads to a file that is there, and to a heading of it;
 - a path that begins with a folder of the top, or with ./, is there, where it stands in backticks or
-  in a block of code (words in capitals, as NAME, stand for any name, and out/ is not looked at);
+  in a block of code (words in capitals, as NAME, and those with my_ stand for any name, and out/ is
+  not looked at);
 - a word in backticks that begins as crates do, with rh_, law_, test_ or bench_, is a crate, or a
   name in the sources; so is each other such word that has an underscore;
 - `CRATE::..::NAME` is declared in that crate, and so is each NAME or TYPE::NAME in a list behind
@@ -28,7 +29,7 @@ NAME = re.compile(r"(?:\w+::)*\w+")
 LINK = re.compile(r"\]\(([^)\s]+)\)")
 SPAN = re.compile(r"`([^`]+)`")
 OWNED = re.compile(rf"`({CRATE})`: (?=`)((?:[^`|.;]|`[^`]*`)*)")
-STANDS_FOR_ANY = re.compile(r"(?:^|[/_.])[A-Z]{2,}(?:$|[/_.])|[<>${}]|\.\.")
+STANDS_FOR_ANY = re.compile(r"(?:^|[/_.])[A-Z]{2,}(?:$|[/_.])|/my_|[<>${}]|\.\.")
 DECLARED = r"\b(?:fn|struct|enum|trait|type|const|static|mod|macro_rules!)\s+{0}\b"
 DEFINED = r"(?m)^\s*(?:\w+ )*{0}\s*:(?!:)"
 EXPORTED = r"(?s)\bpub use [^;]*\b{0}\b"
