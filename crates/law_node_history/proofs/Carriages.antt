@@ -1,7 +1,7 @@
 -- what happens in one direction of a leg keeps it carried
 use Rattle.law_order.proofs.Vocabulary.{◌≡◌, ℕ, List, [], ◌∷◌, ◌++◌, Bool, true, false, refl, sym, ap, ◌∙◌, subst, ◌⊎◌, inl, inr, false≢true, true≢false, append-nil, IsPrefix, WireLaw, Draws, Feeds}
 use Rattle.law_order.proofs.WireKeeps.{wire_step}
-use Rattle.law_node_history.proofs.Vocabulary.{Carriage, IsCarried, IsDone, wire_of}
+use Rattle.law_node_history.proofs.Vocabulary.{Carriage, IsCarried, IsDone, IsUnheard, wire_of}
 
 -- not both
 not_down : {A : Type 0} (is : Bool) → is ≡ true → is ≡ false → A
@@ -25,10 +25,12 @@ module _ (c : Carriage) (k : IsCarried c) where
     over = λ lost. by (k.over lost);
     put_up = k.put_up;
     take_up = k.take_up;
+    unfed = k.unfed;
   }
     where
-      by : (IsDone c.did_put c.puts × (c.flight ≡ [])) ⊎ IsDone c.did_take c.takes
-          → (IsDone c.did_put c.puts × ((c.flight ++ bytes) ≡ [])) ⊎ IsDone c.did_take c.takes
+      by : IsUnheard c ⊎ IsDone c.did_take c.takes
+          → IsUnheard (record c { drawn = c.drawn ++ bytes; flight = c.flight ++ bytes })
+          ⊎ IsDone c.did_take c.takes
       by (inl done) = up_goes_on c.did_put c.puts up done.0
       by (inr done) = inr done
 
@@ -37,11 +39,14 @@ module _ (c : Carriage) (k : IsCarried c) where
       → IsCarried (record c { fed = c.fed ++ bytes; flight = rest })
   carry_fed bytes rest up is = by k.lost refl
     where
-      old : k.lost ≡ true → IsDone c.did_put c.puts × (c.flight ≡ [])
+      -- the end that takes has the leg up
+      heard : c.did_take ≡ false → (c.fed ++ bytes) ≡ []
+      heard first = not_down c.did_take (k.take_up up) first
+
+      old : k.lost ≡ true → IsUnheard c
       old lost = left (k.over lost)
         where
-          left : (IsDone c.did_put c.puts × (c.flight ≡ [])) ⊎ IsDone c.did_take c.takes
-              → IsDone c.did_put c.puts × (c.flight ≡ [])
+          left : IsUnheard c ⊎ IsDone c.did_take c.takes → IsUnheard c
           left (inl done) = done
           left (inr done) = up_goes_on c.did_take c.takes up done
 
@@ -54,6 +59,7 @@ module _ (c : Carriage) (k : IsCarried c) where
         over = λ lost. absurd (false≢true lost);
         put_up = k.put_up;
         take_up = k.take_up;
+        unfed = heard;
       }
       by true e =
           let done = old e in
@@ -66,9 +72,10 @@ module _ (c : Carriage) (k : IsCarried c) where
               in_order = subst (λ x. IsPrefix x c.drawn) (sym same) k.wire.in_order;
               whole = λ f. absurd (true≢false f);
             };
-            over = λ lost. inl (done.0, none.1);
+            over = λ lost. inl (done.0, none.1, same ∙ done.2);
             put_up = k.put_up;
             take_up = k.take_up;
+            unfed = heard;
           }
 
   -- the leg comes up for an end for the first time
@@ -79,10 +86,11 @@ module _ (c : Carriage) (k : IsCarried c) where
     over = λ lost. by (k.over lost);
     put_up = λ e. refl;
     take_up = k.take_up;
+    unfed = k.unfed;
   }
     where
-      by : (IsDone c.did_put c.puts × (c.flight ≡ [])) ⊎ IsDone c.did_take c.takes
-          → (IsDone true true × (c.flight ≡ [])) ⊎ IsDone c.did_take c.takes
+      by : IsUnheard c ⊎ IsDone c.did_take c.takes
+          → IsUnheard (record c { puts = true; did_put = true }) ⊎ IsDone c.did_take c.takes
       by (inl done) = not_down c.did_put done.0.0 first
       by (inr done) = inr done
 
@@ -93,10 +101,10 @@ module _ (c : Carriage) (k : IsCarried c) where
     over = λ lost. by (k.over lost);
     put_up = k.put_up;
     take_up = λ e. refl;
+    unfed = λ e. absurd (true≢false e);
   }
     where
-      by : (IsDone c.did_put c.puts × (c.flight ≡ [])) ⊎ IsDone c.did_take c.takes
-          → (IsDone c.did_put c.puts × (c.flight ≡ [])) ⊎ IsDone true true
+      by : IsUnheard c ⊎ IsDone c.did_take c.takes → IsUnheard c ⊎ IsDone true true
       by (inl done) = inl done
       by (inr done) = not_down c.did_take done.0 first
 
@@ -108,10 +116,11 @@ module _ (c : Carriage) (k : IsCarried c) where
     over = λ lost. by (k.over lost);
     put_up = λ e. absurd (false≢true e);
     take_up = k.take_up;
+    unfed = k.unfed;
   }
     where
-      by : (IsDone c.did_put c.puts × (c.flight ≡ [])) ⊎ IsDone c.did_take c.takes
-          → (IsDone c.did_put false × (c.flight ≡ [])) ⊎ IsDone c.did_take c.takes
+      by : IsUnheard c ⊎ IsDone c.did_take c.takes
+          → IsUnheard (record c { puts = false }) ⊎ IsDone c.did_take c.takes
       by (inl done) = up_goes_on c.did_put c.puts up done.0
       by (inr done) = inr done
 
@@ -122,14 +131,15 @@ module _ (c : Carriage) (k : IsCarried c) where
     over = λ lost. by (k.over lost);
     put_up = k.put_up;
     take_up = λ e. absurd (false≢true e);
+    unfed = k.unfed;
   }
     where
-      by : (IsDone c.did_put c.puts × (c.flight ≡ [])) ⊎ IsDone c.did_take c.takes
-          → (IsDone c.did_put c.puts × (c.flight ≡ [])) ⊎ IsDone c.did_take false
+      by : IsUnheard c ⊎ IsDone c.did_take c.takes → IsUnheard c ⊎ IsDone c.did_take false
       by (inl done) = inl done
       by (inr done) = up_goes_on c.did_take c.takes up done
 
-  -- it is down for both then, and what is in flight is lost
+  -- it is down for both then, and what is in flight is lost: where the end that takes did not have
+  -- it up, before anything came there
   pub carry_lost : (c.puts ≡ true) ⊎ (c.takes ≡ true)
       → IsCarried (record c { puts = false; takes = false; flight = [] })
   carry_lost up = record {
@@ -138,9 +148,17 @@ module _ (c : Carriage) (k : IsCarried c) where
     over = λ lost. by up;
     put_up = λ e. absurd (false≢true e);
     take_up = λ e. absurd (false≢true e);
+    unfed = k.unfed;
   }
     where
+      by_put : (was : Bool) → c.did_take ≡ was → c.puts ≡ true
+          → IsUnheard (record c { puts = false; takes = false; flight = [] })
+          ⊎ IsDone c.did_take false
+      by_put true is e = inr (is, refl)
+      by_put false is e = inl ((k.put_up e, refl), refl, k.unfed is)
+
       by : (c.puts ≡ true) ⊎ (c.takes ≡ true)
-          → (IsDone c.did_put false × (◌≡◌ {A = List ℕ} [] [])) ⊎ IsDone c.did_take false
-      by (inl e) = inl ((k.put_up e, refl), refl)
+          → IsUnheard (record c { puts = false; takes = false; flight = [] })
+          ⊎ IsDone c.did_take false
+      by (inl e) = by_put c.did_take refl e
       by (inr e) = inr (k.take_up e, refl)

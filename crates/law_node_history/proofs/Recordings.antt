@@ -23,6 +23,7 @@ fresh_carriage = record {
   over = λ e. absurd (false≢true e);
   put_up = λ e. absurd (false≢true e);
   take_up = λ e. absurd (false≢true e);
+  unfed = λ e. refl;
 }
 
 module _ {K C S I O : Type 0} (r : Rulebook C S I O) (m : Makers K I O) (d : Deeds C S) where

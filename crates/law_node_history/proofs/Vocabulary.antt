@@ -39,7 +39,7 @@ pub use Rattle.rh_nodes.specs.Steps.{answer_of, answered, ending_answer, last, l
 pub use Rattle.rh_nodes.specs.Time.{for_each, tick, tick_all, tick_ins, tick_outs}
 pub use Rattle.rh_nodes.specs.World.{World, at, node_by}
 pub use Rattle.rh_nodes.specs.declared.half.Half.{Half}
-pub use Rattle.law_node_history.specs.Carriages.{Carriage, IsCarried, IsDone, wire_of}
+pub use Rattle.law_node_history.specs.Carriages.{Carriage, IsCarried, IsDone, IsUnheard, wire_of}
 pub use Rattle.law_node_history.specs.Carried.{AllAccepted, AreAccepted, AreAcceptedAtEnd, AreCarried, AreHeard, ComesUpOnce, ComesUpOnceAtEnd, IsAccepted, IsAcceptedAtEnd, IsHeard, IsTraced, Ledger, LegsComeUpOnce, RemembersLegs, RemembersLegsAtEnd, came_up, carriage, drawn_at_end, drawn_by, drawn_in, drawn_on, end_drawn_on, end_node, events_of, happened, heard_in, heard_on, is_of_client, is_up_of, ledger, wire_at}
 pub use Rattle.law_node_history.specs.Changes.{AreAllowed, ByLines, Change, Closes, Draws, Gives, GoesBy, GoesDown, GoesQuietly, GoesUp, HasUp, IsDrawn, IsFed, IsHalf, IsLine, IsTold, Leads, MayBeTold, MayChange, MovesTo, OpensIn, OpensOut, OpensSame, Quietly, RaisesAlone, RecyclesIn, RecyclesOut, Reports, StandsAt, Takes, Turn, Works, WorksBy, after_turn, after_turns, all_changed, changed, is_led, is_quiet, is_silent, is_whole, is_work, may_have, of_line}
 pub use Rattle.law_node_history.specs.Closes.{ClientTells, ClosedPlace, ClosesNode, HasClosed, IsClosedBy, IsOneOf, LineCloses, ServerTells, closing_of, closings_of, told_by}

@@ -21,13 +21,19 @@ IsDone was is = (was ≡ true) × (is ≡ false)
 abbrev pub wire_of : Carriage → Bool → Wire
 wire_of c lost = record { drawn = c.drawn; fed = c.fed; flight = c.flight; lost = lost }
 
+-- the end that puts is done, nothing is in flight, and the end that takes heard nothing: so the leg
+-- may have been down for both before it came up for the end that takes
+abbrev pub IsUnheard : Carriage → Type 0
+IsUnheard c = IsDone c.did_put c.puts × (c.flight ≡ []) × (c.fed ≡ [])
+
 -- what was fed is a front of what was drawn. While nothing was lost the rest is in flight; once
--- something may have been, the end that takes is done, or the one that puts is and nothing is left
+-- something may have been, the end that takes is done, or heard nothing
 pub record IsCarried (c : Carriage) : Type 0 where
   pub lost : Bool
   pub wire : WireLaw (wire_of c lost)
-  pub over : lost ≡ true
-      → (IsDone c.did_put c.puts × (c.flight ≡ [])) ⊎ IsDone c.did_take c.takes
+  pub over : lost ≡ true → IsUnheard c ⊎ IsDone c.did_take c.takes
   -- an end for which the leg is up had it up
   pub put_up : c.puts ≡ true → c.did_put ≡ true
   pub take_up : c.takes ≡ true → c.did_take ≡ true
+  -- and one that never had it up heard nothing
+  pub unfed : c.did_take ≡ false → c.fed ≡ []

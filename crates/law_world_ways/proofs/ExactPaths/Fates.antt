@@ -1,7 +1,6 @@
 -- one direction of a leg along changes: while both its nodes go on it gives all that was put there,
 -- or the handover mark or END passed, where it is ended only once one of its ends is over
 use Rattle.law_order.proofs.Vocabulary.{◌≡◌, ◌⊎◌, inl, inr, ℕ, zero, suc, ◌<◌, List, [], ◌∷◌, ◌++◌, length, Bool, true, false, not, ◌&&◌, ◌||◌, Some, None, arith, refl, sym, ap, ◌∙◌, subst, ◌==◌, Option, and_parts, append-nil, IsPrefix, Item}
-use Rattle.rh_shell.specs.NearEnds.{is_empty}
 use Rattle.rh_wires.specs.Legs as legs
 use Rattle.rh_wires.specs.Wires as wires
 use Rattle.rh_wires.specs.Legs as legs
@@ -17,7 +16,7 @@ use Rattle.law_world_ways.proofs.ExactPaths.Fronts.{IsEnded, front_more, over_be
 use Rattle.law_world_ways.proofs.ExactWays.LegGoes.{unused, read_new}
 use Rattle.law_world_ways.proofs.OnPaths.Used.{way_told, read_told}
 use Rattle.law_world_ways.specs.EndsInTime.InTime.{AllEndInTime, IsOver}
-use Rattle.law_world_ways.specs.OnPaths.Legs.{has_passed, is_cut, on_leg, was_left, was_told, was_up}
+use Rattle.law_world_ways.specs.OnPaths.Legs.{has_passed, is_cut, is_unheard, on_leg, was_left, was_told, was_up}
 use Rattle.law_world_ways.specs.OnPaths.OnWay.{is_lost, items_on_way, left_on, read_on}
 use Rattle.law_world_ways.specs.ExactWays.Keeping.{KeepsEnd}
 
@@ -67,7 +66,8 @@ never_lost v h leg dir pipe puts rules takes puts_on takes_on here there absent 
     ap is_lost (way_told pipe (is_cut v h leg dir)
     (read_on rules takes pipe leg (was_up v h leg (receiver dir))) flight
     (left_on puts leg up told) (begin pipe) left.0
-    (uncut (was_left v h leg (sender dir)) (was_left v h leg (receiver dir)) (is_empty flight)
+    (uncut (was_left v h leg (sender dir)) (was_left v h leg (receiver dir))
+    (is_unheard v h leg dir)
     (not_left (was_up v h leg (receiver dir))
     (wires.is_up (receiver dir) (wire_at v.legs leg)) there)
     (not_left up (wires.is_up (sender dir) (wire_at v.legs leg)) here))
@@ -248,7 +248,7 @@ module _ {K C S I O P T : Type 0} (r : Rulebook C S I O) (m : Makers K I O) (d :
                   (left_on (puts e) leg (up_here e) (told_here e)) read.0 left.0
                   (uncut (was_left (W e) (H e) leg (sender dir))
                   (was_left (W e) (H e) leg (receiver dir))
-                  (is_empty (in_flight dir (wire_at (W e).legs leg))) there here_left)
+                  (is_unheard (W e) (H e) leg dir) there here_left)
                   read.1 left.1;
             })
 

@@ -1,6 +1,5 @@
 -- a leg that was not lost gives all that was put there, or the one that takes has no use for it
 use Rattle.law_order.proofs.Vocabulary.{◌≡◌, ◌⊎◌, inl, inr, ℕ, Bool, true, false, List, [], Some, None, refl, sym, ap, ◌∙◌, subst, ◌&&◌, ◌||◌, not, Option, Item, stops_at}
-use Rattle.rh_shell.specs.NearEnds.{is_empty}
 use Rattle.rh_wires.specs.Wires.{is_up}
 use Rattle.law_moves.proofs.Vocabulary.{Dir, Pipe, Leg, Going, NearEnd, is_ended, is_over, is_useless, Message, Rules, Shell, end_at, is_in_use, Reading, begin, messages_from, reading}
 use Rattle.law_moves.proofs.Lemmas.{leg_is}
@@ -8,7 +7,7 @@ use Rattle.law_node_history.proofs.Vocabulary.{in_flight, receiver, sender, Worl
 use Rattle.law_node_streams.proofs.Streams.Ends.{end_is, end_leg}
 use Rattle.law_world_ways.proofs.OnPaths.Used.{way_told, read_told}
 use Rattle.law_world_ways.specs.LiveIntakes.{ReadsLeg}
-use Rattle.law_world_ways.specs.OnPaths.Legs.{is_cut, on_leg, was_told, was_up}
+use Rattle.law_world_ways.specs.OnPaths.Legs.{is_cut, is_unheard, on_leg, was_told, was_up}
 use Rattle.law_world_ways.specs.OnPaths.OnWay.{is_lost, left_at, left_on, read_on}
 use Rattle.law_world_ways.specs.ExactWays.Keeping.{KeepsEnd}
 
@@ -67,7 +66,7 @@ module _ {K C S I O P T : Type 0} (v : World K C S I O) (h : History) (leg : Leg
   not_cut =
       uncut (was_up v h leg (receiver dir)) (is_up (receiver dir) (wire_at v.legs leg))
       (was_up v h leg (sender dir)) (is_up (sender dir) (wire_at v.legs leg))
-      (is_empty (in_flight dir (wire_at v.legs leg))) up_there up_here
+      (is_unheard v h leg dir) up_there up_here
 
   -- what is begun is told
   abbrev up : Bool

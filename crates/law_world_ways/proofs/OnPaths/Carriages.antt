@@ -1,8 +1,8 @@
 -- what a leg carried, and what its end that takes heard of that
-use Rattle.law_order.proofs.Vocabulary.{◌≡◌, ◌⊎◌, inl, inr, ℕ, Bool, true, false, List, [], ◌++◌, refl, sym, ap, ◌∙◌, ◌&&◌, ◌||◌, not, AllByRecursion, Option, Item, seen}
+use Rattle.law_order.proofs.Vocabulary.{◌≡◌, ◌⊎◌, inl, inr, ℕ, Bool, true, false, List, [], ◌++◌, refl, sym, ap, ap₂, ◌∙◌, ◌&&◌, ◌||◌, not, AllByRecursion, Option, Item, seen}
 use Rattle.rh_shell.specs.NearEnds.{is_empty}
 use Rattle.law_moves.proofs.Vocabulary.{Dir, nil_front, Pipe, Leg, Rules, Message, Shell, ReadsBack, Begins, messages_read, read_of}
-use Rattle.law_node_history.proofs.Vocabulary.{in_flight, receiver, sender, Company, Rulebook, Deeds, Makers, World, at, Carriage, IsCarried, IsDone, AreCarried, carriage, drawn_by, ledger, wire_at, History}
+use Rattle.law_node_history.proofs.Vocabulary.{in_flight, receiver, sender, Company, Rulebook, Deeds, Makers, World, at, Carriage, IsCarried, IsDone, IsUnheard, AreCarried, carriage, drawn_by, ledger, wire_at, History}
 use Rattle.law_world_ways.proofs.OnPaths.AtEnds.{Puts, Takes}
 use Rattle.law_world_ways.proofs.OnPaths.Ends.{left_spells, read_stands}
 use Rattle.law_world_ways.proofs.OnPaths.Legs.{AllRead, IsJoined, leg_arrives}
@@ -10,7 +10,8 @@ use Rattle.law_world_ways.specs.OnPaths.Legs.{is_cut, on_leg, was_told, was_up}
 use Rattle.law_world_ways.specs.OnPaths.OnWay.{is_lost, items_on_way, left_on, read_on}
 
 not_cut : (c : Carriage) → IsCarried c
-    → (c.did_take && not c.takes) || ((c.did_put && not c.puts) && is_empty c.flight) ≡ false
+    → (c.did_take && not c.takes)
+    || ((c.did_put && not c.puts) && (is_empty c.flight && is_empty c.fed)) ≡ false
     → c.drawn ≡ c.fed ++ c.flight
 not_cut c is uncut = by is.lost refl
   where
@@ -19,20 +20,23 @@ not_cut c is uncut = by is.lost refl
     taken true true rest done e = let bad = done.1 in absurd (cc)
     taken false here rest done e = let bad = done.0 in absurd (cc)
 
-    put : (first was here : Bool) (flight : List ℕ) → IsDone was here × (flight ≡ [])
-        → first || ((was && not here) && is_empty flight) ≡ false → ⊥
-    put true was here flight done e = absurd (cc)
-    put false true false flight done e =
-        absurd (let bad : is_empty flight ≡ false = e in
-        let good : is_empty flight ≡ true = ap is_empty done.1 in cc)
-    put false true true flight done e = let bad = done.0.1 in absurd (cc)
-    put false false here flight done e = let bad = done.0.0 in absurd (cc)
+    put : (first was here : Bool) (flight fed : List ℕ)
+        → IsDone was here × (flight ≡ []) × (fed ≡ [])
+        → first || ((was && not here) && (is_empty flight && is_empty fed)) ≡ false → ⊥
+    put true was here flight fed done e = absurd (cc)
+    put false true false flight fed done e =
+        absurd (let bad : (is_empty flight && is_empty fed) ≡ false = e in
+        let good : (is_empty flight && is_empty fed) ≡ true =
+        ap₂ (λ (a b : List ℕ). is_empty a && is_empty b) done.1 done.2 in cc)
+    put false true true flight fed done e = let bad = done.0.1 in absurd (cc)
+    put false false here flight fed done e = let bad = done.0.0 in absurd (cc)
 
-    lost_by : (IsDone c.did_put c.puts × (c.flight ≡ [])) ⊎ IsDone c.did_take c.takes → ⊥
+    lost_by : IsUnheard c ⊎ IsDone c.did_take c.takes → ⊥
     lost_by (inl done) =
-        put (c.did_take && not c.takes) c.did_put c.puts c.flight done uncut
+        put (c.did_take && not c.takes) c.did_put c.puts c.flight c.fed done uncut
     lost_by (inr done) =
-        taken c.did_take c.takes ((c.did_put && not c.puts) && is_empty c.flight) done uncut
+        taken c.did_take c.takes
+        ((c.did_put && not c.puts) && (is_empty c.flight && is_empty c.fed)) done uncut
 
     by : (lost : Bool) → is.lost ≡ lost → c.drawn ≡ c.fed ++ c.flight
     by false e = is.wire.whole e

@@ -20,7 +20,7 @@ use Rattle.law_world_ways.specs.OnPaths.Ways.{AreInUseDown, AreInUseUp, client_n
 
 goes_on : {K C S I O P T : Type 0} (v : World K C S I O) (h : History) (leg : Leg) (dir : Dir)
     (pipe : Option Pipe) (puts : Shell P) (rules : Rules T) (takes : Shell T) (came : List Item)
-    → IsInUse v leg dir puts rules takes ⊎ (has_passed came ≡ true)
+    → IsInUse v h leg dir puts rules takes ⊎ (has_passed came ≡ true)
     → stops_at (is_lost (on_leg v h leg dir pipe puts rules takes)) came ≡ false
 goes_on v h leg dir pipe puts rules takes came (inl used) =
     used_goes v h leg dir pipe puts rules takes used came

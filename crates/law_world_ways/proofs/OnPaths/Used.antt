@@ -1,21 +1,28 @@
--- a leg that is in use at both its ends
-use Rattle.law_order.proofs.Vocabulary.{◌≡◌, ap, ℕ, Bool, true, false, List, ◌++◌, Some, None, refl, ◌&&◌, ◌||◌, not, Option, Item, stops_at}
-use Rattle.rh_shell.specs.NearEnds.{is_empty}
+-- a leg that is in use
+use Rattle.law_order.proofs.Vocabulary.{◌≡◌, ◌⊎◌, inl, inr, ap, ℕ, Bool, true, false, List, ◌++◌, Some, None, refl, ◌&&◌, ◌||◌, not, Option, Item, stops_at}
 use Rattle.rh_wires.specs.Wires.{is_up}
 use Rattle.law_moves.proofs.Vocabulary.{Dir, Pipe, Leg, Course, Going, Closed, Refusing, NearEnd, is_over, Message, Rules, Shell, end_at, is_going, Reading, messages_from, reading}
 use Rattle.law_node_history.proofs.Vocabulary.{in_flight, receiver, sender, World, wire_at, History}
 use Rattle.law_node_streams.specs.Streams.{is_live, is_refused_on}
-use Rattle.law_world_ways.specs.OnPaths.Legs.{IsInUse, has_passed, is_cut, on_leg, was_told, was_up}
+use Rattle.law_world_ways.specs.OnPaths.Legs.{IsInUse, has_passed, is_cut, is_unheard, on_leg, was_told, was_up}
 use Rattle.law_world_ways.specs.OnPaths.OnWay.{is_lost, left_on, on_way, read_by, read_on}
 
-pub both_up : (a b x y z : Bool) → x ≡ true → y ≡ true
+-- a leg that is up for the end that takes is not cut, where it is so for the other end or was heard
+nothing_cut : (a b x y z : Bool) → x ≡ true → (y ≡ true) ⊎ (z ≡ false)
     → (a && not x) || ((b && not y) && z) ≡ false
-both_up true true true true z e f = refl
-both_up true false true true z e f = refl
-both_up false true true true z e f = refl
-both_up false false true true z e f = refl
-both_up a b false y z e f = absurd (cc)
-both_up a b true false z e f = absurd (cc)
+nothing_cut a b false y z up e = absurd (cc)
+nothing_cut a b true y z up e = there a (here b y z e)
+  where
+    here : (b y z : Bool) → (y ≡ true) ⊎ (z ≡ false) → ((b && not y) && z) ≡ false
+    here true true z e = refl
+    here false y z e = refl
+    here true false false e = refl
+    here true false true (inl e) = absurd (cc)
+    here true false true (inr e) = absurd (cc)
+
+    there : (a : Bool) {rest : Bool} → rest ≡ false → (a && not true) || rest ≡ false
+    there true e = e
+    there false e = e
 
 pub left_told : {S : Type 0} (s : Shell S) (leg : Leg) (up lost : Bool) (end : NearEnd)
     → is_refused_on leg s.course ≡ false → end_at s leg ≡ Some end
@@ -52,7 +59,7 @@ unread_way pipe false (Some r) flight left e = absurd (cc)
 
 module _ {K C S I O P T : Type 0} (v : World K C S I O) (h : History) (leg : Leg) (dir : Dir)
     (pipe : Option Pipe) (puts : Shell P) (rules : Rules T) (takes : Shell T)
-    (used : IsInUse v leg dir puts rules takes) where
+    (used : IsInUse v h leg dir puts rules takes) where
   pub used_leg : on_leg v h leg dir pipe puts rules takes
       ≡ Some (messages_from pipe (reading used.far.intake.stage used.far.intake.held)
       (in_flight dir (wire_at v.legs leg) ++ used.near.begun))
@@ -64,8 +71,8 @@ module _ {K C S I O P T : Type 0} (v : World K C S I O) (h : History) (leg : Leg
       way_told pipe (is_cut v h leg dir) (read_on rules takes pipe leg take_up)
       (in_flight dir wire) (left_on puts leg put_up put_lost)
       (reading used.far.intake.stage used.far.intake.held) used.near.begun
-      (both_up take_up put_up (is_up (receiver dir) wire) (is_up (sender dir) wire)
-      (is_empty (in_flight dir wire)) used.up_there used.up_here)
+      (nothing_cut take_up put_up (is_up (receiver dir) wire) (is_up (sender dir) wire)
+      (is_unheard v h leg dir) used.up_there used.heard)
       (read_told rules takes pipe leg take_up used.far used.takes_on used.kept_there used.of_use
       used.live)
       (left_told puts leg put_up put_lost used.near used.free used.kept_here)

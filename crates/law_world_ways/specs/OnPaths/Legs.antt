@@ -1,5 +1,5 @@
 -- what stands on one direction of a leg in a world (profile)
-use Rattle.std.specs.Prelude.{◌≡◌, ◌&&◌, ◌||◌, not, List, Bool, true, false, Some}
+use Rattle.std.specs.Prelude.{◌≡◌, ◌⊎◌, ◌&&◌, ◌||◌, not, List, Bool, true, false, Some}
 use Rattle.std.specs.declared.option.Option.{Option}
 use Rattle.rh_text.specs.declared.ends.Dir.{Dir}
 use Rattle.rh_text.specs.declared.ends.Side.{Side}
@@ -30,12 +30,18 @@ was_left v h leg end = was_up v h leg end && not (is_up end (wire_at v.legs leg)
 abbrev pub was_told : {K C S I O : Type 0} → World K C S I O → History → Leg → Side → Bool
 was_told v h leg end = was_lost leg (events_of h (at v leg end))
 
--- the end that takes left; or the one that puts did, and nothing is in flight, so that some may
--- have been lost
+-- nothing is in flight, and nothing came to the end that takes
+abbrev pub is_unheard : {K C S I O : Type 0} → World K C S I O → History → Leg → Dir → Bool
+is_unheard v h leg dir =
+    is_empty (in_flight dir (wire_at v.legs leg))
+    && is_empty (h.fed (at v leg (receiver dir)) leg)
+
+-- the end that takes left; or the one that puts did, maybe before the other end came up, so that
+-- some may have been lost
 abbrev pub is_cut : {K C S I O : Type 0} → World K C S I O → History → Leg → Dir → Bool
 is_cut v h leg dir =
     was_left v h leg (receiver dir)
-    || (was_left v h leg (sender dir) && is_empty (in_flight dir (wire_at v.legs leg)))
+    || (was_left v h leg (sender dir) && is_unheard v h leg dir)
 
 -- the messages that stand on it, between the node that puts and the one that takes
 abbrev pub on_leg : {K C S I O P T : Type 0} → World K C S I O → History → Leg → Dir
@@ -46,11 +52,13 @@ on_leg v h leg dir pipe puts rules takes =
     (in_flight dir (wire_at v.legs leg))
     (left_on puts leg (was_up v h leg (sender dir)) (was_told v h leg (sender dir)))
 
--- it is up for both its ends, and both nodes keep it; the one that takes goes on and has use for
--- it, and the one that puts refuses nobody there, and may have closed
-pub record IsInUse {K C S I O P T : Type 0} (v : World K C S I O) (leg : Leg) (dir : Dir)
-    (puts : Shell P) (rules : Rules T) (takes : Shell T) : Type 0 where
-  pub up_here : is_up (sender dir) (wire_at v.legs leg) ≡ true
+-- it is up for the end that takes, whose node keeps it, goes on and has use for it. It is up for the
+-- end that puts as well, or that one left once something came or was in flight; its node keeps the
+-- leg and refuses nobody there, and may have closed
+pub record IsInUse {K C S I O P T : Type 0} (v : World K C S I O) (h : History) (leg : Leg)
+    (dir : Dir) (puts : Shell P) (rules : Rules T) (takes : Shell T) : Type 0 where
+  pub heard : (is_up (sender dir) (wire_at v.legs leg) ≡ true)
+      ⊎ (is_unheard v h leg dir ≡ false)
   pub up_there : is_up (receiver dir) (wire_at v.legs leg) ≡ true
   pub free : is_refused_on leg puts.course ≡ false
   pub takes_on : takes.course ≡ Going

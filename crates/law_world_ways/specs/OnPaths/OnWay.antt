@@ -54,8 +54,8 @@ read_on rules s pipe leg up = read_by rules s.role pipe up (end_at s leg) s.cour
 -- ---- between them
 
 -- the messages that are read, from where the end that takes stands, in the bytes in flight and then
--- in those that are begun at the end that puts. A leg gives nothing more where an end left it, or
--- one of these is not told
+-- in those that are begun at the end that puts. A leg gives nothing more where it is cut, or one of
+-- these is not told
 abbrev pub on_way : Option Pipe → Bool → Option Reading → List ℕ → Option (List ℕ)
     → Option (List Message)
 on_way pipe true read flight begun = None

@@ -158,10 +158,10 @@ pub record AreOnTheirWay {K : Type 0} (numbers : Numbers)
 pub record AreInUseDown {K : Type 0} (numbers : Numbers)
     (v : World K ClientRole Server InProxy OutProxy) (h : History) (r : Route) : Type 0 where
   pub near : (n : ℕ) → r.taker.shelves.current ≤ n → n ≤ r.giver.writing
-      → IsInUse v (os n) D (server_node numbers h) out_proxy.rules (out_node numbers h n)
+      → IsInUse v h (os n) D (server_node numbers h) out_proxy.rules (out_node numbers h n)
       ⊎ (has_passed (r.came (reader r.legs n) n) ≡ true)
   pub far : (n : ℕ) → r.taker.shelves.current ≤ n → n ≤ r.giver.writing
-      → IsInUse v (co n) D (out_node numbers h n) client.rules (client_node numbers h)
+      → IsInUse v h (co n) D (out_node numbers h n) client.rules (client_node numbers h)
       ⊎ (has_passed (r.got n) ≡ true)
 
 -- and each leg up, from the server's current one; a channel that shares its predecessor's leg to
@@ -169,9 +169,9 @@ pub record AreInUseDown {K : Type 0} (numbers : Numbers)
 pub record AreInUseUp {K : Type 0} (numbers : Numbers)
     (v : World K ClientRole Server InProxy OutProxy) (h : History) (r : Route) : Type 0 where
   pub near : (n : ℕ) → r.taker.shelves.current ≤ n → n ≤ r.giver.writing
-      → IsInUse v (ci n) U (client_node numbers h) in_proxy.rules
+      → IsInUse v h (ci n) U (client_node numbers h) in_proxy.rules
       (in_node numbers h (reader_of v.readers n))
       ⊎ (has_passed (r.came (reader r.legs n) n) ≡ true)
   pub far : (n : ℕ) → r.taker.shelves.current ≤ n → n ≤ r.giver.writing → r.legs n ≡ true
-      → IsInUse v (is n) U (in_node numbers h n) server.rules (server_node numbers h)
+      → IsInUse v h (is n) U (in_node numbers h n) server.rules (server_node numbers h)
       ⊎ (has_passed (r.got n) ≡ true)

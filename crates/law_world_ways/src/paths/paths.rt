@@ -50,9 +50,10 @@ pub fn nothing_on_its_way_is_lost<K>()
     a_recording_of_roles_is_known::<K>();
 }
 
-/// So it is while each leg of these channels is in use, or its handover mark or END passed: it is
-/// up for both its ends, whose nodes keep it; the one that takes goes on and has use for it, and
-/// the one that puts, which may have closed, refuses nobody there.
+/// So it is while each leg of these channels is in use, or its handover mark or END passed: both
+/// nodes keep it; it is up for the one that takes, which goes on and has use for it; the one that
+/// puts refuses nobody there, and may have closed, or left the leg once something came or was in
+/// flight there.
 pub fn legs_in_use_lose_nothing<K>()
     ensures down { (numbers : Numbers) (v : World K ClientRole Server InProxy OutProxy)
         (h : History) (ways : AreOnTheirWay numbers v h)
