@@ -1,4 +1,5 @@
 mod Replying
 mod Calling
+mod Counted
 mod Reading
 mod Writing
