@@ -1,0 +1,15 @@
+pub mod Silences
+pub mod Drawing
+pub mod Carrying
+pub mod Steps
+pub mod Past
+pub mod SilentRounds
+pub mod Told
+pub mod Quiet
+pub mod Settled
+pub mod ClientTakes
+pub mod ServerTakes
+pub mod Texts
+pub mod RolesPut
+pub mod Nodes
+pub mod Recorded

@@ -1,0 +1,5 @@
+pub mod Having
+pub mod Clients
+pub mod Servers
+pub mod InProxies
+pub mod OutProxies
