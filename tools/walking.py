@@ -274,6 +274,22 @@ def refusals(report, past, at, words):
             return f"the status is not 503, or no line reports that {server_leg} broke"
 
 
+# ---- what goes on by itself
+
+
+@answer_rule("take move", "rests")
+def at_rest(report, past, at, words):
+    """Right behind a settling that was quiet nothing is taken, and no bytes move."""
+    part = report.own[at]
+    if at != part.begin or at == 0 or part.line[0] == "settle":
+        return None
+    if report.answers[report.own[at - 1].closed - 1][:1] != ("quiet",):
+        return None
+    is_taken = words[2] == "pdu" or (words[2] == "ended" and words[1] not in past.ended)
+    if len(words) == 5 if words[0] == "move" else is_taken:
+        return "the settling before it was quiet"
+
+
 # ---- which answers there are
 
 

@@ -226,6 +226,18 @@ def give_behind_the_clean_end(good):
             yield with_take(f"take {end} ended")
 
 
+# ---- what goes on by itself
+
+
+@KINDS.refused_by("at_rest")
+def pdu_behind_quiet(good):
+    """An end takes a PDU right behind a settling that was quiet."""
+    pdus = [pdu for _, _, pdu in good.takes()]
+    for at, match in good.places(r"take ([cs]) (?:empty|ended|closed .*)"):
+        if pdus and good.words[at - 1][:1] == ("quiet",):
+            yield good.counted(good.with_lines(at, f"take {match[1]} pdu {pdus[-1]}"))
+
+
 # ---- answers to gives
 
 

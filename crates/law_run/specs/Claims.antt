@@ -9,7 +9,7 @@ use Rattle.rh_line.specs.declared.leg.LegKind.TheVariants.{ClientIn, ClientOut, 
 use Rattle.rh_record.specs.declared.answer.Answer.TheVariants.{NodeClosed}
 use Rattle.rh_record.specs.declared.answer.Who.{Who}
 use Rattle.rh_record.specs.declared.line.Line.{Line}
-use Rattle.rh_record.specs.declared.line.Line.TheVariants.{First}
+use Rattle.rh_record.specs.declared.line.Line.TheVariants.{First, Settle}
 use Rattle.rh_record.specs.Events.Order.{IsOrdered}
 use Rattle.rh_nodes.specs.Settling.{leg_at}
 use Rattle.law_node_history.specs.Closes.{IsOneOf, closings_of}
@@ -37,6 +37,7 @@ use Rattle.law_world_ways.specs.ToldWays.{TellsWays}
 use Rattle.law_world_honest.specs.Refusals.Reported.{ReportsBreak}
 use Rattle.law_world_windows.specs.KeptHops.{KeepsHops}
 use Rattle.law_world_expected.specs.PdusInRecordings.{PassesInTurn}
+use Rattle.law_world_rest.specs.Recordings.{RestsWhereQuiet}
 
 -- a line reports a node as closed only for what it told that node, and its answers show that
 pub record ClosesForReason (world : AnyWorld) (line : Line) : Type 0 where
@@ -103,7 +104,7 @@ pub record TellsNothingLost (before : List Line) : Type 0 where
 -- recording. Each line closes nodes for a reason, and none for what another node did; in all of the
 -- report each node is closed once at most, and each later answer of an end that closed names the
 -- same cause. Each node that stands closed was reported so, and an answer names no cause that was
--- not reported before.
+-- not reported before. Where a settling is answered quiet, nothing goes on behind it by itself.
 pub record Claims (lines : List Line) : Type 0 where
   pub ordered : OffersBehindFirst lines → IsOrdered lines (run lines)
   pub sides : OffersBehindFirst lines → NamesSides lines (run lines)
@@ -138,3 +139,5 @@ pub record Claims (lines : List Line) : Type 0 where
   pub named : NamesIt (run lines)
   pub closes : (before behind : List Line) → lines ≡ before ++ behind → ReportsCloses before
   pub reported : NamesReported (run lines)
+  pub rests : (before behind : List Line) (rounds : ℕ)
+      → lines ≡ before ++ Settle rounds ∷ behind → RestsWhereQuiet (after Before before) rounds

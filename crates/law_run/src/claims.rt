@@ -22,6 +22,7 @@ use law_world_reports::{
     each_close_of_a_recording_shows, only_a_client_of_a_recording_is_refused,
     windows_hold_in_every_recording, windows_hold_throughout_every_recording,
 };
+use law_world_rest::a_quiet_recording_is_at_rest;
 use law_world_ways::{
     a_recording_tells_all_that_it_keeps, a_recording_tells_what_is_on_its_way,
     direct_recordings_keep_all, every_recording_keeps_what_is_on_its_way, recordings_lose_nothing,
@@ -35,7 +36,9 @@ use law_world_windows::{hops_of_a_recording_are_kept, no_window_closes_a_node_of
 /// node is reported as closed once at most, by a line whose answers show why; each later answer of
 /// that end names the same cause (MS-RPCH 3.2), and no answer names one that was not reported
 /// before. Each node that stands closed was reported so. A node closes only since a leg broke or
-/// ended, since its request was refused, or since no byte came for too long.
+/// ended, since its request was refused, or since no byte came for too long. Where a settling is
+/// answered quiet, no leg that it looks at can be opened, none carries a byte or ends, and no end
+/// takes.
 pub fn recordings_keep_to_their_claims()
     ensures { (lines : List Line) → Claims lines }
 {
@@ -67,4 +70,5 @@ pub fn recordings_keep_to_their_claims()
     an_end_of_a_recording_names_its_cause();
     each_close_of_a_recording_is_reported();
     an_end_of_a_recording_names_what_was_reported();
+    a_quiet_recording_is_at_rest();
 }

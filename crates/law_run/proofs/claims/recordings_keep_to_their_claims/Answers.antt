@@ -48,6 +48,7 @@ returns c = λ lines. record {
   named = c.an_end_of_a_recording_names_its_cause.ensures lines;
   closes = λ before behind is. c.each_close_of_a_recording_is_reported.ensures before;
   reported = c.an_end_of_a_recording_names_what_was_reported.ensures lines;
+  rests = λ before behind rounds is. c.a_quiet_recording_is_at_rest.ensures before rounds;
 }
   where
     honest : (before : List Line) (line : Line) → RolesAreHonest (after Before before) line
