@@ -16,6 +16,7 @@ from role_packets import Named
 
 TOOLS = pathlib.Path(__file__).resolve().parent
 EXAMPLE = TOOLS.parent / "examples" / "opening.pcap"
+REAL = TOOLS.parent / "examples" / "client.pcap"
 PROGRAM = TOOLS.parent / "crates/rh_cli/out/rh_cli"
 CLIENT, PROXY, SERVER = ("10.0.0.1", 40000), ("10.0.0.2", 80), ("10.0.0.3", 593)
 FIN, SYN, ACK = 1, 2, 16
@@ -210,6 +211,14 @@ class Captures(Case):
         # The kind and frag_length of each, as the README's page of the example has them.
         self.assertEqual([(line[4:6], len(line) // 2) for line in lines], [
             ("14", 76), ("14", 104), ("14", 28), ("14", 44), ("0b", 72), ("0c", 60), ("14", 56)])
+
+    def test_a_real_client(self):
+        lines, error, status = self.run_tool(REAL.read_bytes())
+        self.assertEqual((error, status), ("", 0))
+        # CONN/A1, A3, B1 and C2, a bind and its answer, and ten requests with theirs.
+        wanted = [("14", 76), ("14", 28), ("14", 104), ("14", 44), ("0b", 72), ("0c", 60)]
+        wanted += [("00", 32), ("02", 40)] * 10
+        self.assertEqual([(line[4:6], len(line) // 2) for line in lines], wanted)
 
     def test_context_tells_time_frame_connection_and_direction(self):
         lines, _, _ = self.run_tool(EXAMPLE.read_bytes(), "--context")
@@ -827,6 +836,29 @@ class Played(Plain):
         for role in "inproxy", "outproxy":
             told = self.played(self.script(role, EXAMPLE.read_bytes())[0])
             self.assertEqual(told[-1], "state opening")
+
+
+    def ended(self, role, capture):
+        """The last answer of a role that is fed what came to it in a capture."""
+        script, said = self.script(role, capture)
+        self.assertEqual(said, "")
+        return self.played(script)[-1]
+
+    def test_a_real_client(self):
+        capture = REAL.read_bytes()
+        # The captured client asked for 100 Continue; ours takes no answer to its IN request.
+        self.assertEqual(self.ended("client", capture), "state closed 9 HttpRefused ci1 100")
+        # The proxies take its heads, packets and PDUs, and then it ends its connections.
+        self.assertEqual(self.ended("inproxy", capture), "state closed 2 LegEnded ci1 0")
+        self.assertEqual(self.ended("outproxy", capture), "state closed 2 LegEnded co1 0")
+
+    def test_a_real_client_with_a_hostile_packet(self):
+        capture = REAL.read_bytes()
+        place = capture.index(bytes.fromhex("050014031000000068"))
+        hostile = capture[: place + 17] + b"\x80" + capture[place + 18 :]
+        # Behind the 310 bytes of the head, and 16 of the packet.
+        told = "state closed 4 BadPacket ci1 310 BadFlags 16"
+        self.assertEqual(self.ended("inproxy", hostile), told)
 
 
 class WithoutTshark(Case):
