@@ -7,13 +7,18 @@ behind a gap which no acknowledgement covers, and join what stands round a cut, 
 """
 import bisect
 import re
+import struct
 import subprocess
 import tempfile
 from typing import NamedTuple
 
+from frames import Frames, payload_of
+
 FIELDS = """frame.number frame.time_epoch frame.len frame.cap_len frame.protocols ip.src ip.dst
-    ipv6.src ipv6.dst tcp.srcport tcp.dstport tcp.stream tcp.seq_raw tcp.ack_raw tcp.flags tcp.len
-    tcp.payload""".split()
+    ipv6.src ipv6.dst tcp.srcport tcp.dstport tcp.stream tcp.seq_raw tcp.ack_raw tcp.flags
+    tcp.len""".split()
+# What a segment carries, where that isn't taken from the file itself.
+PAYLOAD = "tcp.payload"
 # What each whole header of a segment has.
 HEADER = ("tcp.stream", "tcp.seq_raw", "tcp.flags", "tcp.len")
 SETTINGS = ["ip.defragment:TRUE", "ipv6.defragment:TRUE"]
@@ -34,6 +39,10 @@ TLS_START = re.compile(rb"[\x14-\x17]\x03[\x00-\x04]")
 
 class NotRead(Exception):
     """Nothing of the capture can be read."""
+
+
+class NotClear(Exception):
+    """The file itself doesn't show what a segment carries."""
 
 
 def tshark_rows(capture, wanted, fields, settings, trouble):
@@ -241,10 +250,9 @@ class Connection:
             self.directions[source, target] = Direction(source, target)
         return self.directions[source, target]
 
-    def take(self, values, source, target):
-        """Takes a segment, as the values of its fields."""
+    def take(self, values, source, target, payload):
+        """Takes a segment, as the values of its fields and what was captured of its bytes."""
         flags, length = int(values["tcp.flags"][0], 16), int(values["tcp.len"][0])
-        payload = bytes.fromhex("".join(values["tcp.payload"]).replace(":", ""))
         direction = self.direction(source, target)
         frame = int(values["frame.number"][0])
         direction.take(int(values["tcp.seq_raw"][0]), flags, frame, length, payload)
@@ -268,27 +276,32 @@ class Capture:
 
     def __init__(self, file, ports, keys, trouble):
         """Reads the connections that have one of these ports at an end, or all if none is given."""
-        self.connections = {}
-        self.seconds = {}
         self.file = file
         self.trouble = trouble
         wanted = " || ".join(f"tcp.port=={port}" for port in ports)
         # The header of a segment also stands in ICMP errors.
         wanted = f"({wanted or 'tcp || ip.proto==6 || ipv6.nxt==6'}) && !icmp && !icmpv6"
-        broken = []
-        for row in tshark_rows(file, wanted, FIELDS, PLAIN, trouble):
-            values = dict(zip(FIELDS, row))
-            if all(values[name] for name in HEADER):
-                self.take(values)
-            elif values["tcp.srcport"] or values["frame.len"] != values["frame.cap_len"]:
-                broken.append(values["frame.number"][0])
-        if broken:
-            trouble(f"no whole header of a TCP segment in frame {', '.join(broken)}")
+        try:
+            self.read(wanted, FIELDS, Frames(file))
+        except NotClear:
+            self.read(wanted, [*FIELDS, PAYLOAD])
         for connection in self.connections.values():
             connection.order()
         hidden = [connection for connection in self.connections.values() if connection.is_hidden]
         if hidden:
             self.decrypt(hidden, wanted, keys)
+
+    def read(self, wanted, fields, frames=None):
+        """Reads all segments, with what they carry by these frames, or else by tshark."""
+        self.connections, self.seconds, broken = {}, {}, []
+        for row in tshark_rows(self.file, wanted, fields, PLAIN, self.trouble):
+            values = dict(zip(fields, row))
+            if all(values[name] for name in HEADER):
+                self.take(values, payload_in(values, frames) if frames else payload_told(values))
+            elif values["tcp.srcport"] or values["frame.len"] != values["frame.cap_len"]:
+                broken.append(values["frame.number"][0])
+        if broken:
+            self.trouble(f"no whole header of a TCP segment in frame {', '.join(broken)}")
 
     def decrypt(self, hidden, wanted, keys):
         """Has tshark decrypt, and put segments in order for that if none is missing anywhere."""
@@ -307,11 +320,32 @@ class Capture:
                 text = "segments out of order were not decrypted, as some are missing under TLS"
                 self.trouble(f"connection {connection.number}: {text}")
 
-    def take(self, values):
+    def take(self, values, payload):
         self.seconds[int(values["frame.number"][0])] = values["frame.time_epoch"][0]
         number = int(values["tcp.stream"][0])
         connection = self.connections.setdefault(number, Connection(number))
-        connection.take(values, *(end_of(values, side) for side in ("src", "dst")))
+        connection.take(values, *(end_of(values, side) for side in ("src", "dst")), payload)
+
+
+def payload_told(values):
+    """What a segment carries, as tshark tells it."""
+    return bytes.fromhex("".join(values[PAYLOAD]).replace(":", ""))
+
+
+def payload_in(values, frames):
+    """What a segment carries, as the file has it."""
+    length, kept = int(values["tcp.len"][0]), int(values["frame.cap_len"][0])
+    if not length:
+        return b""
+    frame = frames.frame(int(values["frame.number"][0]))
+    if frame is None or len(frame) != kept:
+        raise NotClear
+    ports = (int(values[name][0]) for name in ("tcp.srcport", "tcp.dstport"))
+    header = struct.pack(">HHI", *ports, int(values["tcp.seq_raw"][0]))
+    payload = payload_of(frame, header, length, int(values["frame.len"][0]) > kept)
+    if payload is None:
+        raise NotClear
+    return payload
 
 
 def end_of(values, side):

@@ -57,7 +57,6 @@ def values_of(frame, streams):
         "tcp.ack_raw": acknowledged,
         "tcp.flags": hex(flags),
         "tcp.len": len(payload),
-        "tcp.payload": payload.hex(),
     }
 
 

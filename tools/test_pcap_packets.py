@@ -1,5 +1,6 @@
 #!/usr/bin/env python3
 """Tests of pcap_packets.py: the example, and captures made here, one for each trouble."""
+import gzip
 import os
 import pathlib
 import re
@@ -11,6 +12,7 @@ import sys
 import tempfile
 import unittest
 
+import frames
 import role_packets
 from role_packets import Named
 
@@ -417,6 +419,10 @@ class Captures(Case):
 
     def test_pcapng(self):
         self.check(lost_of().pcapng(), PDUS)
+
+    def test_a_packed_file(self):
+        self.check(gzip.compress(lost_of().pcap()), PDUS)
+        self.check(gzip.compress(lost_of().pcapng()), PDUS)
 
     def test_segments_out_of_order_repeated_and_past_the_greatest_number(self):
         made = Made()
@@ -859,6 +865,63 @@ class Played(Plain):
         # Behind the 310 bytes of the head, and 16 of the packet.
         told = "state closed 4 BadPacket ci1 310 BadFlags 16"
         self.assertEqual(self.ended("inproxy", hostile), told)
+
+
+class Frames(unittest.TestCase):
+    """Frames as the file has them, and what segments carry."""
+
+    FRAMES = [b"first", b"", b"the third"]
+
+    def frames_of(self, text):
+        with tempfile.TemporaryDirectory() as room:
+            file = pathlib.Path(room) / "capture"
+            file.write_bytes(text)
+            return list(frames.frames_of(file))
+
+    def block(self, order, kind, body):
+        body += bytes(-len(body) % 4)
+        size = struct.pack(f"{order}I", 12 + len(body))
+        return struct.pack(f"{order}I", kind) + size + body + size
+
+    def pcapng(self, order):
+        yield self.block(order, 0x0A0D0D0A, struct.pack(f"{order}IHHq", 0x1A2B3C4D, 1, 0, -1))
+        yield self.block(order, 1, struct.pack(f"{order}HHI", ETHERNET, 0, 65535))
+        first, second, third = self.FRAMES
+        head = struct.pack(f"{order}IIIII", 0, 0, 7, len(first), 99)
+        yield self.block(order, 6, head + first)
+        yield self.block(order, 2, struct.pack(f"{order}HHIIII", 0, 0, 0, 7, 0, 0) + second)
+        yield self.block(order, 5, b"of statistics")
+        yield self.block(order, 3, struct.pack(f"{order}I", len(third)) + third)
+
+    def test_pcap(self):
+        for order in "<>":
+            text = struct.pack(f"{order}IHHiIII", 0xA1B23C4D, 2, 4, 0, 0, 65535, ETHERNET)
+            for frame in self.FRAMES:
+                text += struct.pack(f"{order}IIII", 0, 0, len(frame), 99) + frame
+            self.assertEqual(self.frames_of(text), self.FRAMES)
+            self.assertEqual(self.frames_of(gzip.compress(text)), self.FRAMES)
+            self.assertEqual(self.frames_of(text[:-1]), self.FRAMES[:2])
+
+    def test_pcapng(self):
+        for order in "<>":
+            text = b"".join(self.pcapng(order))
+            self.assertEqual(self.frames_of(text), self.FRAMES)
+            self.assertEqual(self.frames_of(text * 2), self.FRAMES * 2)
+            self.assertEqual(self.frames_of(text[:-1]), self.FRAMES[:2])
+
+    def test_what_is_neither(self):
+        self.assertEqual(self.frames_of(b"no capture at all\n"), [])
+        self.assertEqual(self.frames_of(b""), [])
+
+    def test_what_a_segment_carries(self):
+        header = b"portspqr"
+        frame = b"before" + header + bytes(4) + b"\x60" + bytes(11) + b"carried" + b"pad"
+        self.assertEqual(frames.payload_of(frame, header, 7, False), b"carried")
+        self.assertEqual(frames.payload_of(frame[:-6], header, 7, True), b"carr")
+        self.assertEqual(frames.payload_of(frame[:18], header, 7, True), b"")
+        for wrong, length in (frame, 11), (frame[:18], 7), (frame[7:], 7):
+            self.assertIsNone(frames.payload_of(wrong, header, length, False))
+        self.assertIsNone(frames.payload_of(frame[7:], header, 7, True))
 
 
 class WithoutTshark(Case):
