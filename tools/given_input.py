@@ -16,7 +16,7 @@ import sys
 import threading
 from collections import deque
 
-from teaching import said_of
+from teaching import CAPTURES, said_of
 
 SIGNALS = signal.SIGINT, signal.SIGTERM, signal.SIGHUP
 PIECE = 1 << 20
@@ -39,6 +39,8 @@ class Given:
     def __init__(self, word):
         self.word = word
         self.comments = self.returns = 0
+        # Whether nothing is left out: the input is a capture, and no text.
+        self.is_raw = False
         # How many lines the program was given, and behind how many of them a line was left out.
         self.count, self.left_out = 0, []
         # What it was given so far, up to MOST_KEPT bytes.
@@ -49,6 +51,7 @@ class Given:
 
     def take(self, text):
         """What the program is given of these lines; all but the last end with LF."""
+        self.is_raw = self.is_raw or not self.count and text.startswith(CAPTURES)
         lines = text.splitlines(True) if self.is_plain(text) else self.taken(text)
         self.count += len(lines)
         given = b"".join(lines)
@@ -56,7 +59,7 @@ class Given:
         return given
 
     def is_plain(self, text):
-        return self.told is None and b"\r" not in text and b"#" not in text
+        return self.is_raw or self.told is None and b"\r" not in text and b"#" not in text
 
     def taken(self, text):
         lines = []

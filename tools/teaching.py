@@ -101,23 +101,30 @@ def of_script(line):
     return spacing(line) or of_forms(line_forms.PLAY, line)
 
 
+def other_word(word, text):
+    """What a text is that another word reads, and how; none where it may be one for this word."""
+    kind = kind_of(text)
+    return f"this is {READ_BY[kind]}" if kind not in (word, None) else None
+
+
 def why_refused(word, text, number):
     """Why line `number`, from 1, of a text is none that this word reads; none where that isn't
     clear."""
-    if word not in READ_BY:
-        return None
-    if number == 1 and kind_of(text) not in (word, None):
-        return f"this is {READ_BY[kind_of(text)]}"
     lines = [it.decode("utf-8", "replace") for it in text.split(b"\n", number)[:number]]
     if not text.strip():
         return "the input is empty"
     if word == "replay":
         return of_recording(lines, number)
-    return of_show(lines[-1]) if word == "show" else of_script(lines[-1])
+    if word == "show":
+        return of_show(lines[-1])
+    return of_script(lines[-1]) if word == "play" else None
 
 
 def said_of(word, text, number, place):
     """What is said of the refused line, which is line `place` of the input."""
+    other = other_word(word, text) if number == 1 and word in READ_BY else None
+    if other:
+        return f"line {place}: {other}"
     why = why_refused(word, text, number)
     if why is None:
         return f"line {place}: docs/RECORDINGS.md has the lines that {word} reads"

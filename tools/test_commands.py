@@ -536,6 +536,13 @@ class Inputs(Commands):
         told = "rh_cli: left out of what show reads: 1000 comments and 1000 CRs\n"
         self.check(done, text + "05", told, 0)
 
+    def test_a_capture_is_no_text(self):
+        capture = (TOP / "examples/opening.pcap").read_bytes()
+        how = {"input": capture + b"\r\n#bad", "capture_output": True, "check": False}
+        done = subprocess.run(["./rh_cli", "show"], cwd=self.top, env=self.variables, **how)
+        self.assertEqual((done.stdout, done.returncode), (b"", 2))
+        self.assertNotIn(b"left out", done.stderr)
+
     def test_no_input(self):
         self.check(self.run_it("./rh_cli", "show"), "", "", 0)
         how = {"stdin": None, "stderr": subprocess.DEVNULL, "preexec_fn": lambda: os.close(0)}

@@ -88,6 +88,8 @@ class Said(unittest.TestCase):
             for text, number in cases:
                 why = teaching.why_refused(word, text.encode(), number)
                 self.assertIsNotNone(why, (word, text[-80:]))
+                told = teaching.said_of(word, text.encode(), number, number)
+                self.assertNotIn("docs/RECORDINGS.md", told)
 
     def test_nothing_is_said_against_lines_that_are_taken(self):
         for word in "replay", "play":
@@ -99,8 +101,8 @@ class Said(unittest.TestCase):
     def test_captures_are_known(self):
         capture = (TOP / "examples/opening.pcap").read_bytes()
         for word in "replay", "show", "play":
-            told = teaching.why_refused(word, capture, 1)
-            self.assertEqual(told, f"this is {teaching.READ_BY['capture']}")
+            told = teaching.said_of(word, capture, 1, 1)
+            self.assertEqual(told, f"line 1: this is {teaching.READ_BY['capture']}")
 
     def test_another_word(self):
         told = "line 4: docs/RECORDINGS.md has the lines that other reads"
