@@ -1,0 +1,115 @@
+#!/usr/bin/env python3
+"""Tests that the commands of README.md, docs/RECORDINGS.md and docs/RELAYS.md run as typed there, and
+that the README's recording and report are those of examples/.
+
+What proves anything is left out, as is `--unproved`, which test_commands.py and test_library.py try.
+CAPTURE stands for each capture of examples/.
+"""
+import pathlib
+import re
+import socket
+import subprocess
+import time
+import unittest
+
+TOP = pathlib.Path(__file__).resolve().parent.parent
+README, RECORDINGS, RELAYS = (TOP / it for it in ("README.md", "docs/RECORDINGS.md", "docs/RELAYS.md"))
+# How many packets each capture of the pages has.
+PACKETS = {"examples/opening.pcap": 7, "examples/client.pcap": 26}
+PORTS = (5930, 5931, 5932)
+PDU = "05000003100000001800000001000000aabbccddeeff0011"
+# Seconds for a command, and until a port is listened at.
+LONGEST, WAIT = 60, 20
+
+
+def blocks(page, language):
+    """The blocks of a page in a language, each as its lines."""
+    found = re.findall(rf"^```{language}\n(.*?)^```$", page.read_text(), re.M | re.S)
+    return [text.replace("|\n", "| ").splitlines() for text in found]
+
+
+def command(line):
+    """What is typed of a line: all but a comment behind it."""
+    return re.sub(r"\s+# .*", "", line)
+
+
+def run(line):
+    how = {"capture_output": True, "text": True, "check": False, "timeout": LONGEST, "cwd": TOP}
+    return subprocess.run(["bash", "-c", line], **how, stdin=subprocess.DEVNULL)
+
+
+def is_listened_at(port):
+    """Whether somebody listens at a port, without calling there."""
+    table = pathlib.Path("/proc/net/tcp").read_text()
+    return re.search(rf":{port:04X} 00000000:0000 0A", table) is not None
+
+
+def uncut(cut):
+    """The pattern of a line in which hex is cut."""
+    return re.escape(cut).replace(r"\.\.", "[0-9a-f]*")
+
+
+class Readme(unittest.TestCase):
+    def test_the_first_run(self):
+        first, second = map(command, blocks(README, "sh")[0])
+        self.assertEqual(second, first.replace("./replay ", "./replay --unproved "))
+        done = run(first)
+        self.assertEqual(done.stdout, (TOP / "examples/direct.report").read_text(), done.stderr)
+
+    def test_the_recording_and_its_report(self):
+        [rows] = [it for it in blocks(README, "text") if it[0] == "rh 1 direct"]
+        column = rows[1].index("give c ok")
+        lines, told = [row[:column].rstrip() for row in rows], [row[column:] for row in rows]
+        recording = (TOP / "examples/direct.rh").read_text().splitlines()
+        report = (TOP / "examples/direct.report").read_text().splitlines()
+        # The last lines of the report stand beside none.
+        self.assertEqual(len(recording), sum(map(bool, lines)))
+        self.assertEqual(len(report), sum(map(bool, told)))
+        for cut, whole in [*zip(lines, recording), *zip(filter(None, told), report)]:
+            self.assertRegex(whole, f"^{uncut(cut)}$")
+
+    def test_the_packets_of_a_capture(self):
+        [line] = blocks(README, "sh")[1]
+        done = run(line)
+        self.assertEqual((done.returncode, done.stderr), (0, ""))
+        self.assertIn("rts 0000 ConnectionTimeout 120000\n", done.stdout)
+        self.assertEqual(done.stdout.count("\n"), PACKETS["examples/opening.pcap"])
+
+    def test_roles_over_sockets(self):
+        self.assertEqual(blocks(README, "sh")[2], blocks(RELAYS, "sh")[0])
+        # Builds the program where it isn't built.
+        run("./rh_roles --version")
+        if any(map(is_listened_at, PORTS)):
+            self.skipTest("somebody listens at a port of the page")
+        ends = []
+        for line, port in zip(blocks(README, "sh")[2], [*PORTS, None]):
+            ends.append(self.begin(line))
+            until = time.monotonic() + WAIT
+            while port and not is_listened_at(port) and time.monotonic() < until:
+                time.sleep(0.05)
+        told = [child.communicate(timeout=LONGEST) for child in ends]
+        self.assertEqual([child.returncode for child in ends], [0] * 4, told)
+        self.assertEqual("".join(re.findall(r"(?<= )[0-9a-f]{4}(?= )", told[0][0])), PDU)
+
+    def begin(self, line):
+        pipes = {"stdout": subprocess.PIPE, "stderr": subprocess.PIPE, "text": True}
+        words = ["bash", "-c", f"set -o pipefail; {line}"]
+        child = subprocess.Popen(words, cwd=TOP, stdin=subprocess.DEVNULL, **pipes)
+        self.addCleanup(child.kill)
+        return child
+
+
+class Recordings(unittest.TestCase):
+    def test_captures(self):
+        lines = [line for block in blocks(RECORDINGS, "sh") for line in block]
+        self.assertEqual(len([line for line in lines if "CAPTURE" in line]), len(lines))
+        for line in lines:
+            for capture, count in PACKETS.items():
+                done = run(line.replace("CAPTURE", capture))
+                self.assertEqual((done.returncode, done.stderr), (0, ""), line)
+                packets = re.findall(r"(?m)^(?:\S+Z .* )?(?:rts [0-9a-f]{4}|rpc) ", done.stdout)
+                self.assertEqual(len(packets), 0 if "--play" in line else count, line)
+
+
+if __name__ == "__main__":
+    unittest.main()
