@@ -13,7 +13,7 @@ use std::alloc::AllocError;
 use std::str;
 
 /// The text of a cookie, written to the room.
-fn cookie_str<'a>(cookie: &Cookie, room: &'a mut [u8; COOKIE_TEXT_LEN]) -> &'a str
+pub fn cookie_str<'a>(cookie: &Cookie, room: &'a mut [u8; COOKIE_TEXT_LEN]) -> &'a str
     ensures { result.now ≡ text_of_cookie cookie.now.0 }
 {
     cookie_text(cookie, room);

@@ -7,7 +7,8 @@ pub mod numerals;
 pub mod reader;
 pub mod showing;
 
+pub use commands::cookie_str;
 pub use laws::one_text;
 pub use numerals::numbers_are_fixed;
 pub use reader::{LineReader, Packets};
-pub use showing::show_packet;
+pub use showing::{read_header, show_packet};

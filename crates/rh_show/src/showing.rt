@@ -26,7 +26,7 @@ fn write_rts(bytes: &[u8], out: &mut String) -> Result<(), AllocError>
 }
 
 /// The header of a PDU with which nothing is wrong.
-fn read_header(bytes: &[u8]) -> Header
+pub fn read_header(bytes: &[u8]) -> Header
     requires { IsPdu bytes.now }
     ensures { result ≡ header_of bytes.now }
 {

@@ -5,11 +5,12 @@
 //! the name of a family, that of a call, and what the call is made with:
 //!
 //! - `bytes` sets what stands before and behind the bytes of the lines below it;
-//! - `pdu`, `packet`, `name`, `head`, `window`, `keep`, `line`, `queue`, `show`, `record` and
-//!   `text` make the calls, on what the lines above left; each module says which there are;
+//! - `pdu`, `packet`, `name`, `called`, `head`, `window`, `keep`, `line`, `queue`, `show`, `record`
+//!   and `text` make the calls, on what the lines above left; each module says which there are;
 //! - `#` is told again.
 #![tactic(auto)]
 
+mod called;
 mod heads;
 mod keep;
 mod lines;

@@ -5,7 +5,7 @@ use crate::numbers::word_of;
 use crate::queues::Queue;
 use crate::spelling::{Around, tell_characters};
 use crate::windows::Windows;
-use crate::{heads, lines, names, packets, pdus, records, shows, texts};
+use crate::{called, heads, lines, names, packets, pdus, records, shows, texts};
 use rh_line::RecvLine;
 use rh_pdu::Framer;
 use rh_show::LineReader;
@@ -90,6 +90,10 @@ fn on_bytes(
         }
         b"record" => records::call(alloc, call, &left.around.bytes(alloc, text)?, out),
         b"name" => names::call(alloc, call, &left.around.bytes(alloc, text)?, out),
+        b"called" => {
+            let bytes = left.around.bytes(alloc, text)?;
+            called::call(alloc, &mut left.reader, call, &bytes, out)
+        }
         b"head" => heads::call(alloc, &left.around, call, text, out),
         _ => on_lines(alloc, left, family, call, text, out),
     }

@@ -1,0 +1,3 @@
+mod OneName
+mod Others
+mod Parts
