@@ -13,7 +13,7 @@ import build_program
 import given_input
 from program_crates import TOP
 
-READS = "replay", "show", "play"
+READS = "replay", "show", "name", "play"
 # How many words each form has, by its first word.
 ROLES = {"client": 4, "inproxy": 3, "outproxy": 3, "server": 2}
 FORMS = {"rh_cli": dict.fromkeys(READS, 1), "rh_roles": ROLES}
@@ -36,7 +36,7 @@ def say_what_to_type(program, words):
     elif words[:1] and words[0] in READS:
         say(program, f"{words[0]} reads standard input: type ./rh_cli {words[0]} < FILE")
     else:
-        hint = "type ./rh_cli WORD < FILE with replay, show or play, or ./rh_cli --help for more"
+        hint = "type ./rh_cli WORD < FILE with replay, show, name or play, or ./rh_cli --help for more"
         say(program, hint)
 
 

@@ -28,7 +28,7 @@ rh_roles: middle low
 """
 PROGRAM = """#!/bin/sh
 case "$*" in
-replay | show | play)
+replay | show | name | play)
     input="$(cat; echo .)"
     number="$(echo "$input" | grep -n bad | head -n 1 | cut -d : -f 1)"
     [ -z "$number" ] || { echo "bad input $number" >&2; exit 2; }
@@ -435,12 +435,13 @@ class Words(Commands):
 
     def test_what_to_type_is_told_behind_usage(self):
         self.build()
-        types = "type ./rh_cli WORD < FILE with replay, show or play, or ./rh_cli --help for more"
+        types = "type ./rh_cli WORD < FILE with replay, show, name or play, or ./rh_cli --help for more"
         cases = [
             ((), types),
             (("-h",), types),
             (("shew", "FILE"), types),
             (("show", "FILE"), "show reads standard input: type ./rh_cli show < FILE"),
+            (("name", "FILE"), "name reads standard input: type ./rh_cli name < FILE"),
             (("play", "FILE"), "play reads standard input: type ./rh_cli play < FILE"),
             (("replay", "a", "b"), "replay reads standard input: type ./rh_cli replay < FILE"),
         ]

@@ -15,6 +15,7 @@ SCRIPT = b"# a server\nserver\nstate"
 REPORT = b"take s empty\nup given 0 taken 0\ndown given 0 taken 0\n"
 # Words in no form, with commas between.
 USAGE = ["", "Replay", "replays", "replay,replay", "-h", "Show", "show,-", "plays", "play,client"]
+USAGE += ["Name", "names", "name,cou"]
 USAGE += ["--help,x", "make", "make,0", "make,10001", "make,03", "make,x", "make,3,4"]
 PAGE = """\
   1  usage
@@ -58,11 +59,13 @@ class Statuses(unittest.TestCase):
         self.assertEqual(self.check(["replay"], 0, b"", self.file(RECORDING)), REPORT)
         self.assertEqual(self.check(["show"], 0, b"", self.file(b"ff\n")), b"fault Cut 1\n")
         self.assertEqual(self.check(["show"], 0, b""), b"")
+        self.assertEqual(self.check(["name"], 0, b"", self.file(b"cou ff\n")), b"bad Cut 1\n")
+        self.assertEqual(self.check(["name"], 0, b""), b"")
         self.assertEqual(self.check(["play"], 0, b"", self.file(SCRIPT)), b"server\nstate opening\n")
         self.assertEqual(self.check(["play"], 0, b""), b"")
         self.assertEqual(self.check(["--version"], 0, b""), b"rh_cli 0.1.0\n")
         page = self.check(["--help"], 0, b"").decode()
-        for words in "replay", "show", "play", "make <n>", "--help", "--version":
+        for words in "replay", "show", "name", "play", "make <n>", "--help", "--version":
             self.assertIn(f"\n  rh_cli {words} ", page)
         self.assertTrue(page.endswith("\n\n" + PAGE), page)
 
@@ -80,13 +83,14 @@ class Statuses(unittest.TestCase):
             ("replay", b"", 1),
             ("replay", RECORDING + b"take x\n", 3),
             ("show", b"05\n" * 11 + b"0\n", 12),
+            ("name", b"05\n" * 11 + b"co 05\n", 12),
             ("play", SCRIPT + b"\nstate s\n", 4),
         ]:
             said = f"bad input {line}\n".encode()
             self.assertEqual(self.check([word], 2, said, self.file(text)), b"")
 
     def test_3_read_fault(self):
-        for word in "replay", "show", "play":
+        for word in "replay", "show", "name", "play":
             closed = self.check([word], 3, b"read fault\n", None, preexec_fn=lambda: os.close(0))
             self.assertEqual(closed, b"")
 
@@ -94,6 +98,7 @@ class Statuses(unittest.TestCase):
         for word, text in [
             ("replay", RECORDING),
             ("show", b"ff\n"),
+            ("name", b"ff\n"),
             ("play", SCRIPT),
             ("make 3", b""),
             ("--help", b""),
@@ -103,7 +108,7 @@ class Statuses(unittest.TestCase):
             self.check(word.split(" "), 4, b"write fault\n", self.file(text), full)
 
     def test_9_input_too_long(self):
-        for word in "replay", "show", "play":
+        for word in "replay", "show", "name", "play":
             text = self.file(b"0" * (MOST_INPUT + 2))
             self.assertEqual(self.check([word], 9, b"input too long\n", text), b"")
             self.assertEqual(os.lseek(text.fileno(), 0, os.SEEK_CUR), MOST_INPUT + 1)

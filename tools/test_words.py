@@ -88,6 +88,7 @@ class Words(unittest.TestCase):
             ("replay", word_cases.TWO_PIECES[0]),
             ("replay", settling()),
             ("show", "ff\nFFff\n"),
+            ("name", "ff\nisu FFff\n"),
             ("play", "client\nstate\nchannels\n"),
             ("play", "client\n" + "draw co1 1\n" * 20_000),
         ]

@@ -1,4 +1,4 @@
-"""Texts that are given to the words `replay`, `show` and `play`, and what has to come of each.
+"""Texts that are given to the words `replay`, `show`, `name` and `play`, and what comes of each.
 
 What is wanted is worked out by hand from docs/RECORDINGS.md, and never taken from the program.
 """
@@ -309,6 +309,68 @@ def bad_shows():
     yield "05\n0\n", 2
 
 
+# ---- name: lines of hex, with a leg in front or none. Each packet's name stands in test_base.
+
+COOKIE = bytes(range(16)).hex()
+GUID = "00010203-0405-0607-0809-0a0b0c0d0e0f (03020100-0504-0706-0809-0a0b0c0d0e0f)"
+CONN_A1 = f"05001403100000004c00000000000000000004000600000001000000{f'03000000{COOKIE}' * 2}"
+CONN_A1 += "0000000000000100"
+CONN_C = "05001403100000002c00000000000000000003000600000001000000000000000000010002000000c0d40100"
+# The greatest byte of each number first.
+BIND = "05000b03000000000010000000000102"
+NAMED = [
+    (CONN_A1, f"CONN/A1 virtual {GUID} out {GUID} window 65536"),
+    (f"cou {CONN_A1}", f"CONN/A1 virtual {GUID} out {GUID} window 65536"),
+    (CONN_C, "CONN/C1 or CONN/C2 window 65536 timeout 120000"),
+    (f"osd {CONN_C}", "CONN/C1 window 65536 timeout 120000"),
+    (f"cod {CONN_C}", "CONN/C2 window 65536 timeout 120000"),
+    (f"cou {CONN_C}", "unnamed 0000 Version 1 ReceiveWindowSize 65536 ConnectionTimeout 120000"),
+    ("0500140310000000140000000000000001000000", "Ping"),
+    (PDU, "request call 1 length 24 auth 0 flags 03 first_frag last_frag"),
+    (f"isd {BIND}", "bind call 258 length 16 auth 0 flags 03 first_frag last_frag"),
+    ("0500140310000000140000000000000080000000", "bad BadFlags 16"),
+    ("ciu ff", "bad Cut 1"),
+    # as many bytes as a line may have
+    ("osu " + "0" * 131_070, "bad Version 0"),
+]
+
+
+def named():
+    text = "".join(f"{line}\n" for line, _ in NAMED)
+    wanted = "".join(f"{told}\n" for _, told in NAMED)
+    yield text, wanted
+    yield text.removesuffix("\n"), wanted
+    yield from ((line, f"{told}\n") for line, told in NAMED)
+    yield "", ""
+
+
+NO_NAME = [
+    "cid 05",
+    "CIU 05",
+    "co 05",
+    "co1 05",
+    "u 05",
+    "ciu05",
+    "ciu  05",
+    "ciu\t05",
+    "ciu",
+    "ciu ",
+    "ciu 0",
+    "ciu 0g",
+    "ciu 05 ",
+    "ciu 05 05",
+    "05 ciu",
+    "ciu cou 05",
+    "ciu " + "0" * 131_072,
+]
+
+
+def bad_names():
+    for line in NO_HEX + NO_NAME:
+        for front, number in ("", 1), ("05\n", 2), ("cou 05\nAb\nisd aB\n", 4):
+            yield f"{front}{line}\nxx\n", number
+
+
 # ---- play: scripts, and their answers. The roles' own cases are those of role_cases_*.py.
 
 PLAYED = [
@@ -365,5 +427,15 @@ def bad_plays():
         yield "state\n" * before + f"{line}\nno\n", before + 1
 
 
-ANSWERED = {"replay": REPLAYED, "show": list(shown()), "play": PLAYED}
-REFUSED = {"replay": list(bad_replays()), "show": list(bad_shows()), "play": list(bad_plays())}
+ANSWERED = {
+    "replay": REPLAYED,
+    "show": list(shown()),
+    "name": list(named()),
+    "play": PLAYED,
+}
+REFUSED = {
+    "replay": list(bad_replays()),
+    "show": list(bad_shows()),
+    "name": list(bad_names()),
+    "play": list(bad_plays()),
+}

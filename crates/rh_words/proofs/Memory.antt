@@ -7,10 +7,11 @@ use Rattle.std.specs.Io.KnownBytes.{Appends}
 use Rattle.rh_text.specs.Lines.{Rules, IsText}
 use Rattle.rh_record.specs.Places.{recording}
 use Rattle.rh_show.specs.Lines.{packets}
+use Rattle.rh_name.specs.Lines.{asked}
 use Rattle.rh_script.specs.Scripts.{script}
 use Rattle.rh_generate.specs.Summaries.{summary, summary_text}
 use Rattle.rh_words.specs.declared.form.Form.{Form}
-use Rattle.rh_words.specs.declared.form.Form.TheVariants.{Replay, Show, Play, Make, Help, Version}
+use Rattle.rh_words.specs.declared.form.Form.TheVariants.{Replay, Show, Name, Play, Make, Help, Version}
 use Rattle.rh_words.specs.declared.status.Status.{Status}
 use Rattle.rh_words.specs.declared.status.Status.TheVariants as statuses
 use Rattle.rh_words.specs.declared.word.Ended.{Ended}
@@ -19,6 +20,7 @@ use Rattle.rh_words.specs.Words.{IsBegun, most_input}
 use Rattle.rh_words.specs.Statuses.{status_of}
 use Rattle.rh_words.specs.Replay.{IsReplayed}
 use Rattle.rh_words.specs.Show.{IsShown}
+use Rattle.rh_words.specs.Name.{IsNamed}
 use Rattle.rh_words.specs.Play.{IsPlayed}
 use Rattle.rh_words.specs.Forms.{Outside, Reads, Tells, Ran}
 use Rattle.rh_words.specs.Memory.{IsRoomFor, RanIn, RanInMemory}
@@ -120,6 +122,8 @@ ran_in_memory help version Unfailing Replay status before after text h sure left
     rw h.1 (spared recording IsReplayed Unfailing before after text h.0 h.2 sure left none room)
 ran_in_memory help version Unfailing Show status before after text h sure left none room =
     rw h.1 (spared packets IsShown Unfailing before after text h.0 h.2 sure left none room)
+ran_in_memory help version Unfailing Name status before after text h sure left none room =
+    rw h.1 (spared asked IsNamed Unfailing before after text h.0 h.2 sure left none room)
 ran_in_memory help version Unfailing Play status before after text h sure left none room =
     rw h.1 (spared script IsPlayed Unfailing before after text h.0 h.2 sure left none room)
 ran_in_memory help version Unfailing (Make count) status before after text (

@@ -10,11 +10,12 @@ use Rattle.rh_io.specs.Counts.{Rose}
 use Rattle.rh_text.specs.Lines.{Rules, IsText, FirstBad}
 use Rattle.rh_record.specs.Places.{recording}
 use Rattle.rh_show.specs.Lines.{packets}
+use Rattle.rh_name.specs.Lines.{asked}
 use Rattle.rh_script.specs.Scripts.{script}
 use Rattle.rh_generate.specs.Making.{IsCount}
 use Rattle.rh_generate.specs.Summaries.{summary, summary_text}
 use Rattle.rh_words.specs.declared.form.Form.{Form}
-use Rattle.rh_words.specs.declared.form.Form.TheVariants.{Replay, Show, Play, Make, Help, Version}
+use Rattle.rh_words.specs.declared.form.Form.TheVariants.{Replay, Show, Name, Play, Make, Help, Version}
 use Rattle.rh_words.specs.declared.status.Status.{Status}
 use Rattle.rh_words.specs.declared.status.Status.TheVariants.{Done, WriteFault, NoMemory}
 use Rattle.rh_words.specs.declared.word.Ended.{Ended}
@@ -23,12 +24,14 @@ use Rattle.rh_words.specs.Statuses.{status_of}
 use Rattle.rh_words.specs.Words.{Answers, Counts, counts, Counted, IsTaken, IsWhole, most_input}
 use Rattle.rh_words.specs.Replay.{IsReplayed}
 use Rattle.rh_words.specs.Show.{IsShown}
+use Rattle.rh_words.specs.Name.{IsNamed}
 use Rattle.rh_words.specs.Play.{IsPlayed}
 
 -- the words that ask for it
 abbrev pub form_words : Form → List (List ℕ)
 form_words Replay = codes "replay" ∷ []
 form_words Show = codes "show" ∷ []
+form_words Name = codes "name" ∷ []
 form_words Play = codes "play" ∷ []
 form_words (Make count) = codes "make" ∷ decimal count ∷ []
 form_words Help = codes "--help" ∷ []
@@ -38,6 +41,7 @@ form_words Version = codes "--version" ∷ []
 abbrev pub IsMade : Form → Type 0
 IsMade Replay = Unit {0}
 IsMade Show = Unit {0}
+IsMade Name = Unit {0}
 IsMade Play = Unit {0}
 IsMade (Make count) = IsCount count
 IsMade Help = Unit {0}
@@ -117,6 +121,9 @@ Ran help version Unfailing Replay status before after =
 Ran help version Unfailing Show status before after =
     (ended : Ended) × (status ≡ status_of ended)
     × Reads packets IsShown Unfailing ended before after
+Ran help version Unfailing Name status before after =
+    (ended : Ended) × (status ≡ status_of ended)
+    × Reads asked IsNamed Unfailing ended before after
 Ran help version Unfailing Play status before after =
     (ended : Ended) × (status ≡ status_of ended)
     × Reads script IsPlayed Unfailing ended before after

@@ -5,6 +5,8 @@ pub mod Replay
 pub mod Replays
 pub mod Show
 pub mod Shows
+pub mod Name
+pub mod Names
 pub mod Play
 pub mod Plays
 pub mod Forms

@@ -4,21 +4,24 @@ use Rattle.std.specs.declared.option.Option.{Option}
 use Rattle.rh_text.specs.Lines.{IsText}
 use Rattle.rh_record.specs.Places.{recording}
 use Rattle.rh_show.specs.Lines.{packets}
+use Rattle.rh_name.specs.Lines.{asked}
 use Rattle.rh_script.specs.Scripts.{script}
 use Rattle.rh_generate.specs.Summaries.{summary, summary_text}
 use Rattle.rh_words.specs.declared.form.Form.{Form}
-use Rattle.rh_words.specs.declared.form.Form.TheVariants.{Replay, Show, Play, Make, Help, Version}
+use Rattle.rh_words.specs.declared.form.Form.TheVariants.{Replay, Show, Name, Play, Make, Help, Version}
 use Rattle.rh_words.specs.declared.status.Status.{Status}
 use Rattle.rh_words.specs.declared.status.Status.TheVariants as statuses
 use Rattle.rh_words.specs.Words.{most_input}
 use Rattle.rh_words.specs.Replay.{IsReplayed}
 use Rattle.rh_words.specs.Show.{IsShown}
+use Rattle.rh_words.specs.Name.{IsNamed}
 use Rattle.rh_words.specs.Play.{IsPlayed}
 
 -- what a form writes of a text, whole; `help` and `version` are what the program tells of itself
 abbrev pub IsOutput : (help version : List ℕ) → Form → List ℕ → List ℕ → Type 0
 IsOutput help version Replay text whole = IsReplayed text whole
 IsOutput help version Show text whole = IsShown text whole
+IsOutput help version Name text whole = IsNamed text whole
 IsOutput help version Play text whole = IsPlayed text whole
 IsOutput help version (Make count) text whole = whole ≡ summary_text (summary count)
 IsOutput help version Help text whole = whole ≡ help
@@ -28,6 +31,7 @@ IsOutput help version Version text whole = whole ≡ version
 abbrev pub IsInput : Form → List ℕ → Type 0
 IsInput Replay text = IsText recording text × (length text ≤ most_input)
 IsInput Show text = IsText packets text × (length text ≤ most_input)
+IsInput Name text = IsText asked text × (length text ≤ most_input)
 IsInput Play text = IsText script text × (length text ≤ most_input)
 IsInput (Make count) text = Unit {0}
 IsInput Help text = Unit {0}

@@ -16,6 +16,8 @@ pub enum Form {
     Replay,
     /// `show`: what the packets of lines of hex are.
     Show,
+    /// `name`: what the packets of lines of hex are called.
+    Name,
     /// `play`: what one role answers to a script.
     Play,
     /// `make <n>`: the summary of a generated recording of so many PDUs.
@@ -46,6 +48,7 @@ fn form_of_word(word: &str) -> Option<Form>
     match word {
         "replay" => Some(Form::Replay),
         "show" => Some(Form::Show),
+        "name" => Some(Form::Name),
         "play" => Some(Form::Play),
         "--help" => Some(Form::Help),
         "--version" => Some(Form::Version),

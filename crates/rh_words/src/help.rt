@@ -10,13 +10,15 @@ its roles alone.
 
   rh_cli replay       reads a recording from standard input, writes its report to standard output
   rh_cli show         reads lines of hex, one packet each, and writes one line for each packet
+  rh_cli name         reads such lines, and writes what people call each packet
   rh_cli play         reads a script that tells one role what comes to it, and writes the answers
   rh_cli make <n>     runs a generated recording of n PDUs (1 to 10,000), writes its report's last
                       lines, the bytes that moved and the rounds of its settlings
   rh_cli --help       writes this page
   rh_cli --version    writes the name and the version
 
-A line for show has 1 to 65,535 bytes in hex digits of either case, and nothing else. From a capture
+A line for show has 1 to 65,535 bytes in hex digits of either case, and nothing else. A line for
+name may have the leg and the direction in front: ciu, cou, cod, isu, isd, osu or osd. From a capture
 that tshark reads and from a file that holds one packet, by the repository's tools and by xxd:
 
   tools/pcap_packets.py FILE | rh_cli show

@@ -8,6 +8,7 @@ ghost use Rattle.rh_words.specs.Forms.{IsForm, Ran, outside};
 use crate::claims::Claims;
 use crate::form::{Form, form_of};
 use crate::help::HELP;
+use crate::name::Name;
 use crate::play::Play;
 use crate::replay::Replay;
 use crate::show::Show;
@@ -15,6 +16,7 @@ use crate::status::Status;
 use crate::telling::{tell, tell_summary};
 use crate::word::answer;
 use rh_io::{Sink, Source};
+use rh_name::Names;
 use rh_record::Recording;
 use rh_script::Script;
 use rh_show::Packets;
@@ -27,6 +29,7 @@ pub const VERSION: &str = "rh_cli 0.1.0\n";
 ///
 /// The words are those behind the program's own name. The one word `replay` reads a recording and
 /// writes its report; `show` reads lines of hex, one packet each, and writes one line for each;
+/// `name` reads the same lines, and writes what each packet is called;
 /// `play` reads a script and writes what one role answers to its lines; `make` with a number from 1
 /// to 10,000 generates a recording of roles of so many PDUs and writes what its report comes to.
 /// `--help` and `--version` alone write a text. These three read nothing. Other words are `Usage`.
@@ -54,6 +57,7 @@ pub fn run<C: Claims, R: Source, W: Sink>(
     match form_of(words) {
         Some(Form::Replay) => Status::from(answer::<Recording, Replay, R, W>(alloc, input, output)),
         Some(Form::Show) => Status::from(answer::<Packets, Show, R, W>(alloc, input, output)),
+        Some(Form::Name) => Status::from(answer::<Names, Name, R, W>(alloc, input, output)),
         Some(Form::Play) => Status::from(answer::<Script, Play, R, W>(alloc, input, output)),
         Some(Form::Make(count)) => tell_summary(alloc, count, output),
         Some(Form::Help) => tell(HELP, output),
