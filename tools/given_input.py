@@ -16,15 +16,13 @@ import sys
 import threading
 from collections import deque
 
-from teaching import CAPTURES, said_of
+from teaching import CAPTURES, OF_PACKETS, said_of
 
 SIGNALS = signal.SIGINT, signal.SIGTERM, signal.SIGHUP
 PIECE = 1 << 20
 # As much of the input is kept as the program reads of one (MOST_INPUT of rh_words).
 MOST_KEPT = 67_108_865
 READ_FAULT, WRITE_FAULT = (3, "read fault"), (4, "write fault")
-# Words that tell each line of packets in a line.
-OF_PACKETS = "show", "name"
 # The words of a context, and what is told behind it.
 CONTEXT = re.compile(rb"(\d{4}-\d\d-\d\dT[\d:.]+Z \d+ \d+ \S+ > \S+) (.*)")
 NO_PACKET = re.compile(rb"(?:http .*|fin|rst|ncacn_http/1\.0)")

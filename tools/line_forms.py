@@ -53,6 +53,8 @@ CHANNEL = number("channel", 1, 4_294_967_295)
 ANY_LEG = leg_of("leg", "co|os|ci|is", "co, os, ci or is")
 IN_LEG = leg_of("leg of an IN channel at the client", "ci", "ci")
 ONE_LEG = Slot("leg of a direct recording", "cs", "cs")
+PIPES = "ciu|cou|cod|isu|isd|osu|osd"
+PIPE = Slot("leg with a direction", "ciu, cou, cod, isu, isd, osu or osd", PIPES)
 HEX = hex_of(65_536)
 LONG_HEX = hex_of(65_535)
 COOKIE = Slot("cookie", "32 hex digits", "[0-9A-Fa-f]{32}")
@@ -65,6 +67,9 @@ KEEPALIVE = Slot(
 )
 SAME = number("choice of a proxy", 0, 1)
 
+# Lines of packets: of `show`, and of `name`, where one may have its leg in front.
+SHOW = [(LONG_HEX,)]
+NAME = [(PIPE, LONG_HEX), (LONG_HEX,)]
 KEYS = {
     "cwin": WINDOW,
     "iwin": WINDOW,

@@ -18,6 +18,8 @@ READ_BY = {
     "play": "a script of one role, which play reads: type ./rh_cli play < FILE",
     "capture": "a capture: type tools/pcap_packets.py FILE | ./rh_cli show",
 }
+# The forms of lines of words that tell each packet in a line.
+OF_PACKETS = {"show": line_forms.SHOW, "name": line_forms.NAME}
 # How much of a line is told.
 MOST_TOLD = 60
 
@@ -90,9 +92,14 @@ def of_recording(lines, number):
     return why
 
 
-def of_show(line):
-    why = spacing(line)
-    return why or f"the line is no {line_forms.LONG_HEX.told}"
+def of_packets(forms, line):
+    """Why this line isn't one of packets; none where it is."""
+    words = line.split(" ")
+    if any(line_forms.is_taken(form, words) for form in forms):
+        return None
+    form = next((form for form in forms if len(form) == len(words)), forms[-1])
+    why = f"the line is no {form[0].told}" if len(form) == 1 else line_forms.amiss(form, words)
+    return spacing(line) or why
 
 
 def of_script(line):
@@ -104,7 +111,8 @@ def of_script(line):
 def other_word(word, text):
     """What a text is that another word reads, and how; none where it may be one for this word."""
     kind = kind_of(text)
-    return f"this is {READ_BY[kind]}" if kind not in (word, None) else None
+    is_own = kind == word or kind == "show" and word in OF_PACKETS
+    return None if is_own or kind is None else f"this is {READ_BY[kind]}"
 
 
 def why_refused(word, text, number):
@@ -115,14 +123,14 @@ def why_refused(word, text, number):
         return "the input is empty"
     if word == "replay":
         return of_recording(lines, number)
-    if word == "show":
-        return of_show(lines[-1])
-    return of_script(lines[-1]) if word == "play" else None
+    if word == "play":
+        return of_script(lines[-1])
+    return of_packets(OF_PACKETS[word], lines[-1]) if word in OF_PACKETS else None
 
 
 def said_of(word, text, number, place):
     """What is said of the refused line, which is line `place` of the input."""
-    other = other_word(word, text) if number == 1 and word in READ_BY else None
+    other = other_word(word, text) if number == 1 else None
     if other:
         return f"line {place}: {other}"
     why = why_refused(word, text, number)
