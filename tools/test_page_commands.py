@@ -7,7 +7,6 @@ CAPTURE stands for each capture of examples/.
 """
 import pathlib
 import re
-import socket
 import subprocess
 import time
 import unittest
