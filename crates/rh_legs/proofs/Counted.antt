@@ -15,9 +15,6 @@ finished-ended is = let no = is in cc
 pub finished-failed : Finished ≡ Failed → ⊥
 finished-failed is = let no = is in cc
 
-pub ended-failed : Ended ≡ Failed → ⊥
-ended-failed is = let no = is in cc
-
 pub failed-ended : Failed ≡ Ended → ⊥
 failed-ended is = let no = is in cc
 

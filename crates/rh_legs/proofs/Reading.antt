@@ -15,6 +15,7 @@ use Rattle.rh_machines.specs.declared.event.NodeReply.TheVariants as reply
 use Rattle.rh_legs.specs.declared.end.LegEnd.{LegEnd}
 use Rattle.rh_legs.specs.declared.end.LegEnd.TheVariants.{Finished, Ended, Failed, Stopped}
 use Rattle.rh_runs.proofs.Running.{ran-more}
+use Rattle.rh_legs.specs.Ends.{EndsSo}
 use Rattle.rh_legs.specs.Legs.{Calls, joined, loss, fed, late, late_pieces, has_no_use, IsReaders, told_at, LastTells, IsReading, IsRead}
 use Rattle.rh_legs.proofs.Calling.{joined-more, all-are-more}
 
@@ -117,7 +118,7 @@ module _ {S : Type 0} (next : S → NodeEvent → S) (reply_to : S → NodeEvent
   )
 
   -- the source is at its end, and the machine has no use for the leg
-  pub read-finished : (old mid now : SeatValue NodeEvent) (x y z : Option (List ℕ)) (count : ℕ)
+  read-finished : (old mid now : SeatValue NodeEvent) (x y z : Option (List ℕ)) (count : ℕ)
       (r : NodeReply)
       → ReadsOn old mid x y count → count < 256 → Appends y z []
       → Acts next reply_to first (event.Finished leg) r mid now → r ≡ reply.Told true
@@ -130,7 +131,7 @@ module _ {S : Type 0} (next : S → NodeEvent → S) (reply_to : S → NodeEvent
       (omega (arith, few)) (λ is. absurd (cc is))
 
   -- the source is at its end, and the machine is told
-  pub read-ended : (old mid heard now : SeatValue NodeEvent) (x y z : Option (List ℕ)) (count : ℕ)
+  read-ended : (old mid heard now : SeatValue NodeEvent) (x y z : Option (List ℕ)) (count : ℕ)
       (r q : NodeReply)
       → ReadsOn old mid x y count → count < 256 → Appends y z []
       → Acts next reply_to first (event.Finished leg) r mid heard
@@ -145,18 +146,38 @@ module _ {S : Type 0} (next : S → NodeEvent → S) (reply_to : S → NodeEvent
       tells refl (Appends-nil z))
       (q, (calls_asked, refl)) (omega (arith, few)) (λ is. absurd (cc is))
 
+  -- the source is at its end
+  pub read-end : (old mid now : SeatValue NodeEvent) (x y z : Option (List ℕ)) (count : ℕ)
+      (end : LegEnd)
+      → ReadsOn old mid x y count → count < 256 → Appends y z []
+      → EndsSo next reply_to first leg mid now end
+      → ReadTo old now x z end
+  read-end old mid now x y z count Finished done few came (r, asks, told) =
+      read-finished old mid now x y z count r done few came asks told
+  read-end old mid now x y z count Ended done few came (heard, r, q, asks, tells) =
+      read-ended old mid heard now x y z count r q done few came asks tells
+  read-end old mid now x y z count _ done few came none = absurd none
+
+  -- it did not fail then
+  pub end-failed : (old now : SeatValue NodeEvent) (end : LegEnd)
+      → EndsSo next reply_to first leg old now end → end ≡ Failed → ⊥
+  end-failed old now Finished so is = absurd (cc is)
+  end-failed old now Ended so is = absurd (cc is)
+  end-failed old now _ none is = absurd none
+
   -- the source failed, and the machine is told
   pub read-failed : (old mid now : SeatValue NodeEvent) (x y z : Option (List ℕ)) (count : ℕ)
-      (r : NodeReply)
+      (r : NodeReply) (end : LegEnd)
       → ReadsOn old mid x y count → count < 256 → Keeps y z
-      → Acts next reply_to first (event.Broken leg) r mid now
-      → ReadTo old now x z Failed
-  read-failed old mid now x y z count r done few kept tells =
+      → Acts next reply_to first (event.Broken leg) r mid now → end ≡ Failed
+      → ReadTo old now x z end
+  read-failed old mid now x y z count r end done few kept tells is =
       let calls = done.0 ++ (event.Broken leg, r) ∷ [] in
-      ends-so old now x z Failed (count + 0) calls
+      subst (ReadTo old now x z) (sym is)
+      (ends-so old now x z Failed (count + 0) calls
       (reads-more old mid now x y z count done.0 (event.Broken leg) r done.1 tells refl
       (Appends-kept y y z [] (Appends-nil y) kept))
-      (r, (done.0, refl)) (omega (arith, few)) (λ is. absurd (cc is))
+      (r, (done.0, refl)) (omega (arith, few)) (λ is. absurd (cc is)))
 
   -- as many pieces were late as may be
   pub read-stopped : (old now : SeatValue NodeEvent) (x y : Option (List ℕ)) (count : ℕ)

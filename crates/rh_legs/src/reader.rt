@@ -1,10 +1,11 @@
 //! Reading a leg: what comes is fed, piece by piece.
 
-ghost use Rattle.std.specs.Prelude.{◌≡◌, ◌≤◌};
+ghost use Rattle.std.specs.Prelude.{◌≡◌, ◌≤◌, ◌==◌};
 ghost use Rattle.rh_io.specs.Counts.{Rose};
 ghost use Rattle.rh_turn.specs.Calls.{Acts};
 ghost use Rattle.rh_machines.specs.declared.event.NodeEvent.TheVariants as event;
 ghost use Rattle.rh_machines.specs.declared.event.NodeReply.{NodeReply as Reply};
+ghost use Rattle.rh_legs.specs.Ends.{EndsSo};
 ghost use Rattle.rh_legs.specs.Legs.{Calls, IsRead, has_no_use, is_over};
 
 use crate::bell::{Bell, Call};
@@ -48,15 +49,10 @@ pub fn read_leg<M: Node, R: Wait, S: Source, G: Gate>(
     'reads: for _ in rt.forever() {
         gate.pass(Place::ReaderBefore(leg));
         let Ok(count) = source.read(&mut *room) else {
-            bell.act(rt, turn, seat, NodeEvent::Broken(leg), Call::Draws);
-            return (LegEnd::Failed, room);
+            return (tell_failure(rt, turn, seat, leg, bell), room);
         };
         if count == 0 {
-            if bell.is_finished(rt, turn, seat, leg) {
-                return (LegEnd::Finished, room);
-            }
-            bell.act(rt, turn, seat, NodeEvent::Ended(leg), Call::Draws);
-            return (LegEnd::Ended, room);
+            return (tell_end(rt, turn, seat, leg, bell), room);
         }
         let piece = Piece::new(count, room);
         let (is_late, back) = feed(rt, turn, seat, leg, piece, bell);
@@ -64,12 +60,56 @@ pub fn read_leg<M: Node, R: Wait, S: Source, G: Gate>(
         room = back;
         if is_late {
             late += 1;
-            if late == LAST_PIECES {
+            if is_last(late) {
                 return (LegEnd::Stopped, room);
             }
         }
     }
     unreachable!()
+}
+
+/// Tells the machine that the source failed.
+fn tell_failure<M: Node, R: Wait>(
+    rt: &R,
+    turn: &Turn<M>,
+    seat: &mut Seat<M>,
+    leg: Leg,
+    bell: &Bell,
+) -> LegEnd
+    requires { seat.old.turn ≡ turn.now.id }
+    ensures acts { (answer : Reply)
+        × Acts M.next M.reply turn.now.first (event.Broken leg) answer seat.old seat.new }
+    ensures turn { seat.new.turn ≡ seat.old.turn }
+    ensures failed { result ≡ LegEnd.Failed }
+{
+    bell.act(rt, turn, seat, NodeEvent::Broken(leg), Call::Draws);
+    LegEnd::Failed
+}
+
+/// Tells the machine that the source ended, unless it has no use for the leg.
+fn tell_end<M: Node, R: Wait>(
+    rt: &R,
+    turn: &Turn<M>,
+    seat: &mut Seat<M>,
+    leg: Leg,
+    bell: &Bell,
+) -> LegEnd
+    requires { seat.old.turn ≡ turn.now.id }
+    ensures ends { EndsSo M.next M.reply turn.now.first leg seat.old seat.new result }
+    ensures turn { seat.new.turn ≡ seat.old.turn }
+{
+    if bell.is_finished(rt, turn, seat, leg) {
+        return LegEnd::Finished;
+    }
+    bell.act(rt, turn, seat, NodeEvent::Ended(leg), Call::Draws);
+    LegEnd::Ended
+}
+
+/// Whether as many pieces came of which there was no use as are read at most.
+fn is_last(late: u32) -> bool
+    ensures { result ≡ (late == 256) }
+{
+    late == LAST_PIECES
 }
 
 /// Feeds a piece. Answers whether there was no use of it, and its room.
