@@ -20,8 +20,8 @@ from teaching import CAPTURES, OF_PACKETS, said_of
 
 SIGNALS = signal.SIGINT, signal.SIGTERM, signal.SIGHUP
 PIECE = 1 << 20
-# As much of the input is kept as the program reads of one (MOST_INPUT of rh_words).
-MOST_KEPT = 67_108_865
+# As much as the program reads of one input (MOST_INPUT of rh_words), and of it is kept.
+MOST_INPUT = 67_108_864
 READ_FAULT, WRITE_FAULT = (3, "read fault"), (4, "write fault")
 # The words of a context, and what is told behind it.
 CONTEXT = re.compile(rb"(\d{4}-\d\d-\d\dT[\d:.]+Z \d+ \d+ \S+ > \S+) (.*)")
@@ -41,7 +41,7 @@ class Given:
         self.is_raw = False
         # How many lines the program was given, and behind how many of them a line was left out.
         self.count, self.left_out = 0, []
-        # What it was given so far, up to MOST_KEPT bytes.
+        # What it was given so far, up to MOST_INPUT bytes.
         self.kept = bytearray()
         # What is written, where there are contexts: each in front of what is told of a line, and
         # lines as they are.
@@ -53,7 +53,7 @@ class Given:
         lines = text.splitlines(True) if self.is_plain(text) else self.taken(text)
         self.count += len(lines)
         given = b"".join(lines)
-        self.kept += given[: MOST_KEPT - len(self.kept)]
+        self.kept += given[: MOST_INPUT - len(self.kept)]
         return given
 
     def is_plain(self, text):
@@ -116,8 +116,8 @@ class Running:
         output = subprocess.PIPE if self.has_context else None
         pipes = {"stdin": subprocess.PIPE, "stdout": output, "stderr": subprocess.PIPE}
         self.child = subprocess.Popen([*command, word], cwd=place, **pipes)
-        # The line that was refused; whether reading failed, and whether writing did.
-        self.bad, self.is_broken, self.is_full = None, False, False
+        # The line that was refused; whether there was too much, reading failed, or writing did.
+        self.bad, self.is_long, self.is_broken, self.is_full = None, False, False, False
 
     def read(self):
         """The next whole lines of the input, or what is behind the last; none at its end."""
@@ -158,6 +158,7 @@ class Running:
             sys.stderr.flush()
             found = re.fullmatch(rb"bad input (\d+)\n", line)
             self.bad = int(found[1]) if found else self.bad
+            self.is_long = self.is_long or line == b"input too long\n"
 
     def write(self):
         """Writes what the program tells, each line behind its context."""
@@ -222,6 +223,9 @@ def run(command, word, say, place=None):
         return fails(*READ_FAULT)
     if running.is_full:
         return fails(*WRITE_FAULT)
+    if running.is_long:
+        parts = "; split -C 64M cuts lines into such parts" if word in OF_PACKETS else ""
+        say(f"{word} reads at most {MOST_INPUT:,} bytes{parts}")
     if running.bad is not None:
         given = running.given
         say(said_of(word, bytes(given.kept), running.bad, given.place(running.bad)))

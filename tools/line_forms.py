@@ -70,6 +70,7 @@ SAME = number("choice of a proxy", 0, 1)
 # Lines of packets: of `show`, and of `name`, where one may have its leg in front.
 SHOW = [(LONG_HEX,)]
 NAME = [(PIPE, LONG_HEX), (LONG_HEX,)]
+
 KEYS = {
     "cwin": WINDOW,
     "iwin": WINDOW,

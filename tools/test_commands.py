@@ -31,6 +31,7 @@ case "$*" in
 replay | show | name | play)
     input="$(cat; echo .)"
     number="$(echo "$input" | grep -n bad | head -n 1 | cut -d : -f 1)"
+    case "$input" in *long*) echo "input too long" >&2; exit 9 ;; esac
     [ -z "$number" ] || { echo "bad input $number" >&2; exit 2; }
     printf %s "${input%.}" ;;
 "server here:1") exec cat ;;
@@ -536,6 +537,14 @@ class Inputs(Commands):
         done = self.run_it("./rh_cli", "show", text=text.replace("\n", " #\r\n") + "05")
         told = "rh_cli: left out of what show reads: 1000 comments and 1000 CRs\n"
         self.check(done, text + "05", told, 0)
+
+    def test_too_long_an_input_is_told_with_the_limit(self):
+        told = "input too long\nrh_cli: {} reads at most 67,108,864 bytes"
+        done = self.run_it("./rh_cli", "replay", text="long\n")
+        self.check(done, "", told.format("replay") + "\n", 9)
+        done = self.run_it("./rh_cli", "show", text="long\n")
+        parts = "; split -C 64M cuts lines into such parts\n"
+        self.check(done, "", told.format("show") + parts, 9)
 
     def test_a_capture_is_no_text(self):
         capture = (TOP / "examples/opening.pcap").read_bytes()

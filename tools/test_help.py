@@ -8,6 +8,7 @@ test_relays.py, with the statuses of rh_roles.
 import re
 import unittest
 
+import given_input
 from help_page import PAGE, TOP, forms, help_page, rows_of_page, statuses
 
 WORDS = TOP / "crates/rh_words"
@@ -83,6 +84,9 @@ class Texts(unittest.TestCase):
         for text, sentences in (help_page(), TOLD), (PAGE.read_text(), ON_PAGE):
             for sentence in self.told(sentences):
                 self.assertEqual(text.count(sentence), 1, sentence)
+
+    def test_what_the_scripts_read(self):
+        self.assertEqual(f"{given_input.MOST_INPUT:,}", constant("MOST_INPUT"))
 
     def test_all_numbers(self):
         """No other number stands in --help than those, the statuses and the protocol's version."""
