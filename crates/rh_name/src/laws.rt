@@ -1,6 +1,6 @@
 //! That a packet has one name on a pipe, and that all its names are told where none is.
 
-ghost use Rattle.std.specs.Prelude.{◌≡◌, ◌∷◌, [], Some, None};
+ghost use Rattle.std.specs.Prelude.{◌≡◌, ◌∷◌, [], Some};
 ghost use Rattle.rh_rts.specs.Packets.{Parts};
 ghost use Rattle.rh_sig.specs.declared.name.Name.{Name};
 ghost use Rattle.rh_sig.specs.declared.name.Pipe.{Pipe};

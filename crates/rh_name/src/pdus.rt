@@ -1,8 +1,6 @@
 //! PDUs that are no RTS packets, as text (C706 12.6.3.1).
 
-ghost use Rattle.std.specs.Prelude.{◌≡◌, ◌<◌, ◌++◌, codes, string_bytes, slice_get, MatchOption, None, Some};
-ghost use Rattle.rh_pdu.specs.Frames.{IsPdu};
-ghost use Rattle.rh_pdu.specs.Header.{header_of};
+ghost use Rattle.std.specs.Prelude.{◌≡◌, ◌<◌, ◌++◌, string_bytes, slice_get, MatchOption, None, Some};
 ghost use Rattle.rh_text.specs.Writing.{Writes};
 ghost use Rattle.rh_name.specs.Pdus as seen;
 
