@@ -1,0 +1,7 @@
+mod CalmAnswers
+mod LongTimes
+mod Silences
+mod FinishedLegs
+mod Steps
+mod NoBreaks
+mod Recorded
