@@ -9,6 +9,7 @@ ALL has the rules by their names, and OVER_WORLDS the other fields of Claims. Th
 of the program, nor of channels, windows and packets.
 """
 import collections
+import itertools
 
 from reports import LAST, OTHER, WORDS, Past, Report
 
@@ -272,6 +273,22 @@ def refusals(report, past, at, words):
         server_leg = {"co": "os", "ci": "is"}.get(words[4][:2], "none") + words[4][2:]
         if words[5] != "503" or server_leg not in past.legs.breaks:
             return f"the status is not 503, or no line reports that {server_leg} broke"
+
+
+@answer_rule("closed", "calm")
+def calm(report, past, at, words):
+    """While no line ends a leg, breaks it or lets it be silent, a node closes by settling alone."""
+    own = report.own[at].line
+    front = itertools.takewhile(lambda line: line is not own, report.lines)
+    if all(map(is_calm, [*front, own])) and (own[0] != "settle" or words[3] != "LegEnded"):
+        return "no line so far gives a reason, and no settling ended a leg"
+
+
+def is_calm(line):
+    """Whether a line, as words, ends no leg, breaks none and tells no late moment."""
+    if line[0] == "tick":
+        return int(line[1]) < SILENT_AFTER
+    return line[0] not in ("break", "end")
 
 
 # ---- what goes on by itself

@@ -321,3 +321,24 @@ def silence_of_the_other_leg(good):
         if cause[1] == "Silent":
             leg = {"c": "ci", "i": "is"}[node[0]] + cause[2][2:]
             yield with_cause(good, at, *cause[:2], leg, *cause[3:])
+
+
+@KINDS.refused_by("calm")
+def close_while_nothing_ends(good):
+    """A node closes, and no line so far ends a leg, breaks it or lets it be silent."""
+    for part in good.told.parts[:-1]:
+        if part.line[0] in ("break", "end", "tick"):
+            return
+        line = "closed s 1 LegBroken os1"
+        yield [*good.texts[: part.closed], line, *good.texts[part.closed :]]
+
+
+@KINDS.refused_by("calm")
+def end_without_a_settling(good):
+    """A node closes for the end of a leg, by another line than a settling."""
+    for part in good.told.parts[:-1]:
+        if part.line[0] in ("break", "end", "tick"):
+            return
+        if part.line[0] != "settle":
+            line = "closed s 2 LegEnded os1 0"
+            yield [*good.texts[: part.closed], line, *good.texts[part.closed :]]

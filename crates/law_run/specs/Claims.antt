@@ -38,6 +38,7 @@ use Rattle.law_world_honest.specs.Refusals.Reported.{ReportsBreak}
 use Rattle.law_world_windows.specs.KeptHops.{KeepsHops}
 use Rattle.law_world_expected.specs.PdusInRecordings.{PassesInTurn}
 use Rattle.law_world_rest.specs.Recordings.{RestsWhereQuiet}
+use Rattle.law_world_calm.specs.Calm.{IsEndOfLeg, is_calm, settles}
 
 -- a line reports a node as closed only for what it told that node, and its answers show that
 pub record ClosesForReason (world : AnyWorld) (line : Line) : Type 0 where
@@ -82,6 +83,14 @@ RolesAreHonest world line =
     (node : Who) (why : Cause) → IsOneOf (NodeClosed node why) (step world line).1
     → IsFromOutside why
 
+-- where no leg is broken or ended by a line, and none could be silent for long, only settling closes
+-- a node: since a leg ended there which the other end has finished
+pub record ClosesBySettling (world : AnyWorld) (line : Line) : Type 0 where
+  pub line : (node : Who) (why : Cause) → IsOneOf (NodeClosed node why) (step world line).1
+      → settles line ≡ true
+  pub cause : (node : Who) (why : Cause) → IsOneOf (NodeClosed node why) (step world line).1
+      → IsEndOfLeg why
+
 -- what both ends gave is exactly what was taken and what is on its way while no node closed, where
 -- the `break` and `end` lines that were answered ok are of legs that were over, and so where there
 -- are none
@@ -101,7 +110,8 @@ pub record TellsNothingLost (before : List Line) : Type 0 where
 -- is held for a channel than its window; each hop is kept, nothing stands behind a handover
 -- mark, no in proxy put an RPC PDU of a successor early, and what was given is what was taken and
 -- what is on its way, unless a leg is lost; and none is lost where nothing broke, so in no direct
--- recording. Each line closes nodes for a reason, and none for what another node did; in all of the
+-- recording. Each line closes nodes for a reason, and none for what another node did; where nothing
+-- breaks from outside only settling does, for a leg that ends there. In all of the
 -- report each node is closed once at most, and each later answer of an end that closed names the
 -- same cause. Each node that stands closed was reported so, and an answer names no cause that was
 -- not reported before. Where a settling is answered quiet, nothing goes on behind it by itself.
@@ -135,6 +145,9 @@ pub record Claims (lines : List Line) : Type 0 where
       → RefusesForBreak before line
   pub honest : (before behind : List Line) (line : Line) → lines ≡ before ++ line ∷ behind
       → RolesAreHonest (after Before before) line
+  pub calm : (before behind : List Line) (line : Line) → lines ≡ before ++ line ∷ behind
+      → list_all is_calm (before ++ line ∷ []) ≡ true
+      → ClosesBySettling (after Before before) line
   pub once : (node : Who) → closings_of node (run lines) ≤ 1
   pub named : NamesIt (run lines)
   pub closes : (before behind : List Line) → lines ≡ before ++ behind → ReportsCloses before

@@ -6,6 +6,7 @@ ghost use Rattle.rh_record.specs.declared.line.Line.{Line};
 ghost use Rattle.law_run.specs.Claims.{Claims};
 
 use law_world_bodies::no_body_of_a_recording_is_too_long;
+use law_world_calm::a_node_of_a_calm_recording_closes_for_an_end;
 use law_world_expected::{
     no_node_of_a_recording_lacks_room, no_node_of_a_recording_refuses_what_comes,
     rpc_pdus_of_a_recording_pass_in_turn,
@@ -36,9 +37,9 @@ use law_world_windows::{hops_of_a_recording_are_kept, no_window_closes_a_node_of
 /// node is reported as closed once at most, by a line whose answers show why; each later answer of
 /// that end names the same cause (MS-RPCH 3.2), and no answer names one that was not reported
 /// before. Each node that stands closed was reported so. A node closes only since a leg broke or
-/// ended, since its request was refused, or since no byte came for too long. Where a settling is
-/// answered quiet, no leg that it looks at can be opened, none carries a byte or ends, and no end
-/// takes.
+/// ended, since its request was refused, or since no byte came for too long; and where no line does
+/// any of that, only by settling, since a leg ended. Where a settling is answered quiet, no leg that
+/// it looks at can be opened, none carries a byte or ends, and no end takes.
 pub fn recordings_keep_to_their_claims()
     ensures { (lines : List Line) → Claims lines }
 {
@@ -59,6 +60,7 @@ pub fn recordings_keep_to_their_claims()
     no_window_closes_a_node_of_a_recording();
     no_body_of_a_recording_is_too_long();
     no_node_of_a_recording_lacks_room();
+    a_node_of_a_calm_recording_closes_for_an_end();
     direct_recordings_keep_all();
     every_recording_keeps_what_is_on_its_way();
     a_recording_tells_what_is_on_its_way();

@@ -44,6 +44,12 @@ returns c = λ lines. record {
     in_channel = c.a_refused_client_of_a_recording_lost_its_server.ensures.in_channel before line;
   };
   honest = λ before behind line is. honest before line;
+  calm = λ before behind line is calm. record {
+    line = λ node why.
+        c.a_node_of_a_calm_recording_closes_for_an_end.ensures.settles before line node why calm;
+    cause = λ node why.
+        c.a_node_of_a_calm_recording_closes_for_an_end.ensures.ends before line node why calm;
+  };
   once = c.a_recording_reports_a_node_closed_once.ensures lines;
   named = c.an_end_of_a_recording_names_its_cause.ensures lines;
   closes = λ before behind is. c.each_close_of_a_recording_is_reported.ensures before;
