@@ -86,7 +86,7 @@ RolesAreHonest world line =
 -- where no leg is broken or ended by a line, and none could be silent for long, only settling closes
 -- a node: since a leg ended there which the other end has finished
 pub record ClosesBySettling (world : AnyWorld) (line : Line) : Type 0 where
-  pub line : (node : Who) (why : Cause) → IsOneOf (NodeClosed node why) (step world line).1
+  pub only : (node : Who) (why : Cause) → IsOneOf (NodeClosed node why) (step world line).1
       → settles line ≡ true
   pub cause : (node : Who) (why : Cause) → IsOneOf (NodeClosed node why) (step world line).1
       → IsEndOfLeg why

@@ -45,7 +45,7 @@ returns c = λ lines. record {
   };
   honest = λ before behind line is. honest before line;
   calm = λ before behind line is calm. record {
-    line = λ node why.
+    only = λ node why.
         c.a_node_of_a_calm_recording_closes_for_an_end.ensures.settles before line node why calm;
     cause = λ node why.
         c.a_node_of_a_calm_recording_closes_for_an_end.ensures.ends before line node why calm;
