@@ -1,0 +1,16 @@
+mod LineLaws
+mod Ends
+mod Fronts
+mod Streams
+mod Summaries
+mod Chains
+mod Weights
+mod SortLaws
+mod Tags
+mod LegLaws
+mod ReadLaws
+mod Queues
+mod Waiting
+mod Comparing
+mod Marks
+mod Audits
