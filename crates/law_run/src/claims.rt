@@ -38,8 +38,8 @@ use law_world_windows::{hops_of_a_recording_are_kept, no_window_closes_a_node_of
 /// that end names the same cause (MS-RPCH 3.2), and no answer names one that was not reported
 /// before. Each node that stands closed was reported so. A node closes only since a leg broke or
 /// ended, since its request was refused, or since no byte came for too long; and where no line does
-/// any of that, only by settling, since a leg ended. Where a settling is answered quiet, no leg that
-/// it looks at can be opened, none carries a byte or ends, and no end takes.
+/// any of that, only by settling, since a leg ended. Where a settling is answered quiet, no leg
+/// that it looks at can be opened, none carries a byte or ends, and no end takes.
 pub fn recordings_keep_to_their_claims()
     ensures { (lines : List Line) → Claims lines }
 {
