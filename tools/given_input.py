@@ -20,7 +20,7 @@ from teaching import CAPTURES, OF_PACKETS, said_of
 
 SIGNALS = signal.SIGINT, signal.SIGTERM, signal.SIGHUP
 PIECE = 1 << 20
-# As much as the program reads of one input (MOST_INPUT of rh_words), and of it is kept.
+# As much as the program reads of one input (MOST_INPUT of rh_word), and of it is kept.
 MOST_INPUT = 67_108_864
 READ_FAULT, WRITE_FAULT = (3, "read fault"), (4, "write fault")
 # The words of a context, and what is told behind it.

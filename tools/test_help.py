@@ -15,7 +15,7 @@ WORDS = TOP / "crates/rh_words"
 # The constants that --help tells of, and where they stand.
 CONSTANTS = {
     "MOST_GIVEN": TOP / "crates/rh_generate/src/count.rt",
-    "MOST_INPUT": WORDS / "src/word.rt",
+    "MOST_INPUT": TOP / "crates/rh_word/src/word.rt",
     "MOST_BYTES": TOP / "crates/rh_show/src/reader.rt",
 }
 # What --help tells of each, and the page.

@@ -14,17 +14,17 @@ use Rattle.rh_words.specs.declared.form.Form.{Form}
 use Rattle.rh_words.specs.declared.form.Form.TheVariants.{Replay, Show, Name, Play, Make, Help, Version}
 use Rattle.rh_words.specs.declared.status.Status.{Status}
 use Rattle.rh_words.specs.declared.status.Status.TheVariants as statuses
-use Rattle.rh_words.specs.declared.word.Ended.{Ended}
-use Rattle.rh_words.specs.declared.word.Ended.TheVariants as ends
-use Rattle.rh_words.specs.Words.{IsBegun, most_input}
+use Rattle.rh_word.specs.declared.word.Ended.{Ended}
+use Rattle.rh_word.specs.declared.word.Ended.TheVariants as ends
+use Rattle.rh_word.specs.Words.{IsBegun, most_input}
 use Rattle.rh_words.specs.Statuses.{status_of}
 use Rattle.rh_words.specs.Replay.{IsReplayed}
-use Rattle.rh_words.specs.Show.{IsShown}
-use Rattle.rh_words.specs.Name.{IsNamed}
+use Rattle.rh_packet_words.specs.Show.{IsShown}
+use Rattle.rh_packet_words.specs.Name.{IsNamed}
 use Rattle.rh_words.specs.Play.{IsPlayed}
 use Rattle.rh_words.specs.Forms.{Outside, Reads, Tells, Ran}
 use Rattle.rh_words.specs.Memory.{IsRoomFor, RanIn, RanInMemory}
-use Rattle.rh_words.proofs.Coming.{all_came}
+use Rattle.rh_word.proofs.Coming.{all_came}
 
 -- where nothing was written before, all is what was appended
 all_written : (before after : Option (List ℕ)) (written : List ℕ) → before ≡ Some []

@@ -14,8 +14,8 @@ use Rattle.rh_world.specs.declared.any_world.AnyWorld.{AnyWorld}
 use Rattle.rh_world.specs.declared.any_world.AnyWorld.TheVariants.{Before, Direct, Settings, Roles}
 use Rattle.rh_world.specs.Any.{begun, end_line, given, round, settles, step}
 use Rattle.rh_world.proofs.Settling.{settled_by_rounds}
-use Rattle.rh_words.specs.Outputs.{Out, Gathers, Stops}
-use Rattle.rh_words.proofs.Gathering.{gathers_all, gathers_more, gathers_on, gathers_sure, stops_on, sure_front}
+use Rattle.rh_word.specs.Outputs.{Out, Gathers, Stops}
+use Rattle.rh_word.proofs.Gathering.{gathers_all, gathers_more, gathers_on, gathers_sure, stops_on, sure_front}
 
 -- ---- worlds
 

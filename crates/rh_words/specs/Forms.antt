@@ -18,13 +18,13 @@ use Rattle.rh_words.specs.declared.form.Form.{Form}
 use Rattle.rh_words.specs.declared.form.Form.TheVariants.{Replay, Show, Name, Play, Make, Help, Version}
 use Rattle.rh_words.specs.declared.status.Status.{Status}
 use Rattle.rh_words.specs.declared.status.Status.TheVariants.{Done, WriteFault, NoMemory}
-use Rattle.rh_words.specs.declared.word.Ended.{Ended}
-use Rattle.rh_words.specs.declared.word.Ended.TheVariants as ends
+use Rattle.rh_word.specs.declared.word.Ended.{Ended}
+use Rattle.rh_word.specs.declared.word.Ended.TheVariants as ends
 use Rattle.rh_words.specs.Statuses.{status_of}
-use Rattle.rh_words.specs.Words.{Answers, Counts, counts, Counted, IsTaken, IsWhole, most_input}
+use Rattle.rh_word.specs.Words.{Answers, Counts, counts, Counted, IsTaken, IsWhole, most_input}
 use Rattle.rh_words.specs.Replay.{IsReplayed}
-use Rattle.rh_words.specs.Show.{IsShown}
-use Rattle.rh_words.specs.Name.{IsNamed}
+use Rattle.rh_packet_words.specs.Show.{IsShown}
+use Rattle.rh_packet_words.specs.Name.{IsNamed}
 use Rattle.rh_words.specs.Play.{IsPlayed}
 
 -- the words that ask for it

@@ -1,14 +1,7 @@
-pub mod Outputs
-pub mod Words
 pub mod Statuses
 pub mod Replay
 pub mod Replays
-pub mod Show
-pub mod Shows
-pub mod Name
-pub mod Names
 pub mod Play
 pub mod Plays
 pub mod Forms
 pub mod Memory
-pub mod Numerals

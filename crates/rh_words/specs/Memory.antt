@@ -11,10 +11,10 @@ use Rattle.rh_words.specs.declared.form.Form.{Form}
 use Rattle.rh_words.specs.declared.form.Form.TheVariants.{Replay, Show, Name, Play, Make, Help, Version}
 use Rattle.rh_words.specs.declared.status.Status.{Status}
 use Rattle.rh_words.specs.declared.status.Status.TheVariants as statuses
-use Rattle.rh_words.specs.Words.{most_input}
+use Rattle.rh_word.specs.Words.{most_input}
 use Rattle.rh_words.specs.Replay.{IsReplayed}
-use Rattle.rh_words.specs.Show.{IsShown}
-use Rattle.rh_words.specs.Name.{IsNamed}
+use Rattle.rh_packet_words.specs.Show.{IsShown}
+use Rattle.rh_packet_words.specs.Name.{IsNamed}
 use Rattle.rh_words.specs.Play.{IsPlayed}
 
 -- what a form writes of a text, whole; `help` and `version` are what the program tells of itself

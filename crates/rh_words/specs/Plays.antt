@@ -5,7 +5,7 @@ use Rattle.rh_script.specs.declared.step.Step.{Step}
 use Rattle.rh_script.specs.Scripts.{StepText, script}
 use Rattle.rh_play.specs.Players.{Player, step, answers}
 use Rattle.rh_play.specs.Answers.{told_text, script_text}
-use Rattle.rh_words.specs.Words.{Tells, SaysOf}
+use Rattle.rh_word.specs.Words.{Tells, SaysOf}
 use Rattle.rh_words.specs.Play.{answered, playing, IsPlayed}
 
 pub goes_on : (player : Player) (place : Unit {0}) (text : List ℕ) (line : Step)

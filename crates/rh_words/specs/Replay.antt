@@ -9,7 +9,7 @@ use Rattle.rh_world.specs.declared.any_world.AnyWorld.{AnyWorld}
 use Rattle.rh_world.specs.declared.any_world.AnyWorld.TheVariants.{Before}
 use Rattle.rh_world.specs.Any.{run, step, last}
 use Rattle.rh_record.specs.Events.Order.{InOrder}
-use Rattle.rh_words.specs.Words.{Deeds}
+use Rattle.rh_word.specs.Words.{Deeds}
 
 -- it starts before the first line, does a line to the world that it makes, and writes the text of
 -- what is answered

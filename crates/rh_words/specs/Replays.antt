@@ -9,7 +9,7 @@ use Rattle.rh_world.specs.declared.any_world.AnyWorld.{AnyWorld}
 use Rattle.rh_world.specs.Any.{step, last, told}
 use Rattle.rh_record.proofs.Reports.{report_text-append}
 use Rattle.rh_world.proofs.Either.{direct_in_order}
-use Rattle.rh_words.specs.Words.{Tells, SaysOf}
+use Rattle.rh_word.specs.Words.{Tells, SaysOf}
 use Rattle.rh_words.specs.Replay.{replaying, IsReplayed}
 
 pub goes_on : (world : AnyWorld) (place : Place) (text : List ℕ) (line : Line)

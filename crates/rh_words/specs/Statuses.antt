@@ -3,8 +3,8 @@ use Rattle.std.specs.Prelude.{ℕ, List, ◌++◌, codes}
 use Rattle.std.specs.Fmt.{decimal}
 use Rattle.rh_words.specs.declared.status.Status.{Status}
 use Rattle.rh_words.specs.declared.status.Status.TheVariants.{Done, Usage, BadInput, ReadFault, WriteFault, NoMemory, TooLong}
-use Rattle.rh_words.specs.declared.word.Ended.{Ended}
-use Rattle.rh_words.specs.declared.word.Ended.TheVariants as ends
+use Rattle.rh_word.specs.declared.word.Ended.{Ended}
+use Rattle.rh_word.specs.declared.word.Ended.TheVariants as ends
 
 abbrev pub status_number : Status → ℕ
 status_number Done = 0

@@ -1,10 +1,9 @@
 //! Plays a script to one node at a time.
 
-use crate::output::{PIECE, Unfinished, pass_on};
-use crate::word::Word;
 use rh_io::Sink;
 use rh_play::{Player, write_told};
 use rh_script::{Script, Step, StepRefused, read_step};
+use rh_word::{PIECE, Unfinished, Word, pass_on};
 use std::alloc::{AllocError, Global};
 use std::marker::Model;
 

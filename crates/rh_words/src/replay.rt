@@ -7,12 +7,11 @@ ghost use Rattle.rh_record.specs.declared.line.Line.TheVariants.{Settle};
 ghost use Rattle.rh_record.specs.declared.answer.Answer.{Answer};
 ghost use Rattle.rh_world.specs.declared.any_world.AnyWorld.{AnyWorld};
 ghost use Rattle.rh_world.specs.Any as seen;
-ghost use Rattle.rh_words.specs.Outputs.{out, Gathers, Stops};
+ghost use Rattle.rh_word.specs.Outputs.{out, Gathers, Stops};
 
-use crate::output::{PIECE, Unfinished, pass_on};
-use crate::word::{MOST_INPUT, Word};
 use rh_io::Sink;
 use rh_record::{Answer, Line, LineRefused, Place, Recording, Report, read_line, write_report};
+use rh_word::{MOST_INPUT, PIECE, Unfinished, Word, pass_on};
 use rh_world::AnyWorld;
 use std::alloc::{AllocError, Global};
 use std::marker::Model;

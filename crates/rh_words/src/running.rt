@@ -8,18 +8,17 @@ ghost use Rattle.rh_words.specs.Forms.{IsForm, Ran, outside};
 use crate::claims::Claims;
 use crate::form::{Form, form_of};
 use crate::help::HELP;
-use crate::name::Name;
 use crate::play::Play;
 use crate::replay::Replay;
-use crate::show::Show;
 use crate::status::Status;
 use crate::telling::{tell, tell_summary};
-use crate::word::answer;
 use rh_io::{Sink, Source};
 use rh_name::Names;
+use rh_packet_words::{Name, Show};
 use rh_record::Recording;
 use rh_script::Script;
 use rh_show::Packets;
+use rh_word::answer;
 use std::alloc::Global;
 
 /// What `--version` tells.

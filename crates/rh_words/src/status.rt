@@ -1,6 +1,6 @@
 //! How the program ends.
 
-use crate::word::Ended;
+use rh_word::Ended;
 use std::fmt::{self, Display, Formatter, Write};
 
 /// How a run ended. Its number is the program's exit status, and its text goes to standard error.

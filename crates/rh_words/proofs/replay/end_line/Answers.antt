@@ -2,9 +2,9 @@
 use Rattle.std.proofs.Common.{◌++◌, ◌∷◌, string_bytes}
 use Rattle.rh_record.specs.Report.{report_text}
 use Rattle.rh_world.specs.Any as seen
-use Rattle.rh_words.specs.Outputs.{out}
-use Rattle.rh_words.proofs.Results.{at_error}
-use Rattle.rh_words.proofs.Gathering.{stops_now}
+use Rattle.rh_word.specs.Outputs.{out}
+use Rattle.rh_word.proofs.Results.{at_error}
+use Rattle.rh_word.proofs.Gathering.{stops_now}
 use Rattle.rh_words.proofs.replay.end_line.Goals as goal
 
 pub returns-in_err-push-clause-err : goal.returns-in_err-push-clause-err

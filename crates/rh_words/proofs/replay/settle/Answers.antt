@@ -6,8 +6,8 @@ use Rattle.rh_record.specs.declared.answer.Answer.TheVariants.{Quiet, Spent}
 use Rattle.rh_record.specs.Report.{report_text}
 use Rattle.rh_world.specs.declared.any_world.AnyWorld.{AnyWorld}
 use Rattle.rh_world.specs.Any as seen
-use Rattle.rh_words.specs.Outputs.{out, Gathers, Stops}
-use Rattle.rh_words.proofs.Results.{at_error, of_err, map_ok, map_err}
+use Rattle.rh_word.specs.Outputs.{out, Gathers, Stops}
+use Rattle.rh_word.proofs.Results.{at_error, of_err, map_ok, map_err}
 use Rattle.rh_words.proofs.Settling.{Settling, settling_first, settling_more, settling_stops, settling_sure}
 use Rattle.rh_words.proofs.Settling.{Ending, quiet_ends, spent_ends, ending_world, ending_given, ending_gathers, ending_stops, ending_sure}
 use Rattle.rh_words.proofs.replay.settle.Given.{Over}

@@ -1,7 +1,7 @@
 -- what the rounds reported so far was gathered, and a front of it written
 use Rattle.std.proofs.Common.{◌≡◌, true, string_bytes}
 use Rattle.rh_world.specs.Any.{settles}
-use Rattle.rh_words.specs.Outputs.{out}
+use Rattle.rh_word.specs.Outputs.{out}
 use Rattle.rh_words.proofs.Settling.{Settling}
 use Rattle.rh_words.proofs.replay.settle.Given as goal
 

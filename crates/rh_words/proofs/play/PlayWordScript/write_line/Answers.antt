@@ -3,12 +3,12 @@ use Rattle.std.proofs.Common.{◌≡◌, ◌≢◌, ◌≤◌, List, ℕ, ◌++�
 use Rattle.std.specs.declared.option.Option.{Option}
 use Rattle.std.specs.declared.result.Result.{Result}
 use Rattle.rh_play.specs.Players.{Player}
-use Rattle.rh_words.specs.Outputs.{Out, out, Gathers, Stops}
+use Rattle.rh_word.specs.Outputs.{Out, out, Gathers, Stops}
 use Rattle.rh_words.specs.Plays.{goes_on}
-use Rattle.rh_words.specs.declared.output.Unfinished.{Unfinished}
-use Rattle.rh_words.specs.declared.output.Unfinished.TheVariants.{WriteFault}
-use Rattle.rh_words.proofs.Results.{at_error, map_err, ok_no_err}
-use Rattle.rh_words.proofs.Gathering.{stops_now}
+use Rattle.rh_word.specs.declared.output.Unfinished.{Unfinished}
+use Rattle.rh_word.specs.declared.output.Unfinished.TheVariants.{WriteFault}
+use Rattle.rh_word.proofs.Results.{at_error, map_err, ok_no_err}
+use Rattle.rh_word.proofs.Gathering.{stops_now}
 use Rattle.rh_words.proofs.play.PlayWordScript.write_line.Goals as goal
 
 -- the player behind a line, beside the text of what it is answered

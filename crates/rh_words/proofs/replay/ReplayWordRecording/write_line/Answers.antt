@@ -7,10 +7,10 @@ use Rattle.rh_record.specs.Recording.{IsLine}
 use Rattle.rh_record.specs.Readings.{one_line}
 use Rattle.rh_record.specs.Report.{report_text}
 use Rattle.rh_world.specs.Any as seen
-use Rattle.rh_words.specs.Outputs.{out}
+use Rattle.rh_word.specs.Outputs.{out}
 use Rattle.rh_words.specs.Replays.{goes_on}
-use Rattle.rh_words.proofs.Results.{at_error, of_err}
-use Rattle.rh_words.proofs.Gathering.{stops_now}
+use Rattle.rh_word.proofs.Results.{at_error, of_err}
+use Rattle.rh_word.proofs.Gathering.{stops_now}
 use Rattle.rh_words.proofs.replay.ReplayWordRecording.write_line.Goals as goal
 
 -- a text that spells a line at a place spells no other one

@@ -1,0 +1,4 @@
+pub mod Show
+pub mod Shows
+pub mod Name
+pub mod Names

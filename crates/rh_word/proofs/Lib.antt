@@ -1,0 +1,4 @@
+pub mod Results
+pub mod Coming
+pub mod Gathering
+mod Writing

@@ -1,0 +1,8 @@
+//! The numbers of the program, written out. This function does nothing: its contract is the law.
+
+ghost use Rattle.rh_word.specs.Numerals.{AreFixed};
+
+/// Each number of this crate is that of the profile.
+pub fn numbers_are_fixed()
+    ensures { AreFixed }
+{}
