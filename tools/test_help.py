@@ -14,7 +14,7 @@ from help_page import PAGE, TOP, forms, help_page, rows_of_page, statuses
 WORDS = TOP / "crates/rh_words"
 # The constants that --help tells of, and where they stand.
 CONSTANTS = {
-    "MOST_GIVEN": TOP / "crates/rh_generate/src/count.rt",
+    "MOST_GIVEN": TOP / "crates/rh_made/src/count.rt",
     "MOST_INPUT": TOP / "crates/rh_word/src/word.rt",
     "MOST_BYTES": TOP / "crates/rh_show/src/reader.rt",
 }

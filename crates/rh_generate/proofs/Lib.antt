@@ -1,4 +1,2 @@
-pub mod Pdus
 pub mod Steps
 pub mod Recordings
-pub mod Standing

@@ -1,7 +1,7 @@
 -- a generated recording, made PDU by PDU
 use Rattle.std.proofs.Common.{◌≡◌, ℕ, ◌+◌, [], ◌∷◌, true, refl, ◌∙◌, ap, add-one}
 use Rattle.rh_record.specs.declared.line.Line.TheVariants.{First}
-use Rattle.rh_generate.specs.Making.{ending, front, turn}
+use Rattle.rh_made.specs.Making.{ending, front, turn}
 use Rattle.rh_generate.specs.Steps.{Made, do_all, made_by}
 use Rattle.rh_generate.specs.Summaries.{summary, summary_of}
 use Rattle.rh_generate.proofs.Steps.{all_more}

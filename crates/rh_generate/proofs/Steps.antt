@@ -1,9 +1,8 @@
 -- lines done one after the other come to what they come to together
 use Rattle.std.proofs.Common.{◌≡◌, ℕ, ◌+◌, List, [], ◌∷◌, ◌++◌, add-zero, append_assoc}
-use Rattle.std.proofs.Common.{arith, refl, sym, ◌∙◌, ap}
+use Rattle.std.proofs.Common.{refl, sym, ◌∙◌, ap}
 use Rattle.std.proofs.lemmas.List.{append-nil}
 use Rattle.std.proofs.lemmas.List.Sums.{sum_by-append}
-use Rattle.std.proofs.lemmas.Bool.Decides.{nat_tests}
 use Rattle.std.specs.List.{sum_by}
 use Rattle.rh_pdu.specs.Feeding.{capped}
 use Rattle.rh_record.specs.declared.answer.Answer.{Answer}
@@ -12,8 +11,8 @@ use Rattle.rh_record.specs.declared.line.Line.TheVariants.{Set}
 use Rattle.rh_world.specs.declared.any_world.AnyWorld.{AnyWorld}
 use Rattle.rh_world.specs.declared.any_world.AnyWorld.TheVariants.{Before, Direct, Settings, Roles}
 use Rattle.rh_world.specs.Any.{act, after, answers, given, last, prepared, run, step, told}
-use Rattle.rh_generate.specs.Sums.{bytes_of, moved, rounds, rounds_of}
-use Rattle.rh_generate.specs.Tallies.{tally_of, with}
+use Rattle.rh_made.specs.Sums.{bytes_of, moved, rounds, rounds_of}
+use Rattle.rh_made.proofs.Tallies.{tallied}
 use Rattle.rh_generate.specs.Steps.{IsOfRoles, Made, do_all, does, made_by}
 
 -- ---- worlds of roles
@@ -43,19 +42,6 @@ pub stays_roles : (world : AnyWorld) (line : Line) → IsOfRoles world
     → IsOfRoles (step world line).0
 stays_roles world line h =
     act_of_roles (prepared world line) line (prepared_of_roles world line h)
-
--- ---- sums
-
-capped_more : (a b : ℕ) → capped (capped a + b) ≡ capped (a + b)
-capped_more a b = grind (arith, nat_tests)
-
-counted : (f : Answer → ℕ) (front more : List Answer)
-    → capped (capped (sum_by f front) + sum_by f more) ≡ capped (sum_by f (front ++ more))
-counted f front more =
-    capped_more (sum_by f front) (sum_by f more) ∙ ap capped (sym (sum_by-append f front more))
-
-tallied : (front more : List Answer) → with (tally_of front) more ≡ tally_of (front ++ more)
-tallied front more = rw (counted bytes_of front more, counted rounds_of front more) refl
 
 -- ---- lines
 

@@ -1,8 +1,2 @@
-pub mod Requests
-pub mod Making
-pub mod Standing
-pub mod Sums
-pub mod Tallies
 pub mod Steps
 pub mod Summaries
-pub mod Numerals

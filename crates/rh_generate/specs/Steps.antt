@@ -4,8 +4,8 @@ use Rattle.rh_record.specs.declared.line.Line.{Line}
 use Rattle.rh_world.specs.declared.any_world.AnyWorld.{AnyWorld}
 use Rattle.rh_world.specs.declared.any_world.AnyWorld.TheVariants.{Before, Direct, Settings, Roles}
 use Rattle.rh_world.specs.Any.{after, answers, step}
-use Rattle.rh_generate.specs.declared.tally.Tally.{Tally}
-use Rattle.rh_generate.specs.Tallies.{with, tally_of}
+use Rattle.rh_made.specs.declared.tally.Tally.{Tally}
+use Rattle.rh_made.specs.Tallies.{with, tally_of}
 
 -- the world behind lines, and what their answers come to
 pub record Made : Type 0 where

@@ -1,12 +1,10 @@
--- the summary of a generated recording, and its text (profile)
-use Rattle.std.specs.Prelude.{ℕ, List, ◌++◌, codes}
-use Rattle.std.specs.Fmt.{decimal}
-use Rattle.rh_record.specs.Report.{report_text}
+-- the summary of a generated recording (profile)
+use Rattle.std.specs.Prelude.{ℕ}
 use Rattle.rh_world.specs.declared.any_world.AnyWorld.TheVariants.{Before}
 use Rattle.rh_world.specs.Any.{after, answers, last}
-use Rattle.rh_generate.specs.declared.summary.Summary.{Summary}
-use Rattle.rh_generate.specs.Making.{lines}
-use Rattle.rh_generate.specs.Sums.{moved, rounds}
+use Rattle.rh_made.specs.declared.summary.Summary.{Summary}
+use Rattle.rh_made.specs.Making.{lines}
+use Rattle.rh_made.specs.Sums.{moved, rounds}
 use Rattle.rh_generate.specs.Steps.{Made}
 
 -- of the recording of n PDUs
@@ -21,10 +19,3 @@ summary n = record {
 abbrev pub summary_of : Made → Summary
 summary_of made =
     record { last = last made.world; moved = made.tally.moved; rounds = made.tally.rounds }
-
--- the last lines of the report, and a line for each sum
-abbrev pub summary_text : Summary → List ℕ
-summary_text s =
-    report_text s.last
-    ++ (codes "moved " ++ (decimal s.moved
-    ++ (codes "\nrounds " ++ (decimal s.rounds ++ codes "\n"))))

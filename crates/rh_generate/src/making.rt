@@ -1,23 +1,14 @@
 //! Makes a recording of roles, a line at a time, and sums up what it is answered.
 
 ghost use Rattle.std.specs.Prelude.{◌≡◌, [], ◌∷◌, true, IfOk, OnOk};
-ghost use Rattle.rh_generate.specs.Making as lines;
+ghost use Rattle.rh_made.specs.Making as lines;
 ghost use Rattle.rh_generate.specs.Summaries.{summary, summary_of};
 
-use crate::count::MakeCount;
-use crate::requests::pdu;
-use crate::summary::Summary;
-use crate::tally::Tally;
+use rh_made::{MakeCount, ROUNDS, Summary, Tally, giver, pdu, settles};
 use rh_record::{Line, Report, Side};
 use rh_world::AnyWorld;
 use std::alloc::{AllocError, Global};
 use std::marker::Model;
-
-/// How many rounds a settling has at most.
-pub const ROUNDS: u32 = 1000;
-
-/// Behind each so many PDUs all settles.
-pub const SETTLED_AFTER: u32 = 16;
 
 /// The world of the lines so far, and what they were answered comes to.
 #[derive(Drop)]
@@ -34,24 +25,6 @@ impl Model for Making {
     ghost Value = { seen.Made };
 
     ghost view = { λ a. record { world = a.world; tally = a.tally } };
-}
-
-/// The end at which the PDU of this number is given.
-fn giver(number: u32) -> Side
-    ensures { result ≡ lines.giver number }
-{
-    if number % 2 == 1 {
-        Side::Client
-    } else {
-        Side::Server
-    }
-}
-
-/// Whether all settles behind the PDU of this number, of so many.
-fn settles(count: u32, number: u32) -> bool
-    ensures { result ≡ lines.settles count number }
-{
-    number % SETTLED_AFTER == 0 || number == count
 }
 
 impl Making {

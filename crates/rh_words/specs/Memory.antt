@@ -6,7 +6,8 @@ use Rattle.rh_record.specs.Places.{recording}
 use Rattle.rh_show.specs.Lines.{packets}
 use Rattle.rh_name.specs.Lines.{asked}
 use Rattle.rh_script.specs.Scripts.{script}
-use Rattle.rh_generate.specs.Summaries.{summary, summary_text}
+use Rattle.rh_made.specs.Texts.{summary_text}
+use Rattle.rh_generate.specs.Summaries.{summary}
 use Rattle.rh_words.specs.declared.form.Form.{Form}
 use Rattle.rh_words.specs.declared.form.Form.TheVariants.{Replay, Show, Name, Play, Make, Help, Version}
 use Rattle.rh_words.specs.declared.status.Status.{Status}

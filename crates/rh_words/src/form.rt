@@ -2,11 +2,11 @@
 
 ghost use Rattle.std.specs.Prelude.{◌≡◌, ◌≢◌, ◌∷◌, ℕ, [], MatchOption};
 ghost use Rattle.std.specs.Fmt.{decimal};
-ghost use Rattle.rh_generate.specs.Making.{IsCount};
+ghost use Rattle.rh_made.specs.Making.{IsCount};
 ghost use Rattle.rh_words.specs.declared.form.Form.{Form};
 ghost use Rattle.rh_words.specs.Forms.{IsForm, IsMade, form_words};
 
-use rh_generate::count::MOST_GIVEN;
+use rh_made::MOST_GIVEN;
 use rh_text::read_number;
 
 /// What the words ask for.

@@ -1,13 +1,15 @@
 //! The words that read nothing write a text whole.
 
 ghost use Rattle.std.specs.Prelude.{◌≡◌, ◌≢◌, IfOk, string_bytes};
-ghost use Rattle.rh_generate.specs.Making.{IsCount};
-ghost use Rattle.rh_generate.specs.Summaries.{summary, summary_text};
+ghost use Rattle.rh_made.specs.Making.{IsCount};
+ghost use Rattle.rh_made.specs.Texts.{summary_text};
+ghost use Rattle.rh_generate.specs.Summaries.{summary};
 ghost use Rattle.rh_words.specs.Forms.{Tells};
 
 use crate::status::Status;
-use rh_generate::{MakeCount, make, write_summary};
+use rh_generate::make;
 use rh_io::{Sink, SinkFailed, write_whole};
+use rh_made::{MakeCount, write_summary};
 use std::alloc::{AllocError, Global};
 
 /// Generates a recording of so many PDUs, runs it, and writes what its report comes to.

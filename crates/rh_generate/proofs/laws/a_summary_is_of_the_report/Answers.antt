@@ -1,6 +1,6 @@
 use Rattle.std.specs.Prelude.{ℕ}
 use Rattle.rh_world.specs.declared.any_world.AnyWorld.TheVariants.{Before}
-use Rattle.rh_generate.specs.Making.{lines}
+use Rattle.rh_made.specs.Making.{lines}
 use Rattle.rh_generate.proofs.Steps.{moved_told, rounds_told, told_is}
 use Rattle.rh_generate.proofs.laws.a_summary_is_of_the_report.Goals as goal
 

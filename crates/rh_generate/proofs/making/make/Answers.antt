@@ -1,6 +1,6 @@
 use Rattle.std.proofs.Common.{◌≡◌, IfOk, ℕ, arith, ◌∙◌, ap, subst}
-use Rattle.rh_generate.specs.declared.summary.Summary.{Summary}
-use Rattle.rh_generate.specs.Making.{front}
+use Rattle.rh_made.specs.declared.summary.Summary.{Summary}
+use Rattle.rh_made.specs.Making.{front}
 use Rattle.rh_generate.specs.Steps.{made_by}
 use Rattle.rh_generate.specs.Summaries.{summary, summary_of}
 use Rattle.rh_generate.proofs.Recordings.{begun, one_turn, summed}

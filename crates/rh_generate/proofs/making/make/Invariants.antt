@@ -1,6 +1,6 @@
 -- the lines up to those of the PDUs before were done
 use Rattle.std.proofs.Common.{◌≡◌}
-use Rattle.rh_generate.specs.Making.{front}
+use Rattle.rh_made.specs.Making.{front}
 use Rattle.rh_generate.specs.Steps.{IsOfRoles, made_by}
 use Rattle.rh_generate.proofs.making.make.Given as goal
 

@@ -1,8 +1,8 @@
 -- the numbers of a generated recording, written out
 use Rattle.std.specs.Prelude.{◌≡◌}
-use Rattle.rh_generate.specs.declared.count.TheConstants.{MOST_GIVEN}
-use Rattle.rh_generate.specs.declared.requests.TheConstants.{LEAST_SIZE, SIZE_STEP, SIZES}
-use Rattle.rh_generate.specs.declared.making.TheConstants.{ROUNDS, SETTLED_AFTER}
+use Rattle.rh_made.specs.declared.count.TheConstants.{MOST_GIVEN}
+use Rattle.rh_made.specs.declared.requests.TheConstants.{LEAST_SIZE, SIZE_STEP, SIZES}
+use Rattle.rh_made.specs.declared.lines.TheConstants.{ROUNDS, SETTLED_AFTER}
 
 pub record AreFixed : Type 0 where
   -- the most PDUs, and their sizes in bytes (profile)

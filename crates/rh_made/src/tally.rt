@@ -1,16 +1,18 @@
 //! What the answers of a report come to.
 
 ghost use Rattle.std.specs.Prelude.{◌≡◌};
-ghost use Rattle.rh_generate.specs.Sums as seen;
+ghost use Rattle.rh_made.specs.Sums as seen;
 
 use rh_record::Answer;
 
 /// The bytes of moves, and the rounds of settlings. A sum that passes the greatest number of 64
 /// bits stays there.
 #[derive(Clone, Copy)]
-pub(crate) struct Tally {
-    pub(crate) moved: u64,
-    pub(crate) rounds: u64,
+pub struct Tally {
+    /// How many bytes all moves moved.
+    pub moved: u64,
+    /// How many rounds all settlings had.
+    pub rounds: u64,
 }
 
 /// How many bytes a move moved; 0 where the answer is to something else.
@@ -37,10 +39,10 @@ fn rounds_of(answer: &Answer) -> u64
 }
 
 impl Tally {
-    ghost use Rattle.rh_generate.specs.Tallies.{none, with};
+    ghost use Rattle.rh_made.specs.Tallies.{none, with};
 
     /// That of no answers.
-    pub(crate) fn none() -> Tally
+    pub fn none() -> Tally
         ensures { result ≡ none }
     {
         Tally {
@@ -50,7 +52,7 @@ impl Tally {
     }
 
     /// Adds these answers.
-    pub(crate) fn add(&mut self, answers: &[Answer])
+    pub fn add(&mut self, answers: &[Answer])
         ensures { self.new ≡ with self.old answers.now }
     {
         for answer in answers {

@@ -1,5 +1,5 @@
-use Rattle.rh_generate.proofs.Pdus as pdus
-use Rattle.rh_generate.proofs.laws.a_pdu_is_made.Goals as goal
+use Rattle.rh_made.proofs.Pdus as pdus
+use Rattle.rh_made.proofs.laws.a_pdu_is_made.Goals as goal
 
 pub returns-clause-sound : goal.returns-clause-sound
 returns-clause-sound c = pdus.pdu_is

@@ -2,7 +2,7 @@
 
 ghost use Rattle.std.specs.Prelude.{string_bytes};
 ghost use Rattle.rh_text.specs.Writing.{Writes};
-ghost use Rattle.rh_generate.specs.Summaries.{summary_text};
+ghost use Rattle.rh_made.specs.Texts.{summary_text};
 
 use crate::summary::Summary;
 use rh_record::write_report;

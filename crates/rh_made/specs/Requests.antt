@@ -3,7 +3,7 @@
 use Rattle.std.specs.Prelude.{ℕ, ◌+◌, ◌-◌, ◌*◌, ◌%◌, List, [], ◌∷◌, ◌++◌, replicate}
 use Rattle.std.specs.Int.{w16, w32, to_le_bytes}
 use Rattle.rh_pdu.specs.Header.{header_length}
-use Rattle.rh_generate.specs.declared.requests.TheConstants.{LEAST_SIZE, SIZE_STEP, SIZES}
+use Rattle.rh_made.specs.declared.requests.TheConstants.{LEAST_SIZE, SIZE_STEP, SIZES}
 
 -- how many bytes PDU i has
 abbrev pub size : ℕ → ℕ

@@ -8,7 +8,7 @@ use Rattle.rh_pdu.specs.Checking.{pdu_fault}
 use Rattle.rh_pdu.specs.Frames.{IsPdu}
 use Rattle.rh_pdu.specs.Header.{frag_of, head_fault}
 use Rattle.rh_pdu.proofs.Pdus.{none_from_pdu}
-use Rattle.rh_generate.specs.Requests.{header, pdu, size}
+use Rattle.rh_made.specs.Requests.{header, pdu, size}
 
 size_bounds : (i : ℕ) → (24 ≤ size i) × (size i < 5024)
 size_bounds i =

@@ -13,7 +13,7 @@ pub struct MakeCount {
 
 impl Model for MakeCount {
     ghost use Rattle.std.specs.Prelude.{ℕ};
-    ghost use Rattle.rh_generate.specs.Making.{IsCount};
+    ghost use Rattle.rh_made.specs.Making.{IsCount};
 
     ghost Value = { ℕ };
 
@@ -26,7 +26,7 @@ impl Model for MakeCount {
 
 impl MakeCount {
     ghost use Rattle.std.specs.Prelude.{◌≡◌, MatchOption};
-    ghost use Rattle.rh_generate.specs.Making.{IsCount};
+    ghost use Rattle.rh_made.specs.Making.{IsCount};
 
     /// So many PDUs; `None` where that is not 1 to 10,000.
     pub fn new(count: u32) -> Option<MakeCount>

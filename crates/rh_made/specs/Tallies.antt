@@ -3,8 +3,8 @@ use Rattle.std.specs.Prelude.{◌+◌, List}
 use Rattle.std.specs.List.{sum_by}
 use Rattle.rh_pdu.specs.Feeding.{capped}
 use Rattle.rh_record.specs.declared.answer.Answer.{Answer}
-use Rattle.rh_generate.specs.declared.tally.Tally.{Tally}
-use Rattle.rh_generate.specs.Sums.{bytes_of, rounds_of, moved, rounds}
+use Rattle.rh_made.specs.declared.tally.Tally.{Tally}
+use Rattle.rh_made.specs.Sums.{bytes_of, rounds_of, moved, rounds}
 
 abbrev pub none : Tally
 none = record { moved = 0; rounds = 0 }

@@ -1,6 +1,6 @@
 use Rattle.std.proofs.lemmas.Result.{err_from_is_err_and}
 use Rattle.rh_text.proofs.Appending.{writes_both, writes_one}
-use Rattle.rh_generate.proofs.writing.write_summary.Goals as goal
+use Rattle.rh_made.proofs.writing.write_summary.Goals as goal
 
 pub returns-in_err-write_report : goal.returns-in_err-write_report
 returns-in_err-write_report c =

@@ -5,9 +5,9 @@ use Rattle.rh_text.specs.declared.ends.Side.{Side}
 use Rattle.rh_text.specs.declared.ends.Side.TheVariants.{Client, Server}
 use Rattle.rh_record.specs.declared.line.Line.{Line}
 use Rattle.rh_record.specs.declared.line.Line.TheVariants.{First, Give, Close, Settle}
-use Rattle.rh_generate.specs.declared.count.TheConstants.{MOST_GIVEN}
-use Rattle.rh_generate.specs.declared.making.TheConstants.{ROUNDS, SETTLED_AFTER}
-use Rattle.rh_generate.specs.Requests.{pdu}
+use Rattle.rh_made.specs.declared.count.TheConstants.{MOST_GIVEN}
+use Rattle.rh_made.specs.declared.lines.TheConstants.{ROUNDS, SETTLED_AFTER}
+use Rattle.rh_made.specs.Requests.{pdu}
 
 -- how many PDUs may be given
 abbrev pub IsCount : ℕ → Type 0

@@ -5,8 +5,8 @@ use Rattle.rh_record.specs.declared.line.Line.{Line}
 use Rattle.rh_record.specs.declared.place.Place.{Place}
 use Rattle.rh_record.specs.declared.place.Place.TheVariants.{Header, Settings, Roles}
 use Rattle.rh_record.specs.Places.{MayFollow, next, no_keys}
-use Rattle.rh_generate.specs.Making.{ending, front, lines, settle, settles, turn}
-use Rattle.rh_generate.specs.Standing.{MayStand}
+use Rattle.rh_made.specs.Making.{ending, front, lines, settle, settles, turn}
+use Rattle.rh_made.specs.Standing.{MayStand}
 
 -- lines may stand from a place on, up to another
 abbrev Reaches : Place → List Line → Place → Type 0

@@ -1,7 +1,7 @@
 //! The PDUs that a generated recording gives.
 
 ghost use Rattle.std.specs.Prelude.{◌≡◌, IfOk};
-ghost use Rattle.rh_generate.specs.Requests as seen;
+ghost use Rattle.rh_made.specs.Requests as seen;
 
 use rh_pdu::header::{HEADER_LEN, VERSION};
 use rh_record::Bytes;

@@ -1,5 +1,0 @@
-use Rattle.rh_generate.proofs.Standing.{lines_stand}
-use Rattle.rh_generate.proofs.laws.a_recording_is_made.Goals as goal
-
-pub returns : goal.returns
-returns c = lines_stand
