@@ -16,8 +16,8 @@ use Rattle.rh_script.specs.declared.step.Act.{Act}
 use Rattle.rh_script.specs.declared.step.Act.TheVariants as acts
 use Rattle.rh_script.specs.declared.step.Step.{Step}
 use Rattle.rh_script.specs.declared.step.Step.TheVariants as steps
-use Rattle.rh_play.specs.declared.told.Told.{Told}
-use Rattle.rh_play.specs.declared.told.Told.TheVariants as told
+use Rattle.rh_told.specs.declared.told.Told.{Told}
+use Rattle.rh_told.specs.declared.told.Told.TheVariants as told
 use Rattle.rh_play.specs.Nodes as nodes
 
 -- the numbers of the nodes that will begin, and the node that plays, where one began

@@ -3,10 +3,7 @@
 
 pub mod node;
 pub mod player;
-pub mod server;
-pub mod told;
+mod target;
 
 pub use node::Node;
 pub use player::Player;
-pub use server::Target;
-pub use told::{Told, write_told};

@@ -8,7 +8,7 @@ ghost use Rattle.rh_world.specs.Hosts as hosts;
 ghost use Rattle.rh_world.specs.Roles as roles;
 ghost use Rattle.rh_play.specs.Nodes as seen;
 
-use crate::server::Target;
+use crate::target::target_of;
 use rh_client::{Client, ClientConfig};
 use rh_http::Host;
 use rh_inproxy::{InProxy, InProxyConfig};
@@ -20,6 +20,7 @@ use rh_rts::Cookie;
 use rh_script::{Ask, Cut, Loss, Part};
 use rh_server::{FirstKind, Server, ServerConfig, first_kind};
 use rh_text::Bytes;
+use rh_told::Target;
 use rh_world::WorldConfig;
 use rh_world::roles::{CLIENT_ADDRESS, PORT};
 use std::alloc::{AllocError, Global};
@@ -455,8 +456,8 @@ impl Node {
         ensures { result ≡ seen.target self.now }
     {
         match self {
-            Node::InProxy(node) => Some(Target::of(node.target())),
-            Node::OutProxy(node) => Some(Target::of(node.target())),
+            Node::InProxy(node) => Some(target_of(node.target())),
+            Node::OutProxy(node) => Some(target_of(node.target())),
             Node::Client(_) | Node::Server(_) => None,
         }
     }

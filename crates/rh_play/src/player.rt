@@ -4,10 +4,10 @@ ghost use Rattle.std.specs.Prelude.{◌≡◌, IfOk};
 ghost use Rattle.rh_play.specs.Players as seen;
 
 use crate::node::Node;
-use crate::told::Told;
 use rh_record::{Answer, Key};
 use rh_rts::NO_COOKIE;
 use rh_script::{Act, Part, Step, Words};
+use rh_told::Told;
 use rh_world::{Roles, WorldConfig};
 use std::alloc::{AllocError, Global};
 use std::marker::Model;

@@ -4,7 +4,7 @@ use Rattle.rh_text.specs.Lines.{TextOf}
 use Rattle.rh_script.specs.declared.step.Step.{Step}
 use Rattle.rh_script.specs.Scripts.{script}
 use Rattle.rh_play.specs.Players.{Player, first, step, answers}
-use Rattle.rh_play.specs.Answers.{told_text, script_text}
+use Rattle.rh_told.specs.Answers.{told_text, script_text}
 use Rattle.rh_word.specs.Words.{Deeds}
 
 -- the player behind a line, and the text of what the line is answered

@@ -4,7 +4,7 @@ use Rattle.std.proofs.Common.{◌≡◌, ℕ, List, [], ◌∷◌, ◌++◌, ref
 use Rattle.rh_script.specs.declared.step.Step.{Step}
 use Rattle.rh_script.specs.Scripts.{StepText, script}
 use Rattle.rh_play.specs.Players.{Player, step, answers}
-use Rattle.rh_play.specs.Answers.{told_text, script_text}
+use Rattle.rh_told.specs.Answers.{told_text, script_text}
 use Rattle.rh_word.specs.Words.{Tells, SaysOf}
 use Rattle.rh_words.specs.Play.{answered, playing, IsPlayed}
 

@@ -1,8 +1,9 @@
 //! Plays a script to one node at a time.
 
 use rh_io::Sink;
-use rh_play::{Player, write_told};
+use rh_play::Player;
 use rh_script::{Script, Step, StepRefused, read_step};
+use rh_told::write_told;
 use rh_word::{PIECE, Unfinished, Word, pass_on};
 use std::alloc::{AllocError, Global};
 use std::marker::Model;

@@ -3,9 +3,9 @@ use Rattle.std.proofs.Common.{◌≡◌, List, ℕ, ◌++◌, Ok, Err, OnOk, ◌
 use Rattle.std.specs.declared.result.Result.{Result}
 use Rattle.rh_text.specs.Writing.{Writes}
 use Rattle.rh_script.specs.declared.step.Step.{Step}
-use Rattle.rh_play.specs.Answers.{told_text}
+use Rattle.rh_told.specs.Answers.{told_text}
 use Rattle.rh_play.specs.Players.{Player, step}
-use Rattle.rh_play.specs.declared.told.Told.{Told}
+use Rattle.rh_told.specs.declared.told.Told.{Told}
 use Rattle.rh_words.specs.Play.{Adds, answered}
 use Rattle.rh_words.proofs.play.Play.step.Goals as goal
 

@@ -7,9 +7,9 @@ ghost use Rattle.std.specs.Prelude.{◌≡◌, ◌++◌, codes, string_bytes};
 ghost use Rattle.rh_text.specs.Writing.{Writes};
 ghost use Rattle.rh_line.specs.Texts.{cause_text};
 ghost use Rattle.rh_script.specs.Steps.{ask_word, cut_word, loss_word};
-ghost use Rattle.rh_play.specs.Answers as seen;
+ghost use Rattle.rh_told.specs.Answers as seen;
 
-use crate::server::Target;
+use crate::target::Target;
 use rh_line::{Cause, Leg, State, Verdict, write_cause};
 use rh_record::{Answer, write_answer};
 use rh_script::{Ask, Cut, Loss, Part, Words};

@@ -4,7 +4,7 @@ use Rattle.std.proofs.lemmas.List.{append-nil}
 use Rattle.std.specs.declared.result.Result.{Result}
 use Rattle.rh_line.specs.declared.leg.Leg.{Leg}
 use Rattle.rh_text.specs.Writing.{Writes}
-use Rattle.rh_play.specs.Answers.{on_leg}
+use Rattle.rh_told.specs.Answers.{on_leg}
 
 -- nothing stands behind a text
 pub nothing_behind : (text before after : List ℕ) → after ≡ before ++ (text ++ [])

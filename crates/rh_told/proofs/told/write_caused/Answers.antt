@@ -3,7 +3,7 @@ use Rattle.std.proofs.lemmas.Result.{err_from_is_err_and}
 use Rattle.rh_line.specs.Texts.{cause_text}
 use Rattle.rh_text.proofs.Appending.{writes_one}
 use Rattle.rh_record.proofs.Reports.{second_failed, third_done}
-use Rattle.rh_play.proofs.told.write_caused.Goals as goal
+use Rattle.rh_told.proofs.told.write_caused.Goals as goal
 
 pub returns-in_err-push : goal.returns-in_err-push
 returns-in_err-push c =

@@ -1,9 +1,9 @@
 use Rattle.std.proofs.Common.{string_bytes}
 use Rattle.std.proofs.lemmas.Result.{err_from_is_err_and}
 use Rattle.rh_text.proofs.Appending.{writes_both, writes_one}
-use Rattle.rh_play.specs.Answers as seen
-use Rattle.rh_play.proofs.Telling.{nothing_behind, nothing_failed}
-use Rattle.rh_play.proofs.told.write_event.Goals as goal
+use Rattle.rh_told.specs.Answers as seen
+use Rattle.rh_told.proofs.Telling.{nothing_behind, nothing_failed}
+use Rattle.rh_told.proofs.told.write_event.Goals as goal
 
 pub returns-in_err-write_on_leg : goal.returns-in_err-write_on_leg
 returns-in_err-write_on_leg c =

@@ -2,8 +2,8 @@ use Rattle.std.proofs.Common.{◌++◌, codes, string_bytes}
 use Rattle.std.specs.Fmt.{decimal}
 use Rattle.std.proofs.lemmas.Result.{err_from_is_err_and}
 use Rattle.rh_text.proofs.Appending.{writes_one}
-use Rattle.rh_play.specs.Answers as seen
-use Rattle.rh_play.proofs.told.write_tick.Goals as goal
+use Rattle.rh_told.specs.Answers as seen
+use Rattle.rh_told.proofs.told.write_tick.Goals as goal
 
 pub returns-in_err-write_parts : goal.returns-in_err-write_parts
 returns-in_err-write_parts c =

@@ -14,8 +14,8 @@ use Rattle.rh_server.specs.declared.first_frame.FirstKind.TheVariants as kinds
 use Rattle.rh_script.specs.declared.step.Part.{Part}
 use Rattle.rh_script.specs.declared.step.Part.TheVariants as parts
 use Rattle.rh_script.specs.Steps.{ask_word, cut_word, loss_word}
-use Rattle.rh_play.specs.declared.told.Told.{Told}
-use Rattle.rh_play.specs.declared.told.Told.TheVariants as told
+use Rattle.rh_told.specs.declared.told.Told.{Told}
+use Rattle.rh_told.specs.declared.told.Told.TheVariants as told
 
 -- ---- lines
 

@@ -2,8 +2,8 @@ use Rattle.std.proofs.Common.{ℕ, List, ◌++◌, Err, codes, string_bytes, ◌
 use Rattle.std.specs.Fmt.{decimal}
 use Rattle.std.proofs.lemmas.Result.{err_from_is_err_and}
 use Rattle.rh_text.proofs.Appending.{writes_both, writes_one}
-use Rattle.rh_play.proofs.Telling.{as_text}
-use Rattle.rh_play.proofs.told.write_server.Goals as goal
+use Rattle.rh_told.proofs.Telling.{as_text}
+use Rattle.rh_told.proofs.told.write_server.Goals as goal
 
 pub returns-in_err-push_ascii : goal.returns-in_err-push_ascii
 returns-in_err-push_ascii c =

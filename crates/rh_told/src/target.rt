@@ -23,16 +23,12 @@ impl Target {
     ghost use Rattle.std.specs.Prelude.{◌≡◌};
     ghost use Rattle.rh_http.specs.Requests.{host_text};
     ghost use Rattle.rh_http.specs.Hosts.{IsHost};
-    ghost use Rattle.rh_inproxy.specs.State.{pair_of};
 
     /// The server of this host and port.
-    pub fn of(server: Option<(Host, u16)>) -> Option<Target>
-        ensures { result ≡ pair_of server }
+    pub fn new(host: Host, port: u16) -> Target
+        ensures { result ≡ (host_text host, port) }
     {
-        match server {
-            None => None,
-            Some((host, port)) => Some(Target { host, port }),
-        }
+        Target { host, port }
     }
 
     /// The host.
