@@ -5,12 +5,12 @@ ghost use Rattle.std.specs.Fmt.{decimal};
 ghost use Rattle.rh_pdu.specs.Texts.{head_fault_text};
 ghost use Rattle.rh_sig.specs.Cookies.{text_of_cookie};
 ghost use Rattle.rh_text.specs.Writing.{Writes};
-ghost use Rattle.rh_line.specs.Texts.{leg_text, letters_of, cause_leg, cause_name, cause_number, cause_text, more_fields, number_word, word};
+ghost use Rattle.rh_line.specs.Texts.{leg_text, letters_of, cause_leg, cause_name, cause_number, cause_text, more_fields, number_word, rts_fault_words, word};
 
 use crate::cause::Cause;
 use crate::leg::{Leg, LegKind};
 use rh_pdu::{HeadFault, write_head_fault};
-use rh_rts::Cookie;
+use rh_rts::{Cookie, RtsFault};
 use rh_sig::COOKIE_TEXT_LEN;
 use rh_text::{Part, write_parts};
 use std::alloc::AllocError;
@@ -152,6 +152,38 @@ fn write_frame_fault(fault: HeadFault, out: &mut String) -> Result<(), AllocErro
     write_head_fault(fault, out)
 }
 
+/// Appends the place and the fault of a header, with a space before each.
+fn write_bad_frame(place: u64, fault: HeadFault, out: &mut String) -> Result<(), AllocError>
+    ensures { Writes (number_word place ++ word (head_fault_text fault)) result
+        (string_bytes out.old) (string_bytes out.new) }
+{
+    write_number(place, out)?;
+    write_frame_fault(fault, out)
+}
+
+/// Appends the place of a packet, and the kind of its fault with its place, with a space before
+/// each.
+fn write_bad_packet(place: u64, fault: RtsFault, out: &mut String) -> Result<(), AllocError>
+    ensures { Writes
+        (number_word place ++ rts_fault_words fault)
+        result (string_bytes out.old) (string_bytes out.new) }
+{
+    let space = Part::Text(" ");
+    let (place, behind) = (Part::Number(place), Part::Number(fault.place as u64));
+    let kind = Part::Text(fault.kind.name());
+    write_parts(&[space, place, space, kind, space, behind], out)
+}
+
+/// Appends a place and a word, with a space before each.
+fn write_bad_head(place: u32, name: &str, out: &mut String) -> Result<(), AllocError>
+    ensures { Writes (number_word place ++ word name.now) result
+        (string_bytes out.old) (string_bytes out.new) }
+{
+    let space = Part::Text(" ");
+    let place = Part::Number(u64::from(place));
+    write_parts(&[space, place, space, Part::Text(name)], out)
+}
+
 /// Appends the text of a cookie, with a space before it.
 #[tactic(auto, using(rh_sig::proofs::Texts::by_places))]
 fn write_cookie(cookie: &Cookie, out: &mut String) -> Result<(), AllocError>
@@ -165,38 +197,33 @@ fn write_cookie(cookie: &Cookie, out: &mut String) -> Result<(), AllocError>
     write_parts(&[Part::Text(" "), Part::Text(text)], out)
 }
 
+/// Appends the texts of two cookies, with a space before each.
+fn write_cookies(one: &Cookie, two: &Cookie, out: &mut String) -> Result<(), AllocError>
+    ensures { Writes (word (text_of_cookie one.now.0) ++ word (text_of_cookie two.now.0)) result
+        (string_bytes out.old) (string_bytes out.new) }
+{
+    write_cookie(one, out)?;
+    write_cookie(two, out)
+}
+
 /// Appends the fields behind the leg, with a space before each.
 fn write_more(cause: &Cause, out: &mut String) -> Result<(), AllocError>
     ensures { Writes (more_fields cause.now) result
         (string_bytes out.old) (string_bytes out.new) }
 {
-    let space = Part::Text(" ");
     match *cause {
         Cause::LegBroken { .. } | Cause::ControlFull { .. } => Ok(()),
         Cause::LegEnded { partial, .. } => write_number(u64::from(partial), out),
-        Cause::BadFrame { place, fault, .. } => {
-            write_number(place, out)?;
-            write_frame_fault(fault, out)
-        }
-        Cause::BadPacket { place, fault, .. } => {
-            let (place, behind) = (Part::Number(place), Part::Number(fault.place as u64));
-            let kind = Part::Text(fault.kind.name());
-            write_parts(&[space, place, space, kind, space, behind], out)
-        }
+        Cause::BadFrame { place, fault, .. } => write_bad_frame(place, fault, out),
+        Cause::BadPacket { place, fault, .. } => write_bad_packet(place, fault, out),
         Cause::Unexpected { place, .. } => write_number(place, out),
-        Cause::CookieMismatch { expected, got, .. } => {
-            write_cookie(&expected, out)?;
-            write_cookie(&got, out)
-        }
+        Cause::CookieMismatch { expected, got, .. } => write_cookies(&expected, &got, out),
         Cause::WindowExceeded { reached, edge, .. } => write_numbers(reached, edge, out),
         Cause::OutOfRange { command, value, .. } => {
             write_numbers(u64::from(command), u64::from(value), out)
         }
         Cause::HttpRefused { status, .. } => write_number(u64::from(status), out),
-        Cause::BadHead { place, fault, .. } => {
-            let place = Part::Number(u64::from(place));
-            write_parts(&[space, place, space, Part::Text(fault.name())], out)
-        }
+        Cause::BadHead { place, fault, .. } => write_bad_head(place, fault.name(), out),
         Cause::Silent { since, now, .. } => write_numbers(since, now, out),
         Cause::BodyOver { count, length, .. } => write_numbers(count, u64::from(length), out),
     }
