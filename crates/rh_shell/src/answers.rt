@@ -6,7 +6,7 @@ use rh_rts::Cookie;
 use rh_window::WindowExceeded;
 
 /// How far a role has come while it works.
-#[derive(Clone, Copy, Debug, PartialEq, Eq)]
+#[derive(Clone, Copy)]
 pub enum Phase {
     Opening,
     Open,
@@ -15,7 +15,7 @@ pub enum Phase {
 }
 
 /// How many packets came on a leg before, Pings apart, as far as rows ask.
-#[derive(Clone, Copy, Debug, PartialEq, Eq)]
+#[derive(Clone, Copy)]
 pub enum Count {
     Zero,
     One,
@@ -23,7 +23,7 @@ pub enum Count {
 }
 
 /// What the bytes behind a head are.
-#[derive(Clone, Copy, Debug, PartialEq, Eq)]
+#[derive(Clone, Copy)]
 pub enum Behind {
     /// Packets and RPC PDUs.
     Frames,
@@ -32,7 +32,7 @@ pub enum Behind {
 }
 
 /// A head that a role takes.
-#[derive(Clone, Copy, Debug, PartialEq, Eq)]
+#[derive(Clone, Copy)]
 pub struct HeadTaken {
     /// What is behind it.
     pub behind: Behind,
@@ -41,7 +41,7 @@ pub struct HeadTaken {
 }
 
 /// Why a role does not take a head: the shell makes a cause of it.
-#[derive(Clone, Copy, Debug, PartialEq, Eq)]
+#[derive(Clone, Copy)]
 pub enum HeadRefused {
     /// A request is at fault, and is refused by a head.
     Request(HttpFault),
@@ -52,7 +52,7 @@ pub enum HeadRefused {
 }
 
 /// Why a row of a role's table refuses what came: the shell makes a cause of it.
-#[derive(Clone, Copy, Debug, PartialEq, Eq)]
+#[derive(Clone, Copy)]
 pub enum Refused {
     /// No row's condition holds.
     Unexpected,

@@ -6,7 +6,7 @@ ghost use Rattle.rh_shell.specs.Waiting.{edge_of};
 use rh_sig::Named;
 
 /// Where a packet that waits came from.
-#[derive(Clone, Copy, Debug, PartialEq, Eq)]
+#[derive(Clone, Copy, PartialEq, Eq)]
 pub enum Origin {
     /// The role made it.
     Own,
@@ -15,7 +15,7 @@ pub enum Origin {
 }
 
 /// A packet that waits, and where it came from.
-#[derive(Clone, Copy, Debug, PartialEq, Eq)]
+#[derive(Clone, Copy, PartialEq, Eq)]
 pub struct Due {
     pub packet: Named,
     pub origin: Origin,

@@ -6,7 +6,7 @@ use rh_pdu::PduFault;
 use rh_pdu::header::GREATEST_FRAG;
 
 /// Why an end's role does not accept a PDU. Nothing has changed then.
-#[derive(Clone, Copy, Debug, PartialEq, Eq)]
+#[derive(Clone, Copy)]
 pub enum GiveRefused {
     /// It was told that no PDU will be given any more.
     Closing,
@@ -18,7 +18,7 @@ pub enum GiveRefused {
 
 /// Why an end's role, which is open, does not replace its writing channel now. Nothing has changed
 /// then.
-#[derive(Clone, Copy, Debug, PartialEq, Eq)]
+#[derive(Clone, Copy)]
 pub enum RecycleRefused {
     /// A replacement is under way or waits; the leg is the successor's of the one under way.
     Busy { under_way: Leg },

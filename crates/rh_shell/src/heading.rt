@@ -5,7 +5,7 @@ use rh_line::Leg;
 use rh_sig::Pipe;
 
 /// Where a frame stands: on which leg and pipe, at which place of it, and behind how many packets.
-#[derive(Clone, Copy, Debug, PartialEq, Eq)]
+#[derive(Clone, Copy)]
 pub struct Heading {
     pub leg: Leg,
     pub pipe: Option<Pipe>,

@@ -7,7 +7,7 @@ use rh_rts::{RtsFault, view};
 use rh_sig::{Named, Pipe, SigFault, read_named};
 
 /// Why a frame is no named packet, in the order in which it is tried.
-#[derive(Clone, Copy, Debug, PartialEq, Eq)]
+#[derive(Clone, Copy, Debug)]
 pub enum PacketFault {
     /// It is no packet.
     Rts(RtsFault),

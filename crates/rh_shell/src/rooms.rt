@@ -2,7 +2,7 @@
 
 /// How many legs of each kind may be unfinished at once. A node takes as much memory when it is
 /// made.
-#[derive(Clone, Copy, Debug, PartialEq, Eq)]
+#[derive(Clone, Copy)]
 pub struct Rooms {
     pub client_out: u8,
     pub out_server: u8,

@@ -1,7 +1,7 @@
 //! What the bytes of a leg are.
 
 /// What the next bytes of a leg are.
-#[derive(Clone, Copy, Debug, PartialEq, Eq)]
+#[derive(Clone, Copy)]
 pub enum Stage {
     /// A request or a response.
     Head,
@@ -16,7 +16,7 @@ pub enum Stage {
 }
 
 /// The body behind a head.
-#[derive(Clone, Copy, Debug, PartialEq, Eq)]
+#[derive(Clone, Copy)]
 pub struct Body {
     /// How many of its bytes came.
     pub came: u64,

@@ -4,7 +4,7 @@ use rh_http::Refusal;
 use rh_line::Cause;
 
 /// Why a node stops, and how it refuses the client's request where it does.
-#[derive(Clone, Copy, Debug, PartialEq, Eq)]
+#[derive(Clone, Copy)]
 pub struct Stop {
     pub cause: Cause,
     pub refusal: Option<Refusal>,
