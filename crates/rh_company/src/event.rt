@@ -4,7 +4,7 @@ use rh_line::Leg;
 use rh_text::Bytes;
 
 /// What a node is told of a leg, or of time.
-#[derive(Debug, Drop)]
+#[derive(Drop)]
 pub enum Event {
     /// A piece came on the leg.
     Comes { leg: Leg, piece: Bytes },
