@@ -18,7 +18,7 @@ pub trait Way {
 }
 
 /// A call for a leg, as a way in memory tells it to its net.
-#[derive(Clone, Copy, Debug, PartialEq, Eq)]
+#[derive(Clone, Copy)]
 pub enum NetCall {
     /// A leg to an address.
     Connect(Address),
@@ -27,7 +27,7 @@ pub enum NetCall {
 }
 
 /// The way of a net in memory. It tells its net which call it was, and doesn't wait.
-#[derive(Clone, Copy, Debug)]
+#[derive(Clone, Copy)]
 pub struct MemWay;
 
 impl Way for MemWay {

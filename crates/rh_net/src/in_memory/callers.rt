@@ -9,7 +9,7 @@ use rh_io::NoMemory;
 use std::alloc::Global;
 
 /// Whether somebody took a caller's leg.
-#[derive(Clone, Copy, Debug, PartialEq, Eq)]
+#[derive(Clone, Copy)]
 pub enum Calling {
     /// It waits.
     Waits,
@@ -18,7 +18,7 @@ pub enum Calling {
 }
 
 /// Who connected to an address.
-#[derive(Clone, Copy, Debug)]
+#[derive(Clone, Copy)]
 pub struct Caller {
     to: Address,
     calling: Calling,

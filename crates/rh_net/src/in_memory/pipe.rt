@@ -20,7 +20,7 @@ pub enum Side {
 }
 
 /// What a reader finds.
-#[derive(Clone, Copy, Debug, PartialEq, Eq)]
+#[derive(Clone, Copy, PartialEq, Eq)]
 pub enum Found {
     /// So many bytes, now in the room.
     Bytes(usize),
@@ -31,7 +31,7 @@ pub enum Found {
 }
 
 /// What becomes of a write.
-#[derive(Clone, Copy, Debug, PartialEq, Eq)]
+#[derive(Clone, Copy, PartialEq, Eq)]
 pub enum Put {
     /// So many bytes of the piece were taken.
     Bytes(usize),

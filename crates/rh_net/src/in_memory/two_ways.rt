@@ -4,7 +4,7 @@ ghost use Rattle.std.specs.Prelude.{◌≡◌};
 ghost use Rattle.rh_net.specs.Memory.Legs.{the_way, of_leg};
 
 /// Who has an end of a leg.
-#[derive(Clone, Copy, Debug, PartialEq, Eq)]
+#[derive(Clone, Copy)]
 pub(crate) enum Party {
     /// Who connected.
     Caller,
@@ -13,7 +13,7 @@ pub(crate) enum Party {
 }
 
 /// Which half of an end it is.
-#[derive(Clone, Copy, Debug, PartialEq, Eq)]
+#[derive(Clone, Copy)]
 pub(crate) enum Half {
     /// It reads what the other party wrote.
     Reading,
