@@ -5,7 +5,7 @@ ghost use Rattle.rh_wires.specs.Counts as seen;
 
 /// How many PDUs were given at one end, and taken at the other. A count stands still at the end of
 /// its type.
-#[derive(Clone, Copy, Debug, PartialEq, Eq)]
+#[derive(Clone, Copy)]
 pub struct Counts {
     pub given: u32,
     pub taken: u32,
