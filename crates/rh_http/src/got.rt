@@ -21,7 +21,7 @@ pub enum Got<T> {
 }
 
 /// Where the head at the front of bytes ends.
-#[derive(Clone, Copy, Debug, PartialEq, Eq)]
+#[derive(Clone, Copy)]
 pub(crate) enum Extent {
     /// It may end behind further bytes.
     Open,

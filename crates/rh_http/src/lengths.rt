@@ -30,7 +30,7 @@ pub const NOT_FOUND: u16 = 404;
 pub const SERVICE_UNAVAILABLE: u16 = 503;
 
 /// The values of the fields with that name.
-#[derive(Clone, Copy, Debug, PartialEq, Eq)]
+#[derive(Clone, Copy)]
 pub enum Lengths<'a> {
     Absent,
     Once(&'a [u8]),
