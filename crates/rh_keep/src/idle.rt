@@ -7,7 +7,7 @@ use std::marker::Model;
 
 /// Since when no bytes came on a leg, and for how long that may go on. Moments and limits are in
 /// milliseconds, by any one clock (profile).
-#[derive(Clone, Copy, Debug, PartialEq, Eq)]
+#[derive(Clone, Copy)]
 pub struct Idle {
     limit: u32,
     since: u64,

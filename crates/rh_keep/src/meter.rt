@@ -12,7 +12,7 @@ pub const RESERVE: u32 = 256;
 pub const REPLACED_BEFORE: u32 = 65_536;
 
 /// Counts the bytes that are put on a channel, which its lifetime bounds (MS-RPCH 3.2).
-#[derive(Clone, Copy, Debug, PartialEq, Eq)]
+#[derive(Clone, Copy)]
 pub struct Meter {
     length: u32,
     count: u32,
