@@ -16,7 +16,7 @@ use std::str;
 const ROOM: usize = 128;
 
 /// A part of a text.
-#[derive(Clone, Copy, Debug)]
+#[derive(Clone, Copy)]
 pub enum Part<'a> {
     /// The text as it is.
     Text(&'a str),
