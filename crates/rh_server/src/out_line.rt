@@ -20,7 +20,7 @@ use std::marker::Model;
 pub const LINE_ROOM: u8 = FORWARDED_ROOM + LEGS;
 
 /// The kinds of the server's own packets on the OUT line. Of each one waits at most.
-#[derive(Clone, Copy, PartialEq, Eq)]
+#[derive(Clone, Copy)]
 pub enum Kind {
     ConnC1,
     InR1A3,
