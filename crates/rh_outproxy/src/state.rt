@@ -22,7 +22,7 @@ pub struct OutProxyConfig {
 }
 
 /// The leg from the client.
-#[derive(Clone, Copy, PartialEq, Eq)]
+#[derive(Clone, Copy)]
 pub enum ClientLeg {
     Down,
     Up,
@@ -31,7 +31,7 @@ pub enum ClientLeg {
 }
 
 /// The leg to the server.
-#[derive(Clone, Copy, PartialEq, Eq)]
+#[derive(Clone, Copy)]
 pub enum ServerLeg {
     Down,
     /// It is up, and CONN/A2 or OUT_R1/A4 goes first there.
@@ -42,7 +42,7 @@ pub enum ServerLeg {
 }
 
 /// What goes first to the client.
-#[derive(Clone, Copy, PartialEq, Eq)]
+#[derive(Clone, Copy)]
 pub enum Answer {
     /// Nothing is due: the server's leg is not up.
     Awaited,
@@ -83,7 +83,7 @@ pub enum Channel {
 }
 
 /// END, or the handover mark: it goes behind what is held when it comes.
-#[derive(Clone, Copy, PartialEq, Eq)]
+#[derive(Clone, Copy)]
 pub enum Mark {
     Awaited,
     Came,
@@ -91,7 +91,7 @@ pub enum Mark {
 }
 
 /// A Ping to the client.
-#[derive(Clone, Copy, PartialEq, Eq)]
+#[derive(Clone, Copy)]
 pub enum Ping {
     NotDue,
     Due,
