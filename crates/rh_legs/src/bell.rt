@@ -13,7 +13,7 @@ use std::sync::{Condvar, CondvarTimeouts, Mutex, Wait};
 use std::time::{Clock, Duration};
 
 /// What a job waits for.
-#[derive(Clone, Copy, Debug, PartialEq, Eq)]
+#[derive(Clone, Copy)]
 pub enum Call {
     /// A writer: that there may be something to draw.
     Draws,
@@ -26,7 +26,7 @@ pub enum Call {
 }
 
 // Which jobs are called.
-#[derive(Clone, Copy, Debug)]
+#[derive(Clone, Copy)]
 struct Called {
     draws: bool,
     takes: bool,
@@ -87,7 +87,7 @@ fn is_idle(reply: &NodeReply) -> bool {
 }
 
 // How often each was called, and whether the node is to stop.
-#[derive(Clone, Copy, Debug)]
+#[derive(Clone, Copy)]
 struct Counts {
     draws: u64,
     takes: u64,

@@ -3,7 +3,7 @@
 use rh_line::Cause;
 
 /// Why a leg is read or written no more.
-#[derive(Clone, Copy, Debug, PartialEq, Eq)]
+#[derive(Clone, Copy)]
 pub enum LegEnd {
     /// The machine has no use for it, and nothing is left to draw.
     Finished,
@@ -16,7 +16,7 @@ pub enum LegEnd {
 }
 
 /// How a node ended.
-#[derive(Clone, Copy, Debug, PartialEq, Eq)]
+#[derive(Clone, Copy, PartialEq, Eq)]
 pub enum NodeEnd {
     /// In order.
     Ended,

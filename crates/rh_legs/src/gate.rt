@@ -3,7 +3,7 @@
 use rh_line::Leg;
 
 /// A place that a reader or a writer of a leg passes.
-#[derive(Clone, Copy, Debug, PartialEq, Eq)]
+#[derive(Clone, Copy)]
 pub enum Place {
     /// Before each read.
     ReaderBefore(Leg),
