@@ -3,7 +3,7 @@
 use std::sync::{Condvar, Mutex, Wait};
 
 // The number of the next ticket, and of the one that is served.
-#[derive(Clone, Copy, Debug)]
+#[derive(Clone, Copy)]
 struct Numbers {
     next: u64,
     served: u64,
