@@ -5,7 +5,7 @@ use crate::step::Step;
 use rh_text::Grammar;
 
 /// The grammar of scripts: any line may stand anywhere.
-#[derive(Clone, Copy, Debug)]
+#[derive(Clone, Copy)]
 pub struct Script;
 
 impl Grammar for Script {

@@ -7,7 +7,7 @@ use rh_rts::Cookie;
 use rh_text::Bytes;
 
 /// Which node begins. A proxy has the number of its first channel, from 1.
-#[derive(Clone, Copy, Debug, PartialEq, Eq)]
+#[derive(Clone, Copy)]
 pub enum Part {
     Client,
     Server,
@@ -16,7 +16,7 @@ pub enum Part {
 }
 
 /// What is asked of a leg.
-#[derive(Clone, Copy, Debug, PartialEq, Eq)]
+#[derive(Clone, Copy)]
 pub enum Ask {
     /// Whether the node asks for it to be connected.
     Wants,
@@ -27,7 +27,7 @@ pub enum Ask {
 }
 
 /// How bytes come.
-#[derive(Clone, Copy, Debug, PartialEq, Eq)]
+#[derive(Clone, Copy)]
 pub enum Cut {
     /// All in one piece.
     Whole,
@@ -36,7 +36,7 @@ pub enum Cut {
 }
 
 /// How a leg is lost.
-#[derive(Clone, Copy, Debug, PartialEq, Eq)]
+#[derive(Clone, Copy)]
 pub enum Loss {
     /// The other side ended it in order.
     Ended,
@@ -45,7 +45,7 @@ pub enum Loss {
 }
 
 /// What is done or asked with no more words.
-#[derive(Clone, Copy, Debug, PartialEq, Eq)]
+#[derive(Clone, Copy)]
 pub enum Act {
     /// The next PDU is taken.
     Take,
