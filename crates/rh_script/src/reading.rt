@@ -29,7 +29,7 @@ use std::alloc::{AllocError, Global};
 pub const HASH: u8 = b'#';
 
 /// Why a text is no line.
-#[derive(Clone, Copy)]
+#[derive(Clone, Copy, Debug, PartialEq, Eq)]
 pub enum StepRefused {
     /// No line is spelled so.
     Grammar,
