@@ -1,10 +1,8 @@
 """Runs a word of a program over standard input, which may have what its grammar doesn't.
 
 Comments, `#` to the end of a line, and CRs in front of LFs are left out of what the program reads,
-and that is noted. Lines of `tools/pcap_packets.py --context` are taken by words that tell each line
-of packets in a line: what follows the context is what the program reads, and the context is
-written in front of what it tells; heads and ends are written as they are. Behind `bad input` the
-refused line is told, and what may stand there.
+and that is noted. Behind `bad input` the refused line is told, and what may stand there. Words that
+tell each line of packets in a line read their input in pieces (given_pieces.py), and others in one.
 """
 import bisect
 import os
@@ -16,13 +14,20 @@ import sys
 import threading
 from collections import deque
 
-from teaching import CAPTURES, OF_PACKETS, said_of
+from teaching import CAPTURES, said_of
 
 SIGNALS = signal.SIGINT, signal.SIGTERM, signal.SIGHUP
 PIECE = 1 << 20
 # As much as the program reads of one input (MOST_INPUT of rh_word), and of it is kept.
 MOST_INPUT = 67_108_864
+TOO_LONG = f"reads at most {MOST_INPUT:,} bytes"
+# What may be done where that isn't enough.
+HINTS = {
+    "replay": "a recording is one run from its first line on, so make more than one of it",
+    "play": "cut the script in front of lines that begin a role, and play each part",
+}
 READ_FAULT, WRITE_FAULT = (3, "read fault"), (4, "write fault")
+BAD_INPUT = re.compile(rb"bad input (\d+)\n")
 # The words of a context, and what is told behind it.
 CONTEXT = re.compile(rb"(\d{4}-\d\d-\d\dT[\d:.]+Z \d+ \d+ \S+ > \S+) (.*)")
 NO_PACKET = re.compile(rb"(?:http .*|fin|rst|ncacn_http/1\.0)")
@@ -34,27 +39,22 @@ WHOLE = b"#", b"case "
 class Given:
     """What the program is given of the input, line by line."""
 
-    def __init__(self, word):
+    def __init__(self, word, first, has_context=False):
         self.word = word
         self.comments = self.returns = 0
         # Whether nothing is left out: the input is a capture, and no text.
-        self.is_raw = False
+        self.is_raw = first.startswith(CAPTURES)
         # How many lines the program was given, and behind how many of them a line was left out.
         self.count, self.left_out = 0, []
-        # What it was given so far, up to MOST_INPUT bytes.
-        self.kept = bytearray()
         # What is written, where there are contexts: each in front of what is told of a line, and
         # lines as they are.
-        self.told = deque() if word in OF_PACKETS else None
+        self.told = deque() if has_context else None
 
     def take(self, text):
         """What the program is given of these lines; all but the last end with LF."""
-        self.is_raw = self.is_raw or not self.count and text.startswith(CAPTURES)
         lines = text.splitlines(True) if self.is_plain(text) else self.taken(text)
         self.count += len(lines)
-        given = b"".join(lines)
-        self.kept += given[: MOST_INPUT - len(self.kept)]
-        return given
+        return b"".join(lines)
 
     def is_plain(self, text):
         return self.is_raw or self.told is None and b"\r" not in text and b"#" not in text
@@ -105,19 +105,16 @@ class Given:
 
 
 class Running:
-    """A program that runs over what it is given of standard input."""
+    """A program that runs over what it is given of all of standard input."""
 
     def __init__(self, command, word, say, place=None):
-        self.given, self.say, self.rest = Given(word), say, b""
+        self.word, self.say, self.rest = word, say, b""
         self.first = self.read()
-        self.has_context = bool(self.given.told is not None and CONTEXT.match(self.first))
-        if not self.has_context:
-            self.given.told = None
-        output = subprocess.PIPE if self.has_context else None
-        pipes = {"stdin": subprocess.PIPE, "stdout": output, "stderr": subprocess.PIPE}
+        self.given, self.kept = Given(word, self.first), bytearray()
+        pipes = {"stdin": subprocess.PIPE, "stderr": subprocess.PIPE}
         self.child = subprocess.Popen([*command, word], cwd=place, **pipes)
-        # The line that was refused; whether there was too much, reading failed, or writing did.
-        self.bad, self.is_long, self.is_broken, self.is_full = None, False, False, False
+        # The line that was refused; whether there was too much, and whether reading failed.
+        self.bad, self.is_long, self.is_broken = None, False, False
 
     def read(self):
         """The next whole lines of the input, or what is behind the last; none at its end."""
@@ -137,7 +134,9 @@ class Running:
         try:
             text = self.first
             while text:
-                self.child.stdin.write(self.given.take(text))
+                given = self.given.take(text)
+                self.kept += given[: MOST_INPUT - len(self.kept)]
+                self.child.stdin.write(given)
                 text = self.read()
         except BrokenPipeError:
             pass
@@ -156,21 +155,9 @@ class Running:
         for line in self.child.stderr:
             sys.stderr.buffer.write(line)
             sys.stderr.flush()
-            found = re.fullmatch(rb"bad input (\d+)\n", line)
+            found = BAD_INPUT.fullmatch(line)
             self.bad = int(found[1]) if found else self.bad
             self.is_long = self.is_long or line == b"input too long\n"
-
-    def write(self):
-        """Writes what the program tells, each line behind its context."""
-        for line in self.child.stdout:
-            self.write_whole()
-            front, _ = self.given.told.popleft()
-            sys.stdout.buffer.write(front + line)
-
-    def write_whole(self):
-        """Writes the lines that are written as they are, up to the next that the program tells."""
-        while self.given.told and self.given.told[0][1]:
-            sys.stdout.buffer.write(self.given.told.popleft()[0] + b"\n")
 
     def end(self):
         """Waits for the program's end. Its status, as a process has it."""
@@ -179,15 +166,18 @@ class Running:
         threads = [threading.Thread(target=it, daemon=True) for it in (self.feed, self.hear)]
         for thread in threads:
             thread.start()
-        self.is_full = self.has_context and not written(self.write)
-        if self.is_full:
-            self.child.kill()
         status = self.child.wait()
         if status >= 0:
             threads[1].join()
-        if self.has_context and status == 0 and not self.is_full:
-            self.is_full = not written(self.write_whole)
         return status
+
+    def tell(self):
+        """Tells of what the program refused."""
+        if self.is_long:
+            self.say(f"{self.word} {TOO_LONG}: {HINTS[self.word]}")
+        if self.bad is not None:
+            place = self.given.place(self.bad)
+            self.say(said_of(self.word, bytes(self.kept), self.bad, place))
 
 
 def is_readable():
@@ -215,21 +205,19 @@ def written(write):
         return False
 
 
+def end_by(number):
+    """Ends this process by a signal."""
+    signal.signal(number, signal.SIG_DFL)
+    os.kill(os.getpid(), number)
+
+
 def run(command, word, say, place=None):
     """Runs the program with this word. Its status; a signal that ended it ends this process."""
     running = Running(command, word, say, place)
     status = running.end()
     if running.is_broken:
         return fails(*READ_FAULT)
-    if running.is_full:
-        return fails(*WRITE_FAULT)
-    if running.is_long:
-        parts = "; split -C 64M cuts lines into such parts" if word in OF_PACKETS else ""
-        say(f"{word} reads at most {MOST_INPUT:,} bytes{parts}")
-    if running.bad is not None:
-        given = running.given
-        say(said_of(word, bytes(given.kept), running.bad, given.place(running.bad)))
+    running.tell()
     if status < 0:
-        signal.signal(-status, signal.SIG_DFL)
-        os.kill(os.getpid(), -status)
+        end_by(-status)
     return status

@@ -11,7 +11,9 @@ import sys
 
 import build_program
 import given_input
+import given_pieces
 from program_crates import TOP
+from teaching import OF_PACKETS
 
 READS = "replay", "show", "name", "play"
 # How many words each form has, by its first word.
@@ -62,13 +64,23 @@ def tell_version(command, place):
     return done.returncode if is_written else given_input.fails(*given_input.WRITE_FAULT)
 
 
+def run_over_input(program, command, word, place):
+    """Runs a word over standard input. Packets are told in pieces, but for sources that take a
+    minute to begin."""
+    said = [command, word, lambda text: say(program, text), place]
+    if word not in OF_PACKETS:
+        return given_input.run(*said)
+    whole = given_pieces.Input(given_input.MOST_INPUT, None)
+    return given_pieces.run(*said, whole if command[0] == "rt" else None)
+
+
 def run(program, command, words, place=None):
     """Runs it, and says what to type behind a usage error."""
     if words == ["--version"]:
         return tell_version(command, place)
     is_reading = len(words) == 1 and program == "rh_cli" and words[0] in READS
     if is_reading and given_input.is_readable():
-        return given_input.run(command, words[0], lambda text: say(program, text), place)
+        return run_over_input(program, command, words[0], place)
     if is_form(program, words):
         # The program takes the place of this process, so that signals come to it.
         os.chdir(place or os.curdir)

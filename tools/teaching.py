@@ -115,11 +115,11 @@ def other_word(word, text):
     return None if is_own or kind is None else f"this is {READ_BY[kind]}"
 
 
-def why_refused(word, text, number):
+def why_refused(word, text, number, is_front=True):
     """Why line `number`, from 1, of a text is none that this word reads; none where that isn't
-    clear."""
+    clear. The text is the front of the input, or of packets a part behind it."""
     lines = [it.decode("utf-8", "replace") for it in text.split(b"\n", number)[:number]]
-    if not text.strip():
+    if is_front and not text.strip():
         return "the input is empty"
     if word == "replay":
         return of_recording(lines, number)
@@ -128,12 +128,12 @@ def why_refused(word, text, number):
     return of_packets(OF_PACKETS[word], lines[-1]) if word in OF_PACKETS else None
 
 
-def said_of(word, text, number, place):
+def said_of(word, text, number, place, is_front=True):
     """What is said of the refused line, which is line `place` of the input."""
-    other = other_word(word, text) if number == 1 else None
+    other = other_word(word, text) if is_front and number == 1 else None
     if other:
         return f"line {place}: {other}"
-    why = why_refused(word, text, number)
+    why = why_refused(word, text, number, is_front)
     if why is None:
         return f"line {place}: docs/RECORDINGS.md has the lines that {word} reads"
     line = text.split(b"\n", number)[number - 1 : number] or [b""]

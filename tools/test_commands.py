@@ -16,7 +16,7 @@ import program_crates
 
 TOP = pathlib.Path(__file__).resolve().parent.parent
 SCRIPTS = ["launch", "run_program.py", "build_program.py", "prove_beside.py", "program_crates.py"]
-SCRIPTS += ["given_input.py", "teaching.py", "line_forms.py"]
+SCRIPTS += ["given_input.py", "given_pieces.py", "teaching.py", "line_forms.py"]
 PROGRAMS = ["rh_cli", "rh_roles"]
 CRATES = """# crates
 low: hex
@@ -539,12 +539,11 @@ class Inputs(Commands):
         self.check(done, text + "05", told, 0)
 
     def test_too_long_an_input_is_told_with_the_limit(self):
-        told = "input too long\nrh_cli: {} reads at most 67,108,864 bytes"
-        done = self.run_it("./rh_cli", "replay", text="long\n")
-        self.check(done, "", told.format("replay") + "\n", 9)
-        done = self.run_it("./rh_cli", "show", text="long\n")
-        parts = "; split -C 64M cuts lines into such parts\n"
-        self.check(done, "", told.format("show") + parts, 9)
+        for word, hint in ("replay", "a recording is one run "), ("play", "cut the script in front "):
+            done = self.run_it("./rh_cli", word, text="long\n")
+            told = f"input too long\nrh_cli: {word} reads at most 67,108,864 bytes: {hint}"
+            self.assertEqual((done.stdout, done.returncode), ("", 9))
+            self.assertTrue(done.stderr.startswith(told), done.stderr)
 
     def test_a_capture_is_no_text(self):
         capture = (TOP / "examples/opening.pcap").read_bytes()
@@ -560,7 +559,7 @@ class Inputs(Commands):
 
     def test_a_signal_ends_the_word(self):
         pipes = {"stdin": subprocess.PIPE, "stdout": subprocess.PIPE}
-        child = self.begin("./rh_cli", "show", **pipes)
+        child = self.begin("./rh_cli", "play", **pipes)
         with child.stdin, child.stdout:
             child.stdin.write(b"05\n")
             child.stdin.flush()
@@ -581,6 +580,157 @@ class Inputs(Commands):
         # What lies in somebody else's repository has no commit of its own.
         (self.top / ".git").rename(self.top.parent / ".git")
         self.assertEqual(self.run_it("./rh_cli", "--version").stdout, "rh_cli of a test\n")
+
+
+# Runs ./rh_cli with tiny pieces, of so many bytes at most.
+TINY = """
+import sys
+
+import given_input
+import given_pieces
+import run_program
+
+given_input.MOST_INPUT = given_pieces.MOST_INPUT = 24
+given_pieces.Input.__init__.__defaults__ = (int(sys.argv[1]), 60)
+sys.exit(run_program.main("rh_cli", sys.argv[2:]))
+"""
+FRONT = "2023-11-14T22:13:20.005000000Z 5 0 10.0.0.2:49152 > 10.0.0.9:80"
+
+
+class Pieces(Commands):
+    """Inputs of words that tell packets, in pieces."""
+
+    def setUp(self):
+        super().setUp()
+        self.build()
+        (self.top / "tools/tiny.py").write_text(TINY)
+        # Each run of the program is a line of this file.
+        program = self.top / "crates/rh_cli/out/rh_cli"
+        program.write_text(program.read_text().replace("case", "echo >>runs\ncase", 1))
+
+    def take_longer_lines(self):
+        (self.top / "tools/tiny.py").write_text(TINY.replace("= 24", "= 1000"))
+
+    def words(self, most):
+        """The words that run it with pieces of so many bytes."""
+        return [sys.executable, "-B", "tools/tiny.py", str(most)]
+
+    def runs(self):
+        """How often the program ran since the last call."""
+        path = self.top / "runs"
+        found = len(path.read_text().splitlines()) if path.exists() else 0
+        path.unlink(missing_ok=True)
+        return found
+
+    def told(self, text, wanted, error, status, word="show"):
+        """Checks what is told of a text in pieces of each size. The greatest number of runs."""
+        runs = []
+        for most in 1, 7, 24:
+            done = self.run_it(*self.words(most), word, text=text)
+            self.check(done, wanted, error, status)
+            runs.append(self.runs())
+        return max(runs)
+
+    def test_what_is_told_is_that_of_one_run(self):
+        text = "".join(f"{number:06}\n" for number in range(20))
+        # 140 bytes, of which 24 at a time would be too long an input.
+        self.assertEqual(self.told(text, text, "", 0), 20)
+        self.told(text + "05", text + "05", "", 0, "name")
+        self.assertEqual(self.told("", "", "", 0), 1)
+        commented = text.replace("\n", " #\r\n#\n")
+        note = "rh_cli: left out of what show reads: 40 comments and 20 CRs\n"
+        self.told(commented, text, note, 0)
+        self.told("#\n" * 3, "", "rh_cli: left out of what show reads: 3 comments\n", 0)
+
+    def test_lines_that_are_refused_are_counted_over_all_pieces(self):
+        said = "'bad': the line is no hex: an even number of hex digits, of 1 to 65,535 bytes\n"
+        text = "#\n" + "05\n" * 9 + "#\n" + "bad\n" + "05\n" * 9
+        note = "rh_cli: left out of what show reads: 2 comments\n"
+        error = f"{note}bad input 10\nrh_cli: line 12: {said}"
+        for most in 1, 3, 7, 24:
+            done = self.run_it(*self.words(most), "show", text=text)
+            # All in front of the piece with that line was told, and nothing behind it.
+            self.assertEqual((done.stderr, done.returncode), (error, 2))
+            self.assertTrue(("05\n" * 9).startswith(done.stdout or "none"))
+        done = self.run_it(*self.words(4), "show", text=text)
+        self.check(done, "05\n" * 9, error, 2)
+        # The line is the first of its piece, and no first line of the input.
+        for line, said in ("rh 1 bad", "'rh 1 bad': the line is no hex"), ("bad", "'bad': the line"):
+            done = self.run_it(*self.words(3), "show", text=f"05\n{line}\n")
+            self.assertEqual((done.stdout, done.returncode), ("05\n", 2))
+            self.assertTrue(done.stderr.startswith(f"bad input 2\nrh_cli: line 2: {said}"))
+
+    def test_contexts(self):
+        self.take_longer_lines()
+        text = f"{FRONT} http 200\n{FRONT} 05\n0500\n{FRONT} fin\n{FRONT} 06\n{FRONT} rst\n"
+        for most in 1, 90, 1_000:
+            self.check(self.run_it(*self.words(most), "show", text=text), text, "", 0)
+        self.runs()
+        done = self.run_it(*self.words(90), "show", text=f"{text}{FRONT} bad\n")
+        self.assertEqual((done.stdout, done.returncode), (text, 2))
+        self.assertTrue(done.stderr.startswith("bad input 4\nrh_cli: line 7: 'bad': "))
+        # It isn't run where a piece has nothing for it.
+        self.assertEqual(self.runs(), 4)
+
+    def test_a_line_that_is_longer_than_the_limit(self):
+        told = "input too long\nrh_cli: line {} is longer than the 24 bytes that show reads\n"
+        line = "0" * 24
+        for most in 1, 24:
+            words = [*self.words(most), "show"]
+            self.check(self.run_it(*words, text=line), line, "", 0)
+            self.check(self.run_it(*words, text=f"{line}\n"), "", told.format(1), 9)
+            done = self.run_it(*words, text=f"#\n05\n{line}0\n05\n")
+            self.check(done, "05\n", told.format(3), 9)
+            # Lines in front of a piece's end are told where the piece would be too long.
+            text = f"{line[1:]}\n{line[2:]}\n"
+            self.check(self.run_it(*words, text=text), text, "", 0)
+
+    def test_lines_come_as_they_are_there(self):
+        pipes = {"stdin": subprocess.PIPE, "stdout": subprocess.PIPE, "stderr": subprocess.PIPE}
+        child = self.begin("./rh_cli", "show", bufsize=0, **pipes)
+        with child.stdin, child.stdout, child.stderr:
+            for text in b"05\n", b"0500\n06\n":
+                child.stdin.write(text)
+                self.assertEqual(child.stdout.read(len(text)), text)
+            child.stdin.write(b"07\n0")
+            self.assertEqual(child.stdout.read(3), b"07\n")
+            child.terminate()
+            self.assertEqual(child.stdout.read(), b"")
+        self.assertEqual(child.wait(), -signal.SIGTERM)
+
+    def test_a_signal_ends_a_run(self):
+        program = self.top / "crates/rh_cli/out/rh_cli"
+        program.write_text(program.read_text().replace("show |", "show) cat; exec sleep 60 ;;\n"))
+        pipes = {"stdin": subprocess.PIPE, "stdout": subprocess.PIPE}
+        child = self.begin("./rh_cli", "show", bufsize=0, **pipes)
+        with child.stdin, child.stdout:
+            child.stdin.write(b"05\n")
+            self.assertEqual(child.stdout.read(3), b"05\n")
+            child.terminate()
+            # The program's end of the pipe is gone too.
+            self.assertEqual(child.stdout.read(), b"")
+        self.assertEqual(child.wait(), -signal.SIGTERM)
+
+    def test_an_output_that_fails(self):
+        self.take_longer_lines()
+        with open("/dev/full", "w") as full:
+            how = {"input": f"{FRONT} 05\n" * 3, "stderr": subprocess.PIPE, "text": True}
+            words = [*self.words(80), "show"]
+            done = subprocess.run(words, stdout=full, cwd=self.top, env=self.variables, **how)
+        self.assertEqual((done.stderr, done.returncode), ("write fault\n", 4))
+        self.assertEqual(self.runs(), 1)
+
+    def test_an_input_that_fails(self):
+        # Reading a process's memory at 0 fails.
+        with open("/proc/self/mem", "rb") as memory:
+            how = {"stdin": memory, "capture_output": True, "check": False, "text": True}
+            done = subprocess.run(["./rh_cli", "show"], cwd=self.top, env=self.variables, **how)
+        self.check(done, "", "read fault\n", 3)
+
+    def test_unproved_it_runs_once(self):
+        done = self.run_it("./rh_cli", "--unproved", "show", text="05\n" * 9)
+        self.assertEqual((done.stdout, done.returncode), ("05\n" * 9, 0))
+        self.assertEqual(done.stderr.count("run=ended"), 1)
 
 
 class Durations(unittest.TestCase):
