@@ -9,8 +9,8 @@ On a page,
 - a path that begins with a folder of the top, or with ./, is there, where it stands in backticks or
   in a block of code (words in capitals, as NAME, and those with my_ stand for any name, and out/ is
   not looked at);
-- a word in backticks that begins as crates do, with rh_, law_, test_ or bench_, is a crate, or a
-  name in the sources; so is each other such word that has an underscore;
+- a word in backticks that begins as crates do, with rh_, law_, test_, bench_ or example_, is a crate,
+  or a name in the sources; so is each other such word that has an underscore;
 - `CRATE::..::NAME` is declared in that crate, and so is each NAME or TYPE::NAME in a list behind
   it, as in `CRATE`: `NAME`, `TYPE::NAME`.
 
@@ -23,7 +23,7 @@ import sys
 
 TOP = pathlib.Path(__file__).resolve().parent.parent
 PAGES = ["README.md", "CONTRIBUTING.md", *sorted(f"docs/{it.name}" for it in TOP.glob("docs/*.md"))]
-CRATE = r"(?:rh|law|test|bench)_\w+"
+CRATE = r"(?:rh|law|test|bench|example)_\w+"
 WORD = re.compile(r"\w+")
 NAME = re.compile(r"(?:\w+::)*\w+")
 LINK = re.compile(r"\]\(([^)\s]+)\)")

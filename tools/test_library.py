@@ -1,6 +1,6 @@
 #!/usr/bin/env python3
-"""Tests that the program of docs/LIBRARY.md runs as the page has it: in a copy of the sources, by the
-page's commands and its line of crates.txt, with nothing proved.
+"""Tests that the commands of docs/LIBRARY.md make a crate that runs and prints what the page tells: in
+a copy of the sources, with nothing proved. And that the code of README.md is of such a program.
 """
 import pathlib
 import re
@@ -11,14 +11,19 @@ import unittest
 
 TOP = pathlib.Path(__file__).resolve().parent.parent
 PAGE = TOP / "docs/LIBRARY.md"
-CRATE = "my_client"
+PROGRAM = TOP / "crates/example_one_role"
 # Seconds; it takes some thirty of a processor.
 LONGEST = 900
 
 
 def blocks(page):
     """The blocks of code of a page, each with its language."""
-    return re.findall(r"^```(\w+)\n(.*?)^```$", page, re.M | re.S)
+    return re.findall(r"^```(\w+)\n(.*?)^```$", page.read_text(), re.M | re.S)
+
+
+def code_lines(text):
+    """Lines without their indentation and the comments behind them."""
+    return [it for it in (line.split("//")[0].strip() for line in text.splitlines()) if it]
 
 
 class Library(unittest.TestCase):
@@ -33,17 +38,19 @@ class Library(unittest.TestCase):
                     shutil.copytree(crate / part, self.top / "crates" / crate.name / part)
 
     def test_the_first_program(self):
-        (_, commands), (_, line), (_, code), *_ = blocks(PAGE.read_text())
-        self.assertTrue(line.startswith(f"{CRATE}: "))
+        (_, commands), (_, wanted), *_ = blocks(PAGE)
         how = {"capture_output": True, "text": True, "check": False, "timeout": LONGEST}
-        made = subprocess.run(["bash", "-ec", commands], cwd=self.top, **how)
-        self.assertEqual(made.returncode, 0, made.stderr)
-        with open(self.top / "crates.txt", "a") as file:
-            file.write(line)
-        crate = self.top / "crates" / CRATE
-        (crate / "src/main.rt").write_text(code)
-        done = subprocess.run(["rt", "try"], cwd=crate, **how, stdin=subprocess.DEVNULL)
-        self.assertEqual((done.stdout, done.returncode), ("wanted\n", 0), done.stderr[-2000:])
+        done = subprocess.run(["bash", "-ec", commands], cwd=self.top, **how, stdin=subprocess.DEVNULL)
+        # What `rt new` tells of itself comes first.
+        self.assertTrue(done.stdout.endswith(wanted), done.stdout + done.stderr[-2000:])
+        self.assertEqual(done.returncode, 0)
+        self.assertEqual(wanted, (PROGRAM / "stdout").read_text())
+
+    def test_the_code_of_the_readme(self):
+        [code] = [text for language, text in blocks(TOP / "README.md") if language == "rust"]
+        lines = iter(code_lines((PROGRAM / "src/main.rt").read_text()))
+        for line in code_lines(code):
+            self.assertIn(line, lines, "not in the program, or not behind the line before")
 
 
 if __name__ == "__main__":

@@ -1,5 +1,6 @@
 #!/usr/bin/env python3
-"""Compares what README.md says of Wireshark with what tshark shows of the captures in examples/.
+"""Compares what README.md says of Wireshark with what tshark shows of captures: of those in examples/,
+and of a long one that is made here.
 
     tools/wireshark_figures.py            compares
     tools/wireshark_figures.py --list     tells of each capture how many packets each of the two shows
@@ -11,11 +12,17 @@ import pathlib
 import re
 import subprocess
 import sys
+import tempfile
+
+from test_pcap_packets import Made, opening_of_a_client, pdu
 
 TOP = pathlib.Path(__file__).resolve().parent.parent
 PAGE = TOP / "README.md"
-SAID = re.compile(r"(\d+) of the (\d+) packets of `(examples/\S+)`")
+SAID = re.compile(r"(\d+) of the ([\d,]+) packets of `(examples/\S+)`")
+SAID_OF_LONG = re.compile(r"(\d+) of the ([\d,]+) of a (long) one")
 VERSION = re.compile(r"Wireshark (\d+\.\d+)")
+# How many PDUs of so many bytes go each way in the long capture, each in a segment of its own.
+EACH_WAY, UP_LEN, DOWN_LEN = 1_000, 96, 200
 
 
 def run(*words):
@@ -33,27 +40,41 @@ def by_us(capture):
     return len(run(sys.executable, "-B", "tools/pcap_packets.py", capture).splitlines())
 
 
-def amiss(text):
-    """What the page says that isn't so."""
+def write_long(path):
+    """Writes the long capture: a client's channels are opened, and PDUs go both ways."""
+    made = Made()
+    out, inbound = opening_of_a_client(made)
+    for number in range(EACH_WAY):
+        inbound.up(pdu(number % 256, UP_LEN))
+        out.down(pdu(number % 256, DOWN_LEN))
+    pathlib.Path(path).write_bytes(made.pcap())
+
+
+def amiss(text, captures):
+    """What the page says that isn't so, where each capture stands in the file of its name."""
     [version] = VERSION.findall(text)
     is_that = f"TShark (Wireshark) {version}." in run("tshark", "--version")
-    said = SAID.findall(text)
-    if not said:
-        yield "no figure of a capture"
-    for theirs, ours, capture in said:
-        if by_us(capture) != int(ours):
-            yield f"{capture}: this shows {by_us(capture)} packets, and not {ours}"
-        if is_that and by_tshark(capture) != int(theirs):
-            yield f"{capture}: Wireshark shows {by_tshark(capture)} packets, and not {theirs}"
+    said = [it.groups() for form in (SAID, SAID_OF_LONG) for it in form.finditer(text)]
+    for name in captures.keys() - {name for _, _, name in said}:
+        yield f"no figure of {name}"
+    for theirs, ours, name in said:
+        file = captures[name]
+        if by_us(file) != int(ours.replace(",", "")):
+            yield f"{name}: this shows {by_us(file)} packets, and not {ours}"
+        if is_that and by_tshark(file) != int(theirs):
+            yield f"{name}: Wireshark shows {by_tshark(file)} packets, and not {theirs}"
 
 
 def main(words):
-    if words == ["--list"]:
-        for file in sorted(TOP.glob("examples/*.pcap")):
-            name = str(file.relative_to(TOP))
-            print(f"{name}: Wireshark {by_tshark(name)}, this {by_us(name)}")
-        return 0
-    told = list(amiss(PAGE.read_text()))
+    with tempfile.TemporaryDirectory() as folder:
+        captures = {f"examples/{it.name}": str(it) for it in TOP.glob("examples/*.pcap")}
+        captures["long"] = f"{folder}/long.pcap"
+        write_long(captures["long"])
+        if words == ["--list"]:
+            for name, file in sorted(captures.items()):
+                print(f"{name}: Wireshark {by_tshark(file)}, this {by_us(file)}")
+            return 0
+        told = list(amiss(PAGE.read_text(), captures))
     for text in told:
         print(f"{PAGE.name}: {text}", file=sys.stderr)
     return int(bool(told))
