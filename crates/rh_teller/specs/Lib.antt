@@ -1,0 +1,3 @@
+pub mod Tales
+pub mod Reports
+pub mod ReportLaws
