@@ -1,0 +1,5 @@
+mod TagLaws
+mod KindLaws
+mod LineLaws
+mod CaptureLaws
+mod ReadLaws

@@ -1,0 +1,11 @@
+pub mod Legs
+pub mod Moves
+pub mod Captured
+pub mod Texts
+pub mod Numbers
+pub mod Kinds
+pub mod Reading
+pub mod Recordings
+pub mod RecordingLaws
+pub mod Telling
+pub mod TellingLaws
