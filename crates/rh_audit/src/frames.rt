@@ -6,7 +6,7 @@ use rh_sig::Pipe;
 use std::marker::Model;
 
 /// What stands next in a stream.
-#[derive(Clone, Copy, Debug)]
+#[derive(Clone, Copy)]
 pub(crate) enum Cut {
     /// A frame.
     Frame,

@@ -15,7 +15,7 @@ use rh_line::LegKind;
 use std::alloc::{AllocError, Global};
 
 /// A tag whose first packet was seen, and the kind of its leg.
-#[derive(Clone, Copy, Debug)]
+#[derive(Clone, Copy)]
 pub(crate) struct Begun {
     pub(crate) tag: u64,
     pub(crate) kind: LegKind,

@@ -9,7 +9,7 @@ use rh_line::LegKind;
 use rh_rts::Cookie;
 
 /// A leg whose first packet was seen.
-#[derive(Clone, Copy, Debug)]
+#[derive(Clone, Copy)]
 pub(crate) struct Link<'a> {
     pub(crate) tag: u64,
     pub(crate) kind: LegKind,

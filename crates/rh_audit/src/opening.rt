@@ -15,7 +15,7 @@ use rh_sig::Pipe;
 const GREETING: &[u8] = b"ncacn_http/1.0";
 
 /// With what a stream begins.
-#[derive(Clone, Copy, Debug)]
+#[derive(Clone, Copy)]
 pub(crate) enum Begins {
     /// A request for an IN channel where that is true, else for an OUT channel.
     Request(bool),
@@ -26,7 +26,7 @@ pub(crate) enum Begins {
 }
 
 /// What is told of the front of a stream.
-#[derive(Clone, Copy, Debug)]
+#[derive(Clone, Copy)]
 pub(crate) enum Opening {
     /// It is not whole.
     Waits,

@@ -10,14 +10,14 @@ use rh_rts::{CommandRef, Commands, Cookie, NO_COOKIE, view};
 use rh_sig::{Name, Pipe, name_of};
 
 /// The last cookie that a packet has, and the one before it.
-#[derive(Clone, Copy, Debug)]
+#[derive(Clone, Copy)]
 pub struct LastCookies {
     pub last: Cookie,
     pub before: Cookie,
 }
 
 /// A packet that has a name on its pipe.
-#[derive(Clone, Copy, Debug)]
+#[derive(Clone, Copy)]
 pub struct Packet {
     pub name: Name,
     pub cookies: LastCookies,
@@ -25,14 +25,14 @@ pub struct Packet {
 
 /// The first packet of a leg: the cookie of its channel, and in a replacement that of the
 /// predecessor.
-#[derive(Clone, Copy, Debug)]
+#[derive(Clone, Copy)]
 pub struct First {
     pub own: Cookie,
     pub predecessor: Option<Cookie>,
 }
 
 /// What a frame is on a pipe.
-#[derive(Clone, Copy, Debug)]
+#[derive(Clone, Copy)]
 pub enum Met {
     /// An RPC PDU.
     Pdu,

@@ -42,7 +42,7 @@ pub(crate) fn by_tag<'a>(alloc: Global, seen: &'a [Seen]) -> Result<Vec<Piece<'a
 }
 
 /// Lines of one tag.
-#[derive(Clone, Copy, Debug)]
+#[derive(Clone, Copy)]
 pub(crate) struct Run<'a> {
     pub(crate) tag: u64,
     /// The kind of leg that the first of them is of.

@@ -17,7 +17,7 @@ use std::alloc::AllocError;
 use std::marker::Model;
 
 /// What comes next of a stream.
-#[derive(Clone, Copy, Debug)]
+#[derive(Clone, Copy)]
 pub(crate) enum Next {
     /// A frame that counts.
     Frame(Met),

@@ -9,7 +9,7 @@ use rh_rts::Cookie;
 
 /// The first packet, the last cookie that the channel got anew, whether its handover mark came, and
 /// where the stream is broken.
-#[derive(Clone, Copy, Debug)]
+#[derive(Clone, Copy)]
 pub(crate) struct Summary {
     pub(crate) first: Option<First>,
     pub(crate) anew: Option<Cookie>,
