@@ -74,7 +74,7 @@ where
     N::In: Ready + Drop,
     N::Out: Drop,
 {
-    const STEPS: [Step; 3] = [
+    static STEPS: [Step; 3] = [
         Step::At(Side::Callee, Call::Listens),
         Step::At(Side::Caller, Call::Connects),
         Step::At(Side::Callee, Call::Accepts),

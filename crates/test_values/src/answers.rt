@@ -31,17 +31,20 @@ const IS1: Leg = Leg {
 
 const BROKEN: Cause = Cause::LegBroken { leg: IS1 };
 
-// Whether an answer is written so, behind what was there.
-fn is_written(rt: &HostRuntime, answer: &Answer, text: &str) -> Result<bool, Fail> {
+// An answer is written so, behind what was there.
+fn says(rt: HostRuntime, answer: Answer, text: &'static str) -> Result<(), Fail> {
     let mut out = String::from_str(rt.alloc(), "before\n")?;
-    write_answer(answer, &mut out)?;
+    write_answer(&answer, &mut out)?;
     out.push_str("after")?;
-    Ok(
-        out.as_str()
-            .strip_prefix("before\n")
-            .and_then(|rest| rest.strip_suffix("\nafter"))
-            == Some(text),
-    )
+    let line = out
+        .as_str()
+        .strip_prefix("before\n")
+        .and_then(|rest| rest.strip_suffix("\nafter"));
+    if line == Some(text) {
+        Ok(())
+    } else {
+        Err(text.into())
+    }
 }
 
 // Bytes that hex spells.
@@ -87,25 +90,30 @@ fn each_answer_to_a_give_is_written(rt: HostRuntime) -> Result<(), Fail> {
             side,
             answer: *answer,
         };
-        assert!(rt; is_written(&rt, &answer, text)?, "{text}");
+        says(rt, answer, text)?;
     }
     Ok(())
 }
 
-// Whether the answer to a take is written so.
-fn is_take(rt: &HostRuntime, side: Side, answer: TakeAnswer, text: &str) -> Result<bool, Fail> {
-    is_written(rt, &Answer::Take { side, answer }, text)
+// The answer to a take is written so.
+fn is_take(
+    rt: HostRuntime,
+    side: Side,
+    answer: TakeAnswer,
+    text: &'static str,
+) -> Result<(), Fail> {
+    says(rt, Answer::Take { side, answer }, text)
 }
 
 #[test]
 fn each_answer_to_a_take_is_written(rt: HostRuntime) -> Result<(), Fail> {
     let (client, server) = (Side::Client, Side::Server);
     let taken = TakeAnswer::Pdu(bytes(&rt, "05A0")?);
-    assert!(rt; is_take(&rt, server, taken, "take s pdu 05a0")?);
-    assert!(rt; is_take(&rt, server, TakeAnswer::Empty, "take s empty")?);
-    assert!(rt; is_take(&rt, client, TakeAnswer::Ended, "take c ended")?);
+    is_take(rt, server, taken, "take s pdu 05a0")?;
+    is_take(rt, server, TakeAnswer::Empty, "take s empty")?;
+    is_take(rt, client, TakeAnswer::Ended, "take c ended")?;
     let closed = TakeAnswer::Closed(BROKEN);
-    assert!(rt; is_take(&rt, server, closed, "take s closed 1 LegBroken is1")?);
+    is_take(rt, server, closed, "take s closed 1 LegBroken is1")?;
     Ok(())
 }
 
@@ -126,7 +134,7 @@ fn each_answer_to_a_send_is_written(rt: HostRuntime) -> Result<(), Fail> {
             dir: *dir,
             count: *count,
         };
-        assert!(rt; is_written(&rt, &answer, text)?, "{text}");
+        says(rt, answer, text)?;
     }
     Ok(())
 }
@@ -159,30 +167,25 @@ fn moved(rt: &HostRuntime, leg: Option<Leg>, dir: Dir, hex: Option<&str>) -> Res
 fn each_answer_to_a_move_is_written(rt: HostRuntime) -> Result<(), Fail> {
     for (leg, dir, hex, text) in &MOVES {
         let answer = moved(&rt, *leg, *dir, *hex)?;
-        assert!(rt; is_written(&rt, &answer, text)?, "{text}");
+        says(rt, answer, text)?;
     }
     Ok(())
-}
-
-// Whether an answer is written so.
-fn says(rt: &HostRuntime, answer: Answer, text: &str) -> Result<bool, Fail> {
-    is_written(rt, &answer, text)
 }
 
 #[test]
 fn each_answer_of_a_leg_is_written(rt: HostRuntime) -> Result<(), Fail> {
     let (ok, no) = (true, false);
-    assert!(rt; says(&rt, Answer::OpenLeg { leg: CO1, ok }, "open co1 ok")?);
-    assert!(rt; says(&rt, Answer::OpenLeg { leg: OS2, ok: no }, "open os2 no")?);
-    assert!(rt; says(&rt, Answer::OpenSame { leg: CI2, ok }, "open ci2 same ok")?);
+    says(rt, Answer::OpenLeg { leg: CO1, ok }, "open co1 ok")?;
+    says(rt, Answer::OpenLeg { leg: OS2, ok: no }, "open os2 no")?;
+    says(rt, Answer::OpenSame { leg: CI2, ok }, "open ci2 same ok")?;
     let same = Answer::OpenSame { leg: CI2, ok: no };
-    assert!(rt; says(&rt, same, "open ci2 same no")?);
-    assert!(rt; says(&rt, Answer::BreakLeg { leg: IS1, ok }, "break is1 ok")?);
-    assert!(rt; says(&rt, Answer::BreakLeg { leg: IS1, ok: no }, "break is1 no")?);
+    says(rt, same, "open ci2 same no")?;
+    says(rt, Answer::BreakLeg { leg: IS1, ok }, "break is1 ok")?;
+    says(rt, Answer::BreakLeg { leg: IS1, ok: no }, "break is1 no")?;
     let (leg, dir) = (IS1, Dir::U);
-    assert!(rt; says(&rt, Answer::EndLeg { leg, dir, ok }, "end is1 u ok")?);
+    says(rt, Answer::EndLeg { leg, dir, ok }, "end is1 u ok")?;
     let (leg, dir) = (CI2, Dir::D);
-    assert!(rt; says(&rt, Answer::EndLeg { leg, dir, ok: no }, "end ci2 d no")?);
+    says(rt, Answer::EndLeg { leg, dir, ok: no }, "end ci2 d no")?;
     Ok(())
 }
 
@@ -192,11 +195,11 @@ fn each_answer_of_a_moment_is_written(rt: HostRuntime) -> Result<(), Fail> {
         now: 120_000,
         ok: true,
     };
-    assert!(rt; says(&rt, later, "tick 120000 ok")?);
-    assert!(rt; says(&rt, Answer::Tick { now: 5, ok: false }, "tick 5 no")?);
-    assert!(rt; says(&rt, Answer::Quiet(4), "quiet 4")?);
-    assert!(rt; says(&rt, Answer::Spent(1), "spent 1")?);
-    assert!(rt; says(&rt, Answer::Close { side: Side::Client }, "close c ok")?);
+    says(rt, later, "tick 120000 ok")?;
+    says(rt, Answer::Tick { now: 5, ok: false }, "tick 5 no")?;
+    says(rt, Answer::Quiet(4), "quiet 4")?;
+    says(rt, Answer::Spent(1), "spent 1")?;
+    says(rt, Answer::Close { side: Side::Client }, "close c ok")?;
     Ok(())
 }
 
@@ -214,11 +217,11 @@ static IN_RECYCLES: [(Result<(), RecycleFault>, &str); 4] = [
 #[test]
 fn each_answer_to_a_recycling_is_written(rt: HostRuntime) -> Result<(), Fail> {
     for (answer, text) in &IN_RECYCLES {
-        assert!(rt; says(&rt, Answer::RecycleIn(*answer), text)?, "{text}");
+        says(rt, Answer::RecycleIn(*answer), text)?;
     }
     let busy = Err(RecycleFault::Busy { under_way: OS2 });
-    assert!(rt; says(&rt, Answer::RecycleOut(Ok(())), "recycle out ok")?);
-    assert!(rt; says(&rt, Answer::RecycleOut(busy), "recycle out busy os2")?);
+    says(rt, Answer::RecycleOut(Ok(())), "recycle out ok")?;
+    says(rt, Answer::RecycleOut(busy), "recycle out busy os2")?;
     Ok(())
 }
 
@@ -253,7 +256,7 @@ fn each_node_that_closed_is_written(rt: HostRuntime) -> Result<(), Fail> {
             who: *who,
             cause: *cause,
         };
-        assert!(rt; says(&rt, answer, text)?, "{text}");
+        says(rt, answer, text)?;
     }
     Ok(())
 }

@@ -33,7 +33,7 @@ fn a_leg_is_its_letters_and_its_number(rt: HostRuntime) -> Result<(), Fail> {
 }
 
 /// The thirteen causes.
-const CAUSES: [(Cause, &str); 13] = [
+static CAUSES: [(Cause, &str); 13] = [
     (Cause::LegBroken { leg: LEG }, "1 LegBroken co2"),
     (
         Cause::LegEnded {
@@ -129,10 +129,10 @@ const CAUSES: [(Cause, &str); 13] = [
 
 #[test]
 fn a_cause_is_its_number_its_name_and_its_fields(rt: HostRuntime) -> Result<(), Fail> {
-    for (cause, wanted) in CAUSES {
+    for (cause, wanted) in &CAUSES {
         let mut text = String::new(rt.alloc());
-        write_cause(&cause, &mut text)?;
-        assert_eq!(rt; text.as_str(), wanted);
+        write_cause(cause, &mut text)?;
+        assert_eq!(rt; text.as_str(), *wanted);
     }
     Ok(())
 }

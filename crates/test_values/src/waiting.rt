@@ -87,7 +87,7 @@ enum Deed {
 }
 
 // a greater edge
-const GREATER: &[Deed] = &[
+static GREATER: &[Deed] = &[
     Forwards(Ack(0, 100, 50, 1)),
     Forwards(OutA9),
     Forwards(Ack(0, 101, 50, 1)),
@@ -97,7 +97,7 @@ const GREATER: &[Deed] = &[
 ];
 
 // a smaller edge
-const SMALLER: &[Deed] = &[
+static SMALLER: &[Deed] = &[
     Forwards(Ack(0, 200, 0, 1)),
     Forwards(OutA9),
     Forwards(Ack(0, 100, 99, 1)),
@@ -107,7 +107,7 @@ const SMALLER: &[Deed] = &[
 ];
 
 // the same edge
-const SAME: &[Deed] = &[
+static SAME: &[Deed] = &[
     Forwards(Ack(0, 100, 50, 1)),
     Forwards(OutA9),
     Forwards(Ack(0, 150, 0, 1)),
@@ -117,7 +117,7 @@ const SAME: &[Deed] = &[
 ];
 
 // an edge above 32 bits
-const ABOVE: &[Deed] = &[
+static ABOVE: &[Deed] = &[
     Forwards(Ack(0, 4_294_967_295, 1, 1)),
     Forwards(OutA9),
     Forwards(Ack(0, 5, 5, 1)),
@@ -127,7 +127,7 @@ const ABOVE: &[Deed] = &[
 ];
 
 // three of one
-const THREE: &[Deed] = &[
+static THREE: &[Deed] = &[
     Forwards(Ack(3, 1, 0, 1)),
     Forwards(Ack(3, 3, 0, 1)),
     Forwards(Ack(3, 2, 0, 1)),
@@ -136,7 +136,7 @@ const THREE: &[Deed] = &[
 ];
 
 // another destination
-const DESTINATION: &[Deed] = &[
+static DESTINATION: &[Deed] = &[
     Forwards(Ack(0, 100, 50, 1)),
     Forwards(OutA9),
     Forwards(Ack(2, 101, 50, 1)),
@@ -147,7 +147,7 @@ const DESTINATION: &[Deed] = &[
 ];
 
 // another channel
-const CHANNEL: &[Deed] = &[
+static CHANNEL: &[Deed] = &[
     Forwards(Ack(0, 100, 50, 1)),
     Forwards(OutA9),
     Forwards(Ack(0, 101, 50, 2)),
@@ -158,7 +158,7 @@ const CHANNEL: &[Deed] = &[
 ];
 
 // no acknowledgement
-const OTHERS: &[Deed] = &[
+static OTHERS: &[Deed] = &[
     Forwards(OutA9),
     Forwards(Ack(0, 100, 50, 1)),
     Forwards(OutA9),
@@ -169,7 +169,7 @@ const OTHERS: &[Deed] = &[
 ];
 
 // its own stays its own when merged
-const OWN_STAYS: &[Deed] = &[
+static OWN_STAYS: &[Deed] = &[
     Adds(Ack(3, 100, 0, 1)),
     Forwards(Ack(3, 200, 0, 1)),
     Refuses(Ack(3, 200, 0, 2)),
@@ -178,7 +178,7 @@ const OWN_STAYS: &[Deed] = &[
 ];
 
 // a full room refuses what it cannot merge
-const FULL: &[Deed] = &[
+static FULL: &[Deed] = &[
     Forwards(Ack(0, 100, 0, 1)),
     Forwards(Ack(0, 100, 0, 2)),
     Forwards(Ack(0, 100, 0, 3)),
@@ -221,7 +221,7 @@ const FULL: &[Deed] = &[
 ];
 
 // what is refused is passed by
-const PASSED_BY: &[Deed] = &[
+static PASSED_BY: &[Deed] = &[
     Adds(EndA1),
     Forwards(OutA9),
     Adds(EndA2),

@@ -72,7 +72,7 @@ fn play<R: Abort + Wait + Clock + Copy>(
 
 #[test]
 fn a_board_that_is_full_takes_no_caller(rt: HostRuntime) {
-    const STEPS: [Step; 9] = [
+    static STEPS: [Step; 9] = [
         At(Caller, FailsToAccept),
         At(Caller, Listens),
         At(Caller, Connects),
@@ -88,7 +88,7 @@ fn a_board_that_is_full_takes_no_caller(rt: HostRuntime) {
 
 #[test]
 fn finds_failures_of_a_net_that_are_planned_and_ignored(rt: HostRuntime) {
-    const STEPS: [[Step; 4]; 4] = [
+    static STEPS: [[Step; 4]; 4] = [
         [
             At(Caller, FailsToListen),
             At(Caller, Connects),
@@ -122,7 +122,7 @@ fn finds_failures_of_a_net_that_are_planned_and_ignored(rt: HostRuntime) {
 
 #[test]
 fn finds_failures_of_a_leg_that_are_planned_and_ignored(rt: HostRuntime) {
-    const STEPS: [Step; 16] = [
+    static STEPS: [Step; 16] = [
         At(Callee, Listens),
         At(Caller, Connects),
         At(Callee, Accepts),
@@ -145,7 +145,7 @@ fn finds_failures_of_a_leg_that_are_planned_and_ignored(rt: HostRuntime) {
 
 #[test]
 fn finds_a_short_write_that_is_told_as_whole(rt: HostRuntime) {
-    const STEPS: [Step; 5] = [
+    static STEPS: [Step; 5] = [
         At(Callee, Listens),
         At(Caller, Connects),
         At(Callee, Accepts),
@@ -157,7 +157,7 @@ fn finds_a_short_write_that_is_told_as_whole(rt: HostRuntime) {
 
 #[test]
 fn finds_a_party_that_reads_its_own_bytes(rt: HostRuntime) {
-    const STEPS: [Step; 10] = [
+    static STEPS: [Step; 10] = [
         At(Callee, Listens),
         At(Caller, Connects),
         At(Callee, Accepts),
@@ -174,7 +174,7 @@ fn finds_a_party_that_reads_its_own_bytes(rt: HostRuntime) {
 
 #[test]
 fn finds_one_lane_for_all_legs(rt: HostRuntime) {
-    const STEPS: [Step; 9] = [
+    static STEPS: [Step; 9] = [
         At(Callee, Listens),
         At(Caller, Connects),
         At(Caller, Connects),
@@ -190,7 +190,7 @@ fn finds_one_lane_for_all_legs(rt: HostRuntime) {
 
 #[test]
 fn finds_a_shut_that_ends_both_ways(rt: HostRuntime) {
-    const STEPS: [Step; 9] = [
+    static STEPS: [Step; 9] = [
         At(Callee, Listens),
         At(Caller, Connects),
         At(Callee, Accepts),
@@ -206,7 +206,7 @@ fn finds_a_shut_that_ends_both_ways(rt: HostRuntime) {
 
 #[test]
 fn finds_a_leg_that_ends_nothing_when_it_is_dropped(rt: HostRuntime) {
-    const STEPS: [Step; 10] = [
+    static STEPS: [Step; 10] = [
         At(Callee, Listens),
         At(Caller, Connects),
         At(Callee, Accepts),

@@ -46,7 +46,7 @@ fn first_wrong(alloc: Global, steps: &[PipeStep]) -> Result<Option<usize>, NoMem
 
 #[test]
 fn a_pipe_gives_what_was_put_and_then_its_end(rt: HostRuntime) -> Result<(), Fail> {
-    const STEPS: [PipeStep; 6] = [
+    static STEPS: [PipeStep; 6] = [
         PipeStep::Takes(Found::Nothing, [0; 4]),
         PipeStep::Puts(b"hello", Put::Bytes(5)),
         PipeStep::Takes(Found::Bytes(4), *b"hell"),
@@ -63,7 +63,7 @@ fn a_pipe_holds_65536_bytes_and_takes_none_once_its_reader_is_gone(
     rt: HostRuntime,
 ) -> Result<(), Fail> {
     const PIECE: [u8; 40_000] = [7; 40_000];
-    const STEPS: [PipeStep; 7] = [
+    static STEPS: [PipeStep; 7] = [
         PipeStep::Puts(&PIECE, Put::Bytes(40_000)),
         PipeStep::Puts(&PIECE, Put::Bytes(25_536)),
         PipeStep::Puts(&PIECE, Put::Full),
@@ -99,7 +99,7 @@ fn answers(callers: &mut Callers, case: Case) -> bool {
 
 #[test]
 fn callers_are_answered_once_each_in_order_by_address(rt: HostRuntime) -> Result<(), Fail> {
-    const CASES: [Case; 9] = [
+    static CASES: [Case; 9] = [
         (Asks::Calls, b"here", 1, Some(0)),
         (Asks::Calls, b"there", 1, Some(1)),
         (Asks::Calls, b"here", 1, Some(2)),

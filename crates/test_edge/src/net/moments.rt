@@ -6,23 +6,25 @@ use std::test::*;
 #[test]
 fn a_memory_clock_goes_on_by_its_step_and_stays_at_its_end(rt: HostRuntime) {
     let mut clock = MemClock::new(u64::MAX - 15, 10);
-    assert_eq!(rt; clock.now(), u64::MAX - 15);
-    assert_eq!(rt; clock.now(), u64::MAX - 5);
-    assert_eq!(rt; clock.now(), u64::MAX);
-    assert_eq!(rt; clock.now(), u64::MAX);
+    for now in [u64::MAX - 15, u64::MAX - 5, u64::MAX, u64::MAX] {
+        assert_eq!(rt; clock.now(), now);
+    }
 }
 
 #[test]
 fn cookies_count_and_a_call_that_fails_uses_up_none(rt: HostRuntime) -> Result<(), Fail> {
     let mut cookies = CountCookies::new(Vec::from_slice(rt.alloc(), &[2, 3])?);
     let first = [0, 0, 0, 0, 0, 0, 0, 0, 0, 0, 0, 0, 0, 0, 0, 1];
-    assert_eq!(rt; cookies.next(), Ok(first));
-    assert_eq!(rt; cookies.next(), Err(CookieFailed));
-    assert_eq!(rt; cookies.next(), Err(CookieFailed));
-    assert_eq!(rt; cookies.faults(), 2);
     let second = [0, 0, 0, 0, 0, 0, 0, 0, 0, 0, 0, 0, 0, 0, 0, 2];
-    assert_eq!(rt; cookies.next(), Ok(second));
-    assert_eq!(rt; cookies.faults(), 2);
+    // What a call answers, and the count of failures behind it.
+    for called in [
+        (Ok(first), 0),
+        (Err(CookieFailed), 1),
+        (Err(CookieFailed), 2),
+        (Ok(second), 2),
+    ] {
+        assert_eq!(rt; (cookies.next(), cookies.faults()), called);
+    }
     Ok(())
 }
 

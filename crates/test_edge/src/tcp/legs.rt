@@ -72,7 +72,7 @@ fn play<R: Abort + sockets::Net<Listener = TcpListener, Stream = TcpStream> + Co
 
 #[test]
 fn finds_a_shut_that_ends_both_ways(rt: HostRuntime) {
-    const STEPS: [Step; 13] = [
+    static STEPS: [Step; 13] = [
         At(Caller, Connects),
         At(Callee, Accepts),
         On(1, WouldWait),
@@ -92,7 +92,7 @@ fn finds_a_shut_that_ends_both_ways(rt: HostRuntime) {
 
 #[test]
 fn finds_a_port_whose_bytes_are_swapped(rt: HostRuntime) {
-    const STEPS: [Step; 5] = [
+    static STEPS: [Step; 5] = [
         At(Caller, FailsToListen),
         At(Caller, Connects),
         At(Callee, Accepts),
@@ -104,14 +104,14 @@ fn finds_a_port_whose_bytes_are_swapped(rt: HostRuntime) {
 
 #[test]
 fn failures_are_counted(rt: HostRuntime) {
-    const IN_USE: [Step; 4] = [
+    static IN_USE: [Step; 4] = [
         At(Callee, MeetsNobody),
         At(Caller, FailsToAccept),
         At(Caller, FailsToListen),
         At(Caller, Counts(2, 0, 0, 0)),
     ];
-    const NO_HOST: [Step; 2] = [At(Caller, FailsToListen), At(Caller, Counts(1, 0, 0, 0))];
-    const REFUSED: [Step; 2] = [At(Caller, FailsToConnect), At(Caller, Counts(1, 0, 0, 0))];
+    static NO_HOST: [Step; 2] = [At(Caller, FailsToListen), At(Caller, Counts(1, 0, 0, 0))];
+    static REFUSED: [Step; 2] = [At(Caller, FailsToConnect), At(Caller, Counts(1, 0, 0, 0))];
     play(rt, rt.alloc(), To::Callee(LOOPBACK), &IN_USE);
     play(rt, rt.alloc(), To::Callee(b"\xff"), &NO_HOST);
     play(rt, rt.alloc(), To::Nobody, &REFUSED);
@@ -124,7 +124,7 @@ where
     N::In: Ready + Drop,
     N::Out: Drop,
 {
-    const STEPS: [Step; 5] = [
+    static STEPS: [Step; 5] = [
         At(Caller, Connects),
         At(Callee, Accepts),
         On(1, Writes(b"last")),
@@ -156,8 +156,8 @@ where
     N::In: Ready + Drop,
     N::Out: Drop,
 {
-    const BEFORE: [Step; 2] = [At(Caller, Connects), At(Callee, Accepts)];
-    const BEHIND: [Step; 2] = [
+    static BEFORE: [Step; 2] = [At(Caller, Connects), At(Callee, Accepts)];
+    static BEHIND: [Step; 2] = [
         At(Caller, TakesBack(0, OfSink)),
         At(Caller, Counts(0, 1, 1, 0)),
     ];
