@@ -1,0 +1,4 @@
+mod OutProxyMarks
+mod ServerMarks
+mod ClientLeaves
+mod InProxyMarks

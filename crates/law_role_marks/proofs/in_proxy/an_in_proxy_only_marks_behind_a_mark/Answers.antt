@@ -1,0 +1,6 @@
+use Rattle.law_role_marks.proofs.InProxyMarks.{only_marks_behind}
+use Rattle.law_role_marks.proofs.in_proxy.an_in_proxy_only_marks_behind_a_mark.Goals as goal
+
+pub returns : goal.returns
+returns c = λ config moves allowed.
+    only_marks_behind config moves (c.an_in_proxy_keeps_order.ensures config moves allowed)

@@ -1,0 +1,19 @@
+//! The os legs of a server that end. Its function does nothing: its contract is the law.
+
+ghost use Rattle.std.specs.Prelude.{◌≡◌, ℕ, List, true};
+ghost use Rattle.law_order.specs.Items.{has_handover};
+ghost use Rattle.rh_server.specs.Acknowledging.{out_server as os};
+ghost use Rattle.rh_server.specs.Servers.{acts, first, rules};
+ghost use Rattle.law_moves.specs.Moves.{EndMove, all_end_moved, end_started};
+ghost use Rattle.law_role_server.specs.Order.{sent};
+
+use law_role_server::a_server_gives_in_order;
+
+/// Whatever happens to a server: it goes on where an os leg ends on which it put OUT_R1/A9.
+pub fn a_server_only_marks_what_it_handed_over()
+    ensures { (window : ℕ) (moves : List EndMove)
+        → (let p = all_end_moved rules acts (end_started (first window)) moves in (n : ℕ)
+        → has_handover (sent p n) ≡ true → rules.only_marks p.passage.role (os n) ≡ true) }
+{
+    a_server_gives_in_order();
+}
