@@ -1,4 +1,7 @@
 mod OutProxyMarks
 mod ServerMarks
+mod InLeaves
+mod InPuts
+mod InMarks
 mod ClientLeaves
 mod InProxyMarks

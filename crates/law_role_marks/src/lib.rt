@@ -12,4 +12,6 @@ pub use in_proxy::{
     an_in_proxy_may_lose_what_was_handed_over, an_in_proxy_only_marks_behind_a_mark,
 };
 pub use out_proxy::an_out_proxy_only_marks_behind_a_mark;
-pub use server::a_server_only_marks_what_it_handed_over;
+pub use server::{
+    a_server_only_marks_what_it_handed_over, a_server_only_marks_what_was_handed_over,
+};
