@@ -165,7 +165,8 @@ module _ (config : InProxyConfig) (p : Passage InProxy)
     up_not None number starts b e = absurd (let bad = starts.1 in cc)
     up_not (Some o) number starts b e = omega (arith, b)
 
-    came_none : (k : ℕ) → bound config.number (opener_of s.opening) s.current (plain s.successor) ≤ k
+    came_none : (k : ℕ)
+        → bound config.number (opener_of s.opening) s.current (plain s.successor) ≤ k
         → has_handover (came k) ≡ true → ⊥
     came_none k from e =
         let none = none_passed (of_leg (ci_leg k) p.came) (known.fresh k from) in

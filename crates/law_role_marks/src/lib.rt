@@ -1,5 +1,5 @@
-//! Where a role goes on though a leg of it ends: behind which marks it only marks the leg, or has no
-//! use for it any more. Its functions do nothing: their contracts are the laws.
+//! Where a role goes on though a leg of it ends: behind which marks it only marks the leg, or has
+//! no use for it any more. Its functions do nothing: their contracts are the laws.
 #![tactic(auto)]
 
 pub mod client;
