@@ -16,7 +16,7 @@ use Rattle.law_world_rest.specs.Steady.{AreSteady}
 
 -- ---- bytes in flight
 
-no_bytes : (bytes : List ℕ) → (length bytes == 0) ≡ true → bytes ≡ []
+pub no_bytes : (bytes : List ℕ) → (length bytes == 0) ≡ true → bytes ≡ []
 no_bytes [] none = refl
 no_bytes (b ∷ bytes) none = absurd (omega (arith, eqb-true (length (b ∷ bytes)) 0 none))
 
@@ -24,7 +24,7 @@ none_first : (first behind : List ℕ) → first ++ behind ≡ [] → first ≡ 
 none_first [] behind none = refl
 none_first (b ∷ first) behind none = absurd cc
 
-none_behind : (first behind : List ℕ) → first ++ behind ≡ [] → behind ≡ []
+pub none_behind : (first behind : List ℕ) → first ++ behind ≡ [] → behind ≡ []
 none_behind [] behind none = none
 none_behind (b ∷ first) behind none = absurd cc
 
@@ -43,7 +43,7 @@ up_in_put : (dir : Dir) (bytes : List ℕ) (wire : Wire)
 up_in_put U bytes wire = refl
 up_in_put D bytes wire = refl
 
-clear_at : (all : Legs) (leg : Leg) (dir : Dir)
+pub clear_at : (all : Legs) (leg : Leg) (dir : Dir)
     → legs.is_clear leg dir all ≡ wires.is_clear dir (wire_at all leg)
 clear_at all leg U = asked blank (wires.is_clear U) (legs.of leg.kind all) leg.number
 clear_at all leg D = asked blank (wires.is_clear D) (legs.of leg.kind all) leg.number
@@ -143,7 +143,7 @@ module _ {K C S I O : Type 0} (r : Rulebook C S I O) (d : Deeds C S) (w : World 
           ∙ ap (λ (bytes : List ℕ). length bytes == 0)
           (none_first (in_flight dir (wire_at w.legs leg)) did.1 none_there)
 
-      drew_none : did.1 ≡ []
+      pub drew_none : did.1 ≡ []
       drew_none = none_behind (in_flight dir (wire_at w.legs leg)) did.1 none_there
 
       unchanged : AreSteady r d w.company → (carry r leg dir w).0 ≡ w

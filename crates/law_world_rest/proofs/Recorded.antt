@@ -82,7 +82,7 @@ module _ (law : Laws) where
   -- ---- recordings
 
   -- only a world of roles has legs
-  abbrev BothIn : AnyWorld → Type 0
+  abbrev pub BothIn : AnyWorld → Type 0
   BothIn Before = Unit {0}
   BothIn (Direct world) = Unit {0}
   BothIn (Settings config) = Unit {0}
@@ -103,7 +103,7 @@ module _ (law : Laws) where
   both_acted (Settings config) line both = both
   both_acted (Roles world) line both = law.line line world both
 
-  both_behind : (world : AnyWorld) (lines : List Line) → BothIn world
+  pub both_behind : (world : AnyWorld) (lines : List Line) → BothIn world
       → BothIn (after world lines)
   both_behind world [] both = both
   both_behind world (line ∷ lines) both =

@@ -1,0 +1,12 @@
+pub mod HeldUp
+pub mod Paths
+pub mod Drawn
+pub mod Nodes
+pub mod Low
+pub mod Legs
+pub mod Worlds
+pub mod Taken
+pub mod Kept
+pub mod HeldWorlds
+pub mod Knowing
+pub mod Recorded
