@@ -20,7 +20,7 @@ use Rattle.law_role_server_in.proofs.Steps.{AllHold, end_move_keeps, give_same, 
 use Rattle.law_role_marks.proofs.InLeaves.{IsLeft, Keeps, Leaves, conn_b2_keeps, end_a2_keeps, gone_keeps, hands_keeps, in_r1_a2_keeps, in_r1_a6_keeps, in_r2_a2_keeps, look_keeps, lost_keeps, seen_keeps, take_keeps, up_keeps}
 use Rattle.law_role_marks.proofs.InPuts.{PutKeeps, in_puts, out_puts}
 
-abbrev is_leg : ℕ → Leg
+abbrev pub is_leg : ℕ → Leg
 is_leg n = leg_at InServer n
 
 -- ---- IN_R1/A6 is taken

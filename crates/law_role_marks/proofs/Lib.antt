@@ -3,5 +3,6 @@ mod ServerMarks
 mod InLeaves
 mod InPuts
 mod InMarks
+mod InEnds
 mod ClientLeaves
 mod InProxyMarks

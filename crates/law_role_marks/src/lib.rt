@@ -13,5 +13,6 @@ pub use in_proxy::{
 };
 pub use out_proxy::an_out_proxy_only_marks_behind_a_mark;
 pub use server::{
-    a_server_only_marks_what_it_handed_over, a_server_only_marks_what_was_handed_over,
+    a_server_only_marks_what_is_over, a_server_only_marks_what_it_handed_over,
+    a_server_only_marks_what_was_handed_over,
 };
