@@ -6,3 +6,4 @@ mod ByMoves
 mod GoesOn
 mod MarkingSame
 mod NodesGoOn
+mod ServerGoesOn
