@@ -50,9 +50,9 @@ def uncut(cut):
 
 class Readme(unittest.TestCase):
     def test_the_first_run(self):
-        first, second = map(command, blocks(README, "sh")[0])
-        self.assertEqual(second, first.replace("./replay ", "./replay --unproved "))
-        done = run(first)
+        unproved, proved = map(command, blocks(README, "sh")[0])
+        self.assertEqual(unproved, proved.replace("./replay ", "./replay --unproved "))
+        done = run(proved)
         self.assertEqual(done.stdout, (TOP / "examples/direct.report").read_text(), done.stderr)
 
     def test_the_recording_and_its_report(self):
