@@ -1,9 +1,9 @@
 -- a node that draws no byte, and has not finished the leg, puts nothing there
-use Rattle.law_order.proofs.Vocabulary.{◌≡◌, ℕ, zero, suc, ◌<◌, ◌&&◌, ◌||◌, not, List, [], ◌∷◌, Bool, true, false, if◌then◌else◌, Some, None, Option, refl, sym, ap, ◌∙◌, subst, arith}
+use Rattle.law_order.proofs.Vocabulary.{◌≡◌, ℕ, suc, ◌<◌, ◌&&◌, ◌||◌, not, List, [], ◌∷◌, Bool, true, false, if◌then◌else◌, Some, None, Option, refl, sym, ap, ◌∙◌}
 use Rattle.rh_shell.specs.NearEnds.{is_empty}
 use Rattle.rh_shell.specs.Shells as shell
 use Rattle.rh_company.specs.Places as places
-use Rattle.law_moves.proofs.Vocabulary.{Leg, Course, Going, NearEnd, is_finished, is_marked, is_over, is_useless, Rules, Message, put_into, spell, Drawn, begun_now, drawn, draw, filled, next_byte, put_on, Shell, drawn_at, drawn_by, end_at, finished_at, finished_by, put_back}
+use Rattle.law_moves.proofs.Vocabulary.{Leg, Course, NearEnd, is_finished, is_marked, is_over, is_useless, Rules, Message, put_into, spell, Drawn, begun_now, drawn, draw, filled, next_byte, put_on, Shell, drawn_at, drawn_by, finished_at, finished_by, put_back}
 use Rattle.law_node_history.proofs.Vocabulary.{Place, Absent, Here, Gone}
 use Rattle.law_world_rest.specs.Steady.{PutsBytes, PutsBytesThere}
 use Rattle.law_world_waits.specs.Puts.{PutsNone, PutsNoneOn, PutsNoneThere}

@@ -1,7 +1,7 @@
 -- a node that goes on keeps each leg that is up for it, unless it has finished that
-use Rattle.law_order.proofs.Vocabulary.{◌≡◌, ℕ, ◌==◌, ◌&&◌, Bool, true, false, true≢false, if◌then◌else◌, Some, None, Option, refl, sym, ap, ◌∙◌, subst}
+use Rattle.law_order.proofs.Vocabulary.{◌≡◌, ◌==◌, ◌&&◌, true, false, true≢false, if◌then◌else◌, Some, None, Option, refl, sym, ap, ◌∙◌, subst}
 use Rattle.rh_shell.specs.Shells as shell
-use Rattle.law_moves.proofs.Vocabulary.{Course, Going, Leg, NearEnd, Rules, Side, Client, Server, U, D, Shell, end_at, finished_at, finished_by}
+use Rattle.law_moves.proofs.Vocabulary.{Going, Leg, NearEnd, Rules, Side, Client, Server, U, D, Shell, end_at, finished_at, finished_by}
 use Rattle.law_moves.proofs.Lemmas.{leg_is}
 use Rattle.law_node_history.proofs.Vocabulary.{AreCarried, Company, Deeds, History, Makers, Rulebook, World, at, came_up, events_of, is_up, ledger}
 use Rattle.law_node_history.proofs.Lemmas.{is_up_at}

@@ -3,7 +3,7 @@ use Rattle.law_order.proofs.Vocabulary.{◌≡◌, ◌⊎◌, inl, inr, ℕ, Lis
 use Rattle.rh_shell.specs.NearEnds.{is_empty}
 use Rattle.rh_wires.specs.Legs as legs
 use Rattle.rh_wires.specs.Wires as wires
-use Rattle.law_moves.proofs.Vocabulary.{Dir, U, D, Side, Client, Server, Pipe, Leg, Going, Course, NearEnd, Rooms, Acts, Rules, Message, Shell, begun, end_at, spelled, EndEvent, Event, Reading, after_end_events, after_events, messages_from}
+use Rattle.law_moves.proofs.Vocabulary.{Dir, Side, Client, Server, Pipe, Leg, Going, NearEnd, Rooms, Acts, Rules, Message, Shell, begun, end_at, spelled, EndEvent, Event, Reading, after_end_events, after_events, messages_from}
 use Rattle.law_node_history.proofs.Vocabulary.{Rulebook, Deeds, Makers, World, at, came_up, drawn_on, end_drawn_on, happened, in_flight, is_up, receiver, sender, wire_at, History}
 use Rattle.law_node_history.proofs.Lemmas.{is_up_at}
 use Rattle.law_node_streams.specs.Streams.{EndStream, Stream, is_refused_on}

@@ -1,5 +1,5 @@
 -- where nothing stands on the legs of a direction, all that is on its way waits at nodes
-use Rattle.law_order.proofs.Vocabulary.{◌≡◌, ℕ, suc, List, [], ◌++◌, refl, ap, ap₂, ◌∙◌, append-nil, fun_ext, Item, pdus, Route, OnLegs, below, held_of, part, path, reader}
+use Rattle.law_order.proofs.Vocabulary.{◌≡◌, ℕ, suc, List, [], ◌++◌, ap, ap₂, ◌∙◌, append-nil, fun_ext, Item, pdus, Route, OnLegs, below, held_of, part, path, reader}
 use Rattle.law_world_waits.specs.Waits.{waits, waits_of}
 
 module _ (r : Route) (on : OnLegs) (near : (n : ℕ) → on.near n ≡ [])

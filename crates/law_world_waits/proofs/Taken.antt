@@ -1,5 +1,5 @@
 -- where a take that reports nothing is of an end that goes on, its current list is empty
-use Rattle.law_order.proofs.Vocabulary.{◌≡◌, ℕ, List, [], ◌∷◌, Bool, refl, sym, ap, ◌∙◌, subst}
+use Rattle.law_order.proofs.Vocabulary.{◌≡◌, ℕ, List, [], ◌∷◌, Bool, refl, ap, ◌∙◌, subst}
 use Rattle.rh_line.specs.Lines as lines
 use Rattle.rh_record.specs.declared.answer.TakeAnswer.TheVariants as takes
 use Rattle.rh_shell.specs.Ends as ends

@@ -1,5 +1,5 @@
 -- at a world of roles at rest, all of whose nodes go on, nothing stands on the legs
-use Rattle.law_order.proofs.Vocabulary.{◌≡◌, ℕ, List, [], Bool, true, false, if◌then◌else◌, Some, None, Option, slice_get, refl, sym, ap, ◌∙◌, subst}
+use Rattle.law_order.proofs.Vocabulary.{◌≡◌, ℕ, List, [], true, false, if◌then◌else◌, Some, None, slice_get, refl, sym, ap, ◌∙◌, subst}
 use Rattle.rh_text.specs.declared.ends.Side.TheVariants as side
 use Rattle.rh_record.specs.declared.answer.Who.TheVariants as who
 use Rattle.rh_inproxy.specs.Machine as in_proxy
@@ -8,16 +8,15 @@ use Rattle.rh_client.specs.Client as client
 use Rattle.rh_server.specs.Servers as server
 use Rattle.rh_company.specs.Company as company
 use Rattle.rh_company.specs.Places as places
-use Rattle.law_moves.proofs.Vocabulary.{Dir, U, D, Side, by_test, CiU, IsU, CoD, OsD, Leg, Going, NearEnd, Rules, Shell, begun, end_at, place, Event, after_events}
+use Rattle.law_moves.proofs.Vocabulary.{Dir, U, D, Side, CiU, IsU, CoD, OsD, Leg, Going, NearEnd, Rules, Shell, begun, end_at, place, Event, after_events}
 use Rattle.law_role_inproxy.proofs.Vocabulary.{InProxy, item_came}
-use Rattle.law_role_client.proofs.Vocabulary.{ClientRole, down_items, has_leg}
+use Rattle.law_role_client.proofs.Vocabulary.{ClientRole, down_items}
 use Rattle.law_role_server.proofs.Vocabulary.{Server, in_items}
 use Rattle.law_node_history.proofs.Vocabulary.{Absent, Company, Gone, Here, Makers, Place, Who, World, at, in_flight, in_place, is_up, out_place, reader_of, receiver, wire_at, AreCarried, ledger, History, IsRun}
 use Rattle.law_node_history.proofs.Numbers.{asked}
 use Rattle.law_role_outproxy.proofs.Vocabulary.{ROOMS, OutProxy, new_proxy, from_server}
 use Rattle.law_node_begins.specs.ProxiesBegin.Pipes.{ci, co, is, os}
 use Rattle.law_node_traces.proofs.Vocabulary.{deeds, rules}
-use Rattle.law_peers_routes.specs.Upwards as goes_up
 use Rattle.law_world_order.proofs.Vocabulary.{Numbers}
 use Rattle.law_world_rest.specs.Rest.{IsAtRest}
 use Rattle.law_world_ways.specs.ExactPaths.GoingOn.{AllGoOn}

@@ -1,12 +1,11 @@
 -- a client that puts nothing on its writing channel
-use Rattle.law_order.proofs.Vocabulary.{◌≡◌, ℕ, Bool, true, false, if◌then◌else◌, IfSome, Some, None, Option, refl, sym, ap, ◌∙◌, eq-eqb}
+use Rattle.law_order.proofs.Vocabulary.{◌≡◌, ℕ, Bool, false, if◌then◌else◌, IfSome, Some, None, Option, refl, sym, ap, ◌∙◌, eq-eqb}
 use Rattle.rh_window.specs.declared.recv_window.Ack.{Ack}
 use Rattle.rh_client.specs.Acknowledging.{ack_due}
 use Rattle.rh_client.specs.Putting as puts
 use Rattle.rh_client.specs.Putting.{Pick, ack_by, lets_pdu, or_else, pdu_by, settled_pick}
-unfoldable use Rattle.rh_client.specs.Putting.{put_ack, put_ack_of, put_by, put_due, put_in, put_in_successor, put_next, put_pdu, put_writing}
-use Rattle.rh_client.specs.State.{ci, is_in_successor, is_writing}
-use Rattle.rh_client.specs.declared.channels.Opening.{Opening}
+unfoldable use Rattle.rh_client.specs.Putting.{put_ack, put_ack_of, put_by, put_in, put_in_successor, put_next, put_pdu, put_writing}
+use Rattle.rh_client.specs.State.{ci, is_in_successor}
 use Rattle.rh_client.specs.declared.channels.Opening.TheVariants.{Put}
 use Rattle.rh_client.specs.declared.state.ClientRole.{ClientRole}
 use Rattle.law_moves.proofs.Vocabulary.{ACK_TO_LEN, may_put, ClientIn, Which, Current, Next, front_length}

@@ -1,5 +1,5 @@
 -- an in proxy that puts nothing on its leg to the server
-use Rattle.law_order.proofs.Vocabulary.{◌≡◌, ℕ, ◌==◌, ◌&&◌, not, List, [], ◌∷◌, Bool, true, false, if◌then◌else◌, length, Some, None, Option, refl, sym, ap, ◌∙◌}
+use Rattle.law_order.proofs.Vocabulary.{◌≡◌, ℕ, ◌==◌, ◌&&◌, not, List, [], ◌∷◌, Bool, true, if◌then◌else◌, length, Some, None, Option, refl, sym, ap, ◌∙◌}
 use Rattle.rh_window.specs.declared.recv_window.Ack.{Ack}
 use Rattle.rh_line.specs.Lines.{is_empty}
 use Rattle.rh_inproxy.specs.Acknowledging as acks

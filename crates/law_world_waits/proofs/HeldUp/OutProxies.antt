@@ -1,9 +1,9 @@
 -- an out proxy that puts nothing on a leg
-use Rattle.law_order.proofs.Vocabulary.{◌≡◌, ℕ, ◌&&◌, List, [], ◌∷◌, Bool, true, false, if◌then◌else◌, length, Some, None, Option, refl, sym, ap, ◌∙◌}
+use Rattle.law_order.proofs.Vocabulary.{◌≡◌, ℕ, ◌&&◌, List, [], ◌∷◌, Bool, true, if◌then◌else◌, length, Some, None, Option, refl, sym, ap, ◌∙◌}
 use Rattle.rh_window.specs.declared.recv_window.Ack.{Ack}
 use Rattle.rh_line.specs.Lines.{is_empty}
 use Rattle.rh_outproxy.specs.Acknowledging.{ack_due}
-use Rattle.rh_outproxy.specs.OutProxy.{OutProxy, is_due, joined}
+use Rattle.rh_outproxy.specs.OutProxy.{OutProxy, is_due}
 use Rattle.rh_outproxy.specs.Putting.{Pick, ack_by, next_co, next_os, or_else, pdu_by, put, put_ack, put_answer, put_end, put_first, put_handover, put_mark, put_pdu, put_ping, put_waiting, waiting_by}
 use Rattle.rh_outproxy.specs.Rows.{is_co, is_os}
 use Rattle.law_moves.proofs.Vocabulary.{Cookie, Due, may_send, Leg, LegKind, ClientOut, OutServer, ClientIn, InServer}

@@ -3,7 +3,7 @@ use Rattle.law_order.proofs.Vocabulary.{◌≡◌, ℕ, Bool, true, false, if◌
 use Rattle.rh_window.specs.declared.recv_window.Ack.{Ack}
 use Rattle.rh_server.specs.OutLegs.{may_go}
 use Rattle.rh_server.specs.OutLines.{lets}
-use Rattle.rh_server.specs.Putting.{Pick, ack_due, gate, gate_at, may_go_at, next_in, next_out, or_else, pdu_by, put_ack, put_ack_by, put_b1, put_in, put_in_by, put_in_greeting, put_out, put_out_at, put_out_place, put_tells, settled_pick, waiting_at, waiting_by}
+use Rattle.rh_server.specs.Putting.{Pick, ack_due, gate, gate_at, may_go_at, next_out, or_else, pdu_by, put_ack, put_ack_by, put_b1, put_in, put_in_by, put_in_greeting, put_out, put_out_at, put_tells, settled_pick, waiting_at, waiting_by}
 use Rattle.rh_server.specs.States.{Server, in_leg, is_open, out_place}
 use Rattle.rh_server.specs.declared.state.InLeg.{InLeg}
 use Rattle.rh_server.specs.declared.state.OutLeg.{OutLeg}
