@@ -151,7 +151,8 @@ class Legs:
 
     def __init__(self):
         self.moment = 0
-        self.up, self.proxies = set(), {}
+        # Legs that are up, and those that were.
+        self.up, self.opened, self.proxies = set(), set(), {}
         self.streams, self.heard, self.headed = {}, {}, {}
         # By leg: the nodes that were told of its break, the node to which it was lost as it ended,
         # and the node that was told of its end, with the bytes that it held unfinished.
@@ -193,6 +194,7 @@ class Legs:
             before = f"ci{int(leg[2:]) - 1}"
             self.proxies[leg] = self.proxies.get(before, before[2:])
         self.up.add(leg)
+        self.opened.add(leg)
         for way in "ud":
             self.heard[leg, way] = self.moment
 

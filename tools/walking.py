@@ -43,6 +43,10 @@ FROM_OUTSIDE = {("1", "LegBroken"), ("2", "LegEnded"), ("9", "HttpRefused"), ("1
 # how long they may be silent.
 WATCHED = {"c": ("co", "d", "otime"), "i": ("ci", "u", "itime")}
 SILENT_AFTER = 120_000
+# By end, the legs on which it takes what the other gave, and the way on them; and the type of an RTS
+# PDU, as hex.
+FAR_LEGS = {"s": ("is", "u"), "c": ("co", "d")}
+RTS = "14"
 # How many words of a line stand in its answer too, where not all do: not what it offers, nor how
 # much it asks for. The end of a give has a rule of its own.
 OWN_WORDS = {"give": 1, "send": 3, "move": 3}
@@ -305,6 +309,22 @@ def at_rest(report, past, at, words):
     is_taken = words[2] == "pdu" or (words[2] == "ended" and words[1] not in past.ended)
     if len(words) == 5 if words[0] == "move" else is_taken:
         return "the settling before it was quiet"
+
+
+@answer_rule("quiet", "waits")
+def waiting(report, past, at, words):
+    """At a quiet settling of unbroken legs whose nodes go on, no PDU is on a leg or left to take."""
+    own = report.own[at].line
+    front = itertools.takewhile(lambda line: line is not own, report.lines)
+    if past.reported or any(line[0] in ("break", "end") for line in front):
+        return None
+    for leg, way in sorted(past.legs.streams):
+        if leg in past.legs.up and past.legs.stream(leg, way).rest:
+            return f"a message stands on {leg} in part"
+    for end, (kind, way) in FAR_LEGS.items():
+        pdus = [frame for frame in past.legs.stream(f"{kind}1", way).frames if frame[4:6] != RTS]
+        if f"{kind}2" not in past.legs.opened and len(pdus) != len(past.taken[end]):
+            return f"{end} has not taken all that came on {kind}1"
 
 
 # ---- which answers there are

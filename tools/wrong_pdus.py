@@ -1,5 +1,6 @@
 """Kinds of wrong reports: of PDUs, of clean ends, and of answers to gives."""
 import itertools
+import re
 
 from planting import Kinds
 from reports import OTHER
@@ -236,6 +237,40 @@ def pdu_behind_quiet(good):
     for at, match in good.places(r"take ([cs]) (?:empty|ended|closed .*)"):
         if pdus and good.words[at - 1][:1] == ("quiet",):
             yield good.counted(good.with_lines(at, f"take {match[1]} pdu {pdus[-1]}"))
+
+
+def at_quiet(good):
+    """Each quiet settling behind which no leg is lost by a line, no node closed and no channel has a
+    successor: the indices of its answers.
+    """
+    for at, _ in good.places(r"quiet \d+"):
+        part, before = good.told.own[at], " ".join(good.texts[: at + 1])
+        lines = good.told.lines[: good.told.lines.index(part.line)]
+        is_lost = any(line[0] in ("break", "end") for line in lines)
+        if not is_lost and not re.search(r"closed |open (?:is|co)2 ", before):
+            yield range(part.begin, at)
+
+
+@KINDS.refused_by("waiting", "roles")
+def pdu_not_taken_by_rounds(good):
+    """A settling is quiet, and a PDU that came is not taken."""
+    for answers in at_quiet(good):
+        for at in answers:
+            if good.words[at][0] == "take" and good.words[at][2] == "pdu":
+                yield good.counted(good.silenced(at))
+                break
+
+
+@KINDS.refused_by("waiting", "roles")
+def message_in_part_at_quiet(good):
+    """A settling is quiet, and the last byte of a message is not fed."""
+    for answers in at_quiet(good):
+        moves = [at for at in answers if good.words[at][0] == "move"]
+        ended = [good.words[at][1] for at in answers if good.words[at][0] == "end"]
+        for at in moves[-1:]:
+            leg, way, count, data = good.words[at][1:]
+            if leg not in ended and int(count) > 1:
+                yield good.with_lines(at, f"move {leg} {way} {int(count) - 1} {data[:-2]}")
 
 
 # ---- answers to gives

@@ -38,6 +38,7 @@ use Rattle.law_world_honest.specs.Refusals.Reported.{ReportsBreak}
 use Rattle.law_world_windows.specs.KeptHops.{KeepsHops}
 use Rattle.law_world_expected.specs.PdusInRecordings.{PassesInTurn}
 use Rattle.law_world_rest.specs.Recordings.{RestsWhereQuiet}
+use Rattle.law_world_waits.specs.Recordings.{WaitsWhereQuiet}
 use Rattle.law_world_calm.specs.Calm.{IsEndOfLeg, is_calm, settles}
 
 -- a line reports a node as closed only for what it told that node, and its answers show that
@@ -114,7 +115,9 @@ pub record TellsNothingLost (before : List Line) : Type 0 where
 -- breaks from outside only settling does, for a leg that ends there. In all of the
 -- report each node is closed once at most, and each later answer of an end that closed names the
 -- same cause. Each node that stands closed was reported so, and an answer names no cause that was
--- not reported before. Where a settling is answered quiet, nothing goes on behind it by itself.
+-- not reported before. Where a settling is answered quiet, nothing goes on behind it by itself; and
+-- while all nodes go on and no leg was lost but such as were over, what was given and not taken
+-- waits at nodes.
 pub record Claims (lines : List Line) : Type 0 where
   pub ordered : OffersBehindFirst lines → IsOrdered lines (run lines)
   pub sides : OffersBehindFirst lines → NamesSides lines (run lines)
@@ -154,3 +157,5 @@ pub record Claims (lines : List Line) : Type 0 where
   pub reported : NamesReported (run lines)
   pub rests : (before behind : List Line) (rounds : ℕ)
       → lines ≡ before ++ Settle rounds ∷ behind → RestsWhereQuiet (after Before before) rounds
+  pub waits : (before behind : List Line) (rounds : ℕ)
+      → lines ≡ First true ∷ (before ++ Settle rounds ∷ behind) → WaitsWhereQuiet before rounds

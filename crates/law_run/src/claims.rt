@@ -24,6 +24,7 @@ use law_world_reports::{
     windows_hold_in_every_recording, windows_hold_throughout_every_recording,
 };
 use law_world_rest::a_quiet_recording_is_at_rest;
+use law_world_waits::what_is_not_taken_waits_at_nodes;
 use law_world_ways::{
     a_recording_tells_all_that_it_keeps, a_recording_tells_what_is_on_its_way,
     direct_recordings_keep_all, every_recording_keeps_what_is_on_its_way, recordings_lose_nothing,
@@ -39,7 +40,9 @@ use law_world_windows::{hops_of_a_recording_are_kept, no_window_closes_a_node_of
 /// before. Each node that stands closed was reported so. A node closes only since a leg broke or
 /// ended, since its request was refused, or since no byte came for too long; and where no line does
 /// any of that, only by settling, since a leg ended. Where a settling is answered quiet, no leg
-/// that it looks at can be opened, none carries a byte or ends, and no end takes.
+/// that it looks at can be opened, none carries a byte or ends, and no end takes; and while all
+/// nodes go on and no leg was lost but such as were over, what was given and not taken waits at
+/// nodes, with none of it on a leg.
 pub fn recordings_keep_to_their_claims()
     ensures { (lines : List Line) → Claims lines }
 {
@@ -73,4 +76,5 @@ pub fn recordings_keep_to_their_claims()
     each_close_of_a_recording_is_reported();
     an_end_of_a_recording_names_what_was_reported();
     a_quiet_recording_is_at_rest();
+    what_is_not_taken_waits_at_nodes();
 }

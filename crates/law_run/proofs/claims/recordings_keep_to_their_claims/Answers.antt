@@ -55,6 +55,7 @@ returns c = λ lines. record {
   closes = λ before behind is. c.each_close_of_a_recording_is_reported.ensures before;
   reported = c.an_end_of_a_recording_names_what_was_reported.ensures lines;
   rests = λ before behind rounds is. c.a_quiet_recording_is_at_rest.ensures before rounds;
+  waits = λ before behind rounds is. c.what_is_not_taken_waits_at_nodes.ensures before rounds;
 }
   where
     honest : (before : List Line) (line : Line) → RolesAreHonest (after Before before) line
