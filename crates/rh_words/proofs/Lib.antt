@@ -1,3 +1,4 @@
+mod Following
 mod Settling
 mod FormLaws
 mod Memory

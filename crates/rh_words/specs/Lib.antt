@@ -1,4 +1,6 @@
 pub mod Statuses
+pub mod Retelling
+pub mod Retellings
 pub mod Replay
 pub mod Replays
 pub mod Play

@@ -1,25 +1,12 @@
--- what the word `replay` does, and what it writes of the recording that came
+-- what the word `replay` writes of the recording that came
 use Rattle.std.specs.Prelude.{◌≡◌, ℕ, List, ◌∷◌, false}
 use Rattle.rh_text.specs.Lines.{TextOf}
 use Rattle.rh_record.specs.declared.line.Line.{Line}
 use Rattle.rh_record.specs.declared.line.Line.TheVariants.{First}
 use Rattle.rh_record.specs.Places.{recording}
 use Rattle.rh_record.specs.Report.{report_text}
-use Rattle.rh_world.specs.declared.any_world.AnyWorld.{AnyWorld}
-use Rattle.rh_world.specs.declared.any_world.AnyWorld.TheVariants.{Before}
-use Rattle.rh_world.specs.Any.{run, step, last}
+use Rattle.rh_world.specs.Any.{run}
 use Rattle.rh_record.specs.Events.Order.{InOrder}
-use Rattle.rh_word.specs.Words.{Deeds}
-
--- it starts before the first line, does a line to the world that it makes, and writes the text of
--- what is answered
-abbrev pub replaying : Deeds AnyWorld Line
-replaying = record {
-  Starts = λ world. world ≡ Before;
-  Does = λ world line told next. (told ≡ report_text (step world line).1)
-      × (next ≡ (step world line).0);
-  Ends = λ world told. told ≡ report_text (last world);
-}
 
 -- what came is a recording, and what was written is its report, which is in order where the
 -- recording is a direct one

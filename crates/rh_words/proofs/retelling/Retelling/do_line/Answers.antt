@@ -1,17 +1,15 @@
--- the line that is read is the one that stands there, and what it is answered is told
+-- the line that is read is the one that stands there, and what is told of it is told
 use Rattle.std.proofs.Common.{List, ℕ, ◌++◌, Err, refl, sym, ap, subst, string_bytes}
 use Rattle.rh_record.specs.declared.line.Line.{Line}
 use Rattle.rh_record.specs.declared.place.Place.{Place}
 use Rattle.rh_record.specs.Places.{Stands, kind_of}
 use Rattle.rh_record.specs.Recording.{IsLine}
 use Rattle.rh_record.specs.Readings.{one_line}
-use Rattle.rh_record.specs.Report.{report_text}
-use Rattle.rh_world.specs.Any as seen
 use Rattle.rh_word.specs.Outputs.{out}
-use Rattle.rh_words.specs.Replays.{goes_on}
 use Rattle.rh_word.proofs.Results.{at_error, of_err}
 use Rattle.rh_word.proofs.Gathering.{stops_now}
-use Rattle.rh_words.proofs.replay.ReplayWordRecording.write_line.Goals as goal
+use Rattle.rh_words.specs.Retelling.{line_told, line_behind}
+use Rattle.rh_words.proofs.retelling.Retelling.do_line.Goals as goal
 
 -- a text that spells a line at a place spells no other one
 stands : (place : Place) (text : List ℕ) (line other : Line) → IsLine (kind_of place) text line
@@ -23,13 +21,14 @@ stands place text line other h k =
 pub returns-in-Err-NoMemory-clause-err : goal.returns-in-Err-NoMemory-clause-err
 returns-in-Err-NoMemory-clause-err g c =
     let (line, spelled) = c.requires.line in
-    let (told, next, does) = goes_on c.args.self.now c.args.place c.args.line.now line spelled in (
+    let tale = g.T.Teller.tale in
+    let said = line_told tale c.args.self.now line in (
       line,
-      told,
-      next,
+      said,
+      line_behind tale c.args.self.now line,
       spelled,
-      does,
-      stops_now (string_bytes c.args.gathered.now ++ told)
+      (refl, refl),
+      stops_now (string_bytes c.args.gathered.now ++ said)
           (out g.W.Sink.written g.W.Sink.takes c.args.output.now),
     )
 
@@ -38,17 +37,25 @@ returns-in_err-step-clause-err g c =
     let line = c.in-Ok.line in
     let read = subst (λ k. IsLine k c.args.line.now line) c.kind.ensures c.in-Ok.ensures.line in
     let there = stands c.args.place c.args.line.now line c.requires.line.0 read c.requires.line.1 in
-    let did = seen.step c.args.self.now line in
-    at_error c.from_residual.result _
-    (line, report_text did.1, did.0, there, (refl, refl), c.in_err-step.ensures.err)
+    let tale = g.T.Teller.tale in
+    at_error c.from_residual.result _ (
+      line,
+      line_told tale c.args.self.now line,
+      line_behind tale c.args.self.now line,
+      there,
+      (refl, refl),
+      c.in_err-step.ensures.err,
+    )
 
 pub returns-in_err-step-clause-takes : goal.returns-in_err-step-clause-takes
 returns-in_err-step-clause-takes g c = λ all said.
     let line = c.in-Ok.line in
     let read = subst (λ k. IsLine k c.args.line.now line) c.kind.ensures c.in-Ok.ensures.line in
     let there = stands c.args.place c.args.line.now line c.requires.line.0 read c.requires.line.1 in
-    let did = seen.step c.args.self.now line in
-    c.in_err-step.ensures.takes (all line (report_text did.1) did.0 there (refl, refl))
+    let tale = g.T.Teller.tale in
+    c.in_err-step.ensures.takes
+    (all line (line_told tale c.args.self.now line) (line_behind tale c.args.self.now line) there
+    (refl, refl))
     (ap Err (sym (of_err _ c.from_residual.result said c.from_residual.ensures.1)))
 
 pub returns-clause-ok : goal.returns-clause-ok
@@ -58,9 +65,9 @@ returns-clause-ok g c =
     let there = stands c.args.place c.args.line.now line c.requires.line.0 read c.requires.line.1 in
     let done = c.in_ok-step.ensures in (
       line,
-      report_text (seen.step c.args.self.now line).1,
+      line_told g.T.Teller.tale c.args.self.now line,
       there,
       c.next.ensures,
-      (refl, done.world),
+      (refl, done.next),
       done.ok,
     )

@@ -3,15 +3,15 @@ use Rattle.std.proofs.Common.{◌≡◌, ◌≢◌, ◌<◌, ◌∷◌, ◌++◌
 use Rattle.std.proofs.lemmas.Bool.Decides.{nat_tests}
 use Rattle.std.proofs.lemmas.List.{nil_from_length}
 use Rattle.rh_record.specs.declared.answer.Answer.TheVariants.{Quiet, Spent}
-use Rattle.rh_record.specs.Report.{report_text}
+use Rattle.rh_teller.specs.Tales.{told, behind}
 use Rattle.rh_world.specs.declared.any_world.AnyWorld.{AnyWorld}
 use Rattle.rh_world.specs.Any as seen
 use Rattle.rh_word.specs.Outputs.{out, Gathers, Stops}
 use Rattle.rh_word.proofs.Results.{at_error, of_err, map_ok, map_err}
 use Rattle.rh_words.proofs.Settling.{Settling, settling_first, settling_more, settling_stops, settling_sure}
-use Rattle.rh_words.proofs.Settling.{Ending, quiet_ends, spent_ends, ending_world, ending_given, ending_gathers, ending_stops, ending_sure}
-use Rattle.rh_words.proofs.replay.settle.Given.{Over}
-use Rattle.rh_words.proofs.replay.settle.Goals as goal
+use Rattle.rh_words.proofs.Settling.{Ending, quiet_ends, spent_ends, ending_world, ending_given, ending_teller, ending_gathers, ending_stops, ending_sure}
+use Rattle.rh_words.proofs.retelling.settle.Given.{Over}
+use Rattle.rh_words.proofs.retelling.settle.Goals as goal
 
 pub rounds-init : goal.rounds-init
 rounds-init g c =
@@ -21,9 +21,11 @@ rounds-init g c =
     record {
       settles = grind (arith, nat_tests);
       settling = subst
-          (λ (w : AnyWorld). Settling c.args.world.now c.args.rounds 0 w before before start start)
+          (λ (w : AnyWorld). Settling g.T.Teller.tale c.args.teller.now c.args.world.now
+          c.args.rounds 0 w c.args.teller.now before before start start)
           begun
-          (settling_first c.args.world.now c.args.rounds before start);
+          (settling_first g.T.Teller.tale c.args.teller.now c.args.world.now c.args.rounds before
+          start);
       faults = refl;
     }
 
@@ -50,13 +52,15 @@ rounds-preserved g c =
     let round = c.in_ok-round.ensures in
     record {
       settles = c.rounds.invariant.settles;
-      settling = settling_more below some round.world c.rounds.invariant.settling round.ok;
+      settling = settling_more below some round.world round.teller c.rounds.invariant.settling
+          round.ok;
       faults = grind (arith, nat_tests);
     }
 
 -- behind the rounds, the last of which reported nothing
 quiet_end : (g : Over) (c : goal.After-end_line g)
-    → Ending c.args.world.now c.args.rounds c.round.new.world (Quiet c.rounds.count)
+    → Ending g.T.Teller.tale c.args.teller.now c.args.world.now c.args.rounds
+    c.round.new.world c.round.new.teller (Quiet c.rounds.count)
     (string_bytes c.args.gathered.now) (string_bytes c.round.new.gathered)
     (out g.W.Sink.written g.W.Sink.takes c.args.output.now)
     (out g.W.Sink.written g.W.Sink.takes c.round.new.output)
@@ -65,8 +69,8 @@ quiet_end g c =
     let none : (seen.round c.rounds.world).1 ≡ [] =
     nil_from_length (seen.round c.rounds.world).1 (grind (arith, nat_tests)) in
     let round = c.in_ok-round.ensures in
-    quiet_ends c.rounds.invariant.settles below none round.world c.rounds.invariant.settling
-    round.ok
+    quiet_ends c.rounds.invariant.settles below none round.world round.teller
+    c.rounds.invariant.settling round.ok
 
 pub returns-then-branch-clause-world : goal.returns-then-branch-clause-world
 returns-then-branch-clause-world g c =
@@ -80,11 +84,19 @@ returns-then-branch-clause-given g c =
     (λ (moved : c.end_line.new.world ≡ (seen.end_line c.round.new.world).0).
     ending_given (quiet_end g c) moved) c.end_line.ensures.world
 
+pub returns-then-branch-clause-teller : goal.returns-then-branch-clause-teller
+returns-then-branch-clause-teller g c =
+    map_ok c.end_line.result
+    (λ (is : c.end_line.new.teller ≡ behind g.T.Teller.tale c.round.new.teller
+    (Quiet c.rounds.count ∷ (seen.end_line c.round.new.world).1)).
+    ending_teller (quiet_end g c) is) c.end_line.ensures.teller
+
 pub returns-then-branch-clause-ok : goal.returns-then-branch-clause-ok
 returns-then-branch-clause-ok g c =
     map_ok c.end_line.result
     (λ (wrote : Gathers (string_bytes c.round.new.gathered
-    ++ report_text (Quiet c.rounds.count ∷ (seen.end_line c.round.new.world).1))
+    ++ told g.T.Teller.tale c.round.new.teller
+    (Quiet c.rounds.count ∷ (seen.end_line c.round.new.world).1))
     (string_bytes c.end_line.new.gathered)
     (out g.W.Sink.written g.W.Sink.takes c.round.new.output)
     (out g.W.Sink.written g.W.Sink.takes c.end_line.new.output)).
@@ -95,7 +107,8 @@ pub returns-then-branch-clause-err : goal.returns-then-branch-clause-err
 returns-then-branch-clause-err g c =
     map_err c.end_line.result
     (λ (wrote : Stops (string_bytes c.round.new.gathered
-    ++ report_text (Quiet c.rounds.count ∷ (seen.end_line c.round.new.world).1))
+    ++ told g.T.Teller.tale c.round.new.teller
+    (Quiet c.rounds.count ∷ (seen.end_line c.round.new.world).1))
     (g.W.Sink.written c.round.new.output)
     (g.W.Sink.written c.end_line.new.output)).
     ending_stops (quiet_end g c) wrote)
@@ -114,7 +127,8 @@ returns-then-branch-clause-takes g c =
 
 -- behind all the rounds
 spent_end : (g : Over) (c : goal.After-end_line-2 g)
-    → Ending c.args.world.now c.args.rounds c.rounds.world (Spent c.args.rounds)
+    → Ending g.T.Teller.tale c.args.teller.now c.args.world.now c.args.rounds
+    c.rounds.world c.rounds.teller (Spent c.args.rounds)
     (string_bytes c.args.gathered.now) (string_bytes c.rounds.gathered)
     (out g.W.Sink.written g.W.Sink.takes c.args.output.now)
     (out g.W.Sink.written g.W.Sink.takes c.rounds.output)
@@ -135,11 +149,19 @@ returns-clause-given g c =
     (λ (moved : c.end_line-2.new.world ≡ (seen.end_line c.rounds.world).0).
     ending_given (spent_end g c) moved) c.end_line-2.ensures.world
 
+pub returns-clause-teller : goal.returns-clause-teller
+returns-clause-teller g c =
+    map_ok c.end_line-2.result
+    (λ (is : c.end_line-2.new.teller ≡ behind g.T.Teller.tale c.rounds.teller
+    (Spent c.args.rounds ∷ (seen.end_line c.rounds.world).1)).
+    ending_teller (spent_end g c) is) c.end_line-2.ensures.teller
+
 pub returns-clause-ok : goal.returns-clause-ok
 returns-clause-ok g c =
     map_ok c.end_line-2.result
     (λ (wrote : Gathers (string_bytes c.rounds.gathered
-    ++ report_text (Spent c.args.rounds ∷ (seen.end_line c.rounds.world).1))
+    ++ told g.T.Teller.tale c.rounds.teller
+    (Spent c.args.rounds ∷ (seen.end_line c.rounds.world).1))
     (string_bytes c.end_line-2.new.gathered)
     (out g.W.Sink.written g.W.Sink.takes c.rounds.output)
     (out g.W.Sink.written g.W.Sink.takes c.end_line-2.new.output)).
@@ -150,7 +172,8 @@ pub returns-clause-err : goal.returns-clause-err
 returns-clause-err g c =
     map_err c.end_line-2.result
     (λ (wrote : Stops (string_bytes c.rounds.gathered
-    ++ report_text (Spent c.args.rounds ∷ (seen.end_line c.rounds.world).1))
+    ++ told g.T.Teller.tale c.rounds.teller
+    (Spent c.args.rounds ∷ (seen.end_line c.rounds.world).1))
     (g.W.Sink.written c.rounds.output)
     (g.W.Sink.written c.end_line-2.new.output)).
     ending_stops (spent_end g c) wrote)
