@@ -1,4 +1,4 @@
-"""The forms of the lines that replay, show and play read, as docs/RECORDINGS.md has them.
+"""The forms of the lines that the words read, as docs/RECORDINGS.md has them.
 
 They serve what is said of a refused line (teaching.py) and the grammars of editors
 (terminal_files.py). The program has its own grammar, which alone decides.
@@ -67,9 +67,18 @@ KEEPALIVE = Slot(
 )
 SAME = number("choice of a proxy", 0, 1)
 
+TAG = number("tag", 1, 18_446_744_073_709_551_615)
+SEEN_PIPE = Slot(
+    "leg with a direction", "ciu, isu, cou, cod, osu or osd", PIPES.replace("|isd", "")
+)
+
 # Lines of packets: of `show`, and of `name`, where one may have its leg in front.
 SHOW = [(LONG_HEX,)]
 NAME = [(PIPE, LONG_HEX), (LONG_HEX,)]
+
+# The first line of a capture of legs, and the others.
+CAPTURE = "cap 1"
+AUDIT = [("seen", TAG, SEEN_PIPE, HEX)]
 
 KEYS = {
     "cwin": WINDOW,
@@ -106,7 +115,8 @@ ROLES = [
     ("recycle", "out"),
     ("settle", ROUNDS),
 ]
-HEADERS = {"rh 1 direct": DIRECT, "rh 1 roles": ROLES}
+OF_ROLES = "rh 1 roles"
+HEADERS = {"rh 1 direct": DIRECT, OF_ROLES: ROLES}
 PLAY = [
     ("case", TEXT),
     *SETTINGS,

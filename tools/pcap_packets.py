@@ -3,6 +3,7 @@
 
     tools/pcap_packets.py CAPTURE [--context] [--port N].. [--keys FILE]
     tools/pcap_packets.py --play ROLE CAPTURE [--port N].. [--keys FILE]
+    tools/pcap_packets.py --audit CAPTURE [--port N].. [--keys FILE]
 
 CAPTURE is any file that tshark reads (Debian's package tshark): pcap or pcapng, compressed too.
 Each direction of each TCP connection is read from its first byte. HTTP heads are left out, and so
@@ -18,6 +19,8 @@ whole.
                   connection of RPC PDUs with no head, greeting or RTS packet is taken only then
     --play ROLE   writes a script for `rh_cli play` instead: it feeds one client, inproxy, outproxy
                   or server what came to it, and draws where it put something
+    --audit       writes a capture for `rh_cli audit` instead: what was seen on each leg. Which
+                  connection is which tag is told on standard error
     --keys FILE   the secrets of TLS sessions, as SSLKEYLOGFILE has them; those that a pcapng file
                   holds need no option
 
@@ -31,6 +34,7 @@ import datetime
 import os
 import sys
 
+import audited
 import played
 from captured import Capture, NotRead
 from stream_reader import Packet, Reader
@@ -163,6 +167,28 @@ def play(capture, role, telling):
         print(line)
 
 
+def audit(capture, telling):
+    """Writes what was seen on each leg."""
+    legs, others = audited.legs_of(capture.connections)
+    for leg in legs:
+        ends = leg.directions[0][1].ends
+        telling.tell(f"tag {leg.tag}: {leg.kind}, connection {leg.number}, {ends}")
+        for text in leg.troubles():
+            telling.trouble(f"tag {leg.tag}, {text}")
+    for number in others:
+        told = Told(number, capture.connections[number])
+        if told.is_ours or told.has_packets:
+            frame = played.first_frame(told.connection)
+            why = told.why_left_out() if not told.is_ours else "which begins as no leg does"
+            telling.trouble(f"connection {number}, {why}, from frame {frame}, is left out")
+    if not legs:
+        telling.trouble("no connection is a leg of RPC over HTTP")
+    for text in audited.missing_sides(legs):
+        telling.trouble(text)
+    for line in audited.lines_of(legs):
+        print(line)
+
+
 def main():
     form = argparse.RawDescriptionHelpFormatter
     parser = argparse.ArgumentParser(description=__doc__, formatter_class=form)
@@ -170,6 +196,7 @@ def main():
     parser.add_argument("--context", action="store_true")
     parser.add_argument("--port", type=int, action="append", default=[])
     parser.add_argument("--play", choices=list(played.ROLES), metavar="ROLE")
+    parser.add_argument("--audit", action="store_true")
     parser.add_argument("--keys")
     options = parser.parse_args()
     if options.keys and not os.access(options.keys, os.R_OK):
@@ -180,7 +207,9 @@ def main():
     except NotRead as error:
         telling.tell(error)
         return 2
-    if options.play:
+    if options.audit:
+        audit(capture, telling)
+    elif options.play:
         play(capture, options.play, telling)
     else:
         show(capture, options, telling)

@@ -15,7 +15,7 @@ import given_pieces
 from program_crates import TOP
 from teaching import OF_PACKETS
 
-READS = "replay", "show", "name", "play"
+READS = "replay", "show", "name", "play", "capture", "audit"
 # How many words each form has, by its first word.
 ROLES = {"client": 4, "inproxy": 3, "outproxy": 3, "server": 2}
 FORMS = {"rh_cli": dict.fromkeys(READS, 1), "rh_roles": ROLES}
@@ -38,7 +38,8 @@ def say_what_to_type(program, words):
     elif words[:1] and words[0] in READS:
         say(program, f"{words[0]} reads standard input: type ./rh_cli {words[0]} < FILE")
     else:
-        hint = "type ./rh_cli WORD < FILE with replay, show, name or play, or ./rh_cli --help for more"
+        reading = "replay, show, name, play, capture or audit"
+        hint = f"type ./rh_cli WORD < FILE with {reading}, or ./rh_cli --help for more"
         say(program, hint)
 
 

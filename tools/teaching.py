@@ -1,4 +1,4 @@
-"""What is said of a line that replay, show or play refused: what stands there, and what may.
+"""What is said of a line that a word refused: what stands there, and what may.
 
 The program's own text and status stay as they are; this is a line behind it.
 """
@@ -16,21 +16,26 @@ READ_BY = {
     "replay": "a recording, which replay reads: type ./replay FILE",
     "show": "hex, which show reads: type ./rh_cli show < FILE",
     "play": "a script of one role, which play reads: type ./rh_cli play < FILE",
-    "capture": "a capture: type tools/pcap_packets.py FILE | ./rh_cli show",
+    "audit": "a capture of legs, which audit reads: type ./rh_cli audit < FILE",
+    "pcap": "a capture of a net: type tools/pcap_packets.py FILE | ./rh_cli show",
 }
 # The forms of lines of words that tell each packet in a line.
 OF_PACKETS = {"show": line_forms.SHOW, "name": line_forms.NAME}
+# What else a word reads of what begins like the texts of another one.
+READS = {"name": "show", "capture": "replay"}
 # How much of a line is told.
 MOST_TOLD = 60
 
 
 def kind_of(text):
-    """The word that reads texts which begin like this, or 'capture'; none where it is unclear."""
+    """The word that reads texts which begin like this, or 'pcap'; none where it is unclear."""
     first = text[:65_536].partition(b"\n")[0]
     if text.startswith(CAPTURES):
-        return "capture"
+        return "pcap"
     if first.startswith(b"rh "):
         return "replay"
+    if first.startswith(b"cap "):
+        return "audit"
     if ONLY_HEX.fullmatch(first):
         return "show"
     return "play" if SCRIPT_FIRST.fullmatch(first) else None
@@ -79,11 +84,11 @@ def of_settings(lines, number):
     return None
 
 
-def of_recording(lines, number):
-    """Why this line, from 1, isn't one of a recording."""
+def of_recording(lines, number, headers):
+    """Why this line, from 1, isn't one of a recording with one of these first lines."""
     line, header = lines[number - 1], lines[0]
-    if number == 1 or header not in line_forms.HEADERS:
-        return f"the first line is {' or '.join(map(repr, line_forms.HEADERS))}"
+    if number == 1 or header not in headers:
+        return f"the first line is {' or '.join(map(repr, headers))}"
     why = spacing(line) or of_forms(line_forms.HEADERS[header], line)
     if why is None and line.startswith("set "):
         return of_settings(lines, number)
@@ -102,6 +107,15 @@ def of_packets(forms, line):
     return spacing(line) or why
 
 
+def of_capture(lines, number):
+    """Why this line, from 1, isn't one of a capture of legs."""
+    if number == 1:
+        return f"the first line is {line_forms.CAPTURE!r}"
+    line = lines[number - 1]
+    why = spacing(line) or of_forms(line_forms.AUDIT, line)
+    return why or f"earlier lines of tag {line.split(' ')[1]} have pipes of another kind of leg"
+
+
 def of_script(line):
     if line.startswith("case ") and len(line) > 5 and line.isascii():
         return None
@@ -111,7 +125,7 @@ def of_script(line):
 def other_word(word, text):
     """What a text is that another word reads, and how; none where it may be one for this word."""
     kind = kind_of(text)
-    is_own = kind == word or kind == "show" and word in OF_PACKETS
+    is_own = kind in (word, READS.get(word))
     return None if is_own or kind is None else f"this is {READ_BY[kind]}"
 
 
@@ -122,7 +136,11 @@ def why_refused(word, text, number, is_front=True):
     if is_front and not text.strip():
         return "the input is empty"
     if word == "replay":
-        return of_recording(lines, number)
+        return of_recording(lines, number, list(line_forms.HEADERS))
+    if word == "capture":
+        return of_recording(lines, number, [line_forms.OF_ROLES])
+    if word == "audit":
+        return of_capture(lines, number)
     if word == "play":
         return of_script(lines[-1])
     return of_packets(OF_PACKETS[word], lines[-1]) if word in OF_PACKETS else None

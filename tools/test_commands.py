@@ -436,7 +436,8 @@ class Words(Commands):
 
     def test_what_to_type_is_told_behind_usage(self):
         self.build()
-        types = "type ./rh_cli WORD < FILE with replay, show, name or play, or ./rh_cli --help for more"
+        reading = "replay, show, name, play, capture or audit"
+        types = f"type ./rh_cli WORD < FILE with {reading}, or ./rh_cli --help for more"
         cases = [
             ((), types),
             (("-h",), types),

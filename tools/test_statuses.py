@@ -10,12 +10,17 @@ TOP = pathlib.Path(__file__).resolve().parent.parent
 PROGRAM = TOP / "crates/rh_cli/out/rh_cli"
 MOST_INPUT = 67_108_864
 
+WORDS = "replay", "show", "name", "play", "capture", "audit"
+
 RECORDING = b"rh 1 direct\ntake s\n"
+ROLES = b"rh 1 roles\nopen ci1\nsend ci1 u 9\nmove ci1 u 9"
+CAPTURE = b"cap 1\nseen 1 ciu 5250435f494e5f4441\n"
+AUDIT = b"up yes 0 0\ndown yes 0 0\n"
 SCRIPT = b"# a server\nserver\nstate"
 REPORT = b"take s empty\nup given 0 taken 0\ndown given 0 taken 0\n"
 # Words in no form, with commas between.
 USAGE = ["", "Replay", "replays", "replay,replay", "-h", "Show", "show,-", "plays", "play,client"]
-USAGE += ["Name", "names", "name,cou"]
+USAGE += ["Name", "names", "name,cou", "captures", "capture,x", "Audit", "audit,x"]
 USAGE += ["--help,x", "make", "make,0", "make,10001", "make,03", "make,x", "make,3,4"]
 PAGE = """\
   1  usage
@@ -63,9 +68,11 @@ class Statuses(unittest.TestCase):
         self.assertEqual(self.check(["name"], 0, b""), b"")
         self.assertEqual(self.check(["play"], 0, b"", self.file(SCRIPT)), b"server\nstate opening\n")
         self.assertEqual(self.check(["play"], 0, b""), b"")
+        self.assertEqual(self.check(["capture"], 0, b"", self.file(ROLES)), CAPTURE)
+        self.assertEqual(self.check(["audit"], 0, b"", self.file(CAPTURE)), AUDIT)
         self.assertEqual(self.check(["--version"], 0, b""), b"rh_cli 0.1.0\n")
         page = self.check(["--help"], 0, b"").decode()
-        for words in "replay", "show", "name", "play", "make <n>", "--help", "--version":
+        for words in (*WORDS, "make <n>", "--help", "--version"):
             self.assertIn(f"\n  rh_cli {words} ", page)
         self.assertTrue(page.endswith("\n\n" + PAGE), page)
 
@@ -85,12 +92,17 @@ class Statuses(unittest.TestCase):
             ("show", b"05\n" * 11 + b"0\n", 12),
             ("name", b"05\n" * 11 + b"co 05\n", 12),
             ("play", SCRIPT + b"\nstate s\n", 4),
+            ("capture", b"", 1),
+            ("capture", RECORDING, 1),
+            ("capture", ROLES + b"\nrh 1 roles\n", 5),
+            ("audit", b"", 1),
+            ("audit", CAPTURE + b"seen 1 cou 05\n", 3),
         ]:
             said = f"bad input {line}\n".encode()
             self.assertEqual(self.check([word], 2, said, self.file(text)), b"")
 
     def test_3_read_fault(self):
-        for word in "replay", "show", "name", "play":
+        for word in WORDS:
             closed = self.check([word], 3, b"read fault\n", None, preexec_fn=lambda: os.close(0))
             self.assertEqual(closed, b"")
 
@@ -100,6 +112,8 @@ class Statuses(unittest.TestCase):
             ("show", b"ff\n"),
             ("name", b"ff\n"),
             ("play", SCRIPT),
+            ("capture", ROLES),
+            ("audit", CAPTURE),
             ("make 3", b""),
             ("--help", b""),
             ("--version", b""),
@@ -108,7 +122,7 @@ class Statuses(unittest.TestCase):
             self.check(word.split(" "), 4, b"write fault\n", self.file(text), full)
 
     def test_9_input_too_long(self):
-        for word in "replay", "show", "name", "play":
+        for word in WORDS:
             text = self.file(b"0" * (MOST_INPUT + 2))
             self.assertEqual(self.check([word], 9, b"input too long\n", text), b"")
             self.assertEqual(os.lseek(text.fileno(), 0, os.SEEK_CUR), MOST_INPUT + 1)

@@ -59,6 +59,14 @@ SAID = {
     ("play", "client\nup co1 03\n", 2): "'03' is no cookie: 32 hex digits",
     ("play", "client\ndraw co1\n", 2): "behind 'draw co1' is missing: count of bytes: 1 to 65,536",
     ("play", "client\nstate  c\n", 2): "there are two spaces between words",
+    ("capture", "rh 1 direct\n", 1): "the first line is 'rh 1 roles'",
+    ("capture", "cap 1\n", 1): "this is a capture of legs, which audit reads: type ./rh_cli audit",
+    ("capture", "rh 1 roles\nbreak xx1\n", 2): "'xx1' is no leg: co, os, ci or is, and the",
+    ("audit", "rh 1 roles\n", 1): "this is a recording, which replay reads",
+    ("audit", "cap 2\n", 1): "the first line is 'cap 1'",
+    ("audit", "cap 1\nseen 0 ciu 05\n", 2): "'0' is no tag: 1 to 18,446,744,073,709,551,615",
+    ("audit", "cap 1\nseen 1 isd 05\n", 2): "'isd' is no leg with a direction: ciu, isu, cou,",
+    ("audit", "cap 1\nseen 1 ciu 05\nseen 1 cou 05\n", 3): "earlier lines of tag 1 have pipes of",
     ("play", "client\nstate\tc\n", 2): "'\\t' stands in it, and lines are of printed ASCII",
 }
 
@@ -97,7 +105,7 @@ class Said(unittest.TestCase):
                 self.assertNotIn("docs/RECORDINGS.md", told)
 
     def test_nothing_is_said_against_lines_that_are_taken(self):
-        for word in "replay", "play":
+        for word in "replay", "play", "capture":
             for text, _ in word_cases.ANSWERED[word]:
                 for number in range(2, text.rstrip("\n").count("\n") + 2):
                     why = teaching.why_refused(word, text.encode(), number)
@@ -105,9 +113,9 @@ class Said(unittest.TestCase):
 
     def test_captures_are_known(self):
         capture = (TOP / "examples/opening.pcap").read_bytes()
-        for word in "replay", "show", "play":
+        for word in "replay", "show", "play", "capture", "audit":
             told = teaching.said_of(word, capture, 1, 1)
-            self.assertEqual(told, f"line 1: this is {teaching.READ_BY['capture']}")
+            self.assertEqual(told, f"line 1: this is {teaching.READ_BY['pcap']}")
 
     def test_another_word(self):
         told = "line 4: docs/RECORDINGS.md has the lines that other reads"

@@ -1,7 +1,9 @@
-"""Texts that are given to the words `replay`, `show`, `name` and `play`, and what comes of each.
+"""Texts that are given to the program's words, and what comes of each.
 
 What is wanted is worked out by hand from docs/RECORDINGS.md, and never taken from the program.
 """
+
+import audit_cases
 
 # 24 bytes.
 PDU = "05000003100000001800000001000000aabbccddeeff0011"
@@ -432,10 +434,14 @@ ANSWERED = {
     "show": list(shown()),
     "name": list(named()),
     "play": PLAYED,
+    "audit": audit_cases.AUDITED,
+    "capture": audit_cases.CAPTURED,
 }
 REFUSED = {
     "replay": list(bad_replays()),
     "show": list(bad_shows()),
     "name": list(bad_names()),
     "play": list(bad_plays()),
+    "audit": list(audit_cases.bad_audits()),
+    "capture": list(audit_cases.bad_captures()),
 }

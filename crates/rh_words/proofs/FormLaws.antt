@@ -4,7 +4,7 @@ use Rattle.std.proofs.lemmas.Fmt.{decimal_injective}
 use Rattle.std.specs.declared.string.String.{String}
 use Rattle.std.specs.Global.{Global}
 use Rattle.rh_words.specs.declared.form.Form.{Form}
-use Rattle.rh_words.specs.declared.form.Form.TheVariants.{Replay, Show, Name, Play, Make, Help, Version}
+use Rattle.rh_words.specs.declared.form.Form.TheVariants.{Replay, Show, Name, Play, Capture, Audit, Make, Help, Version}
 use Rattle.rh_words.specs.declared.status.Status.{Status}
 use Rattle.rh_words.specs.declared.status.Status.TheVariants.{Done, Usage, BadInput, ReadFault, WriteFault, NoMemory, TooLong}
 use Rattle.rh_words.specs.Forms.{IsForm, form_words}
@@ -24,6 +24,10 @@ only_make Name count words h k =
     absurd (let e = ap length (two Name (Make count) words h k) in cc)
 only_make Play count words h k =
     absurd (let e = ap length (two Play (Make count) words h k) in cc)
+only_make Capture count words h k =
+    absurd (let e = ap length (two Capture (Make count) words h k) in cc)
+only_make Audit count words h k =
+    absurd (let e = ap length (two Audit (Make count) words h k) in cc)
 only_make (Make other) count words h k =
     ap Make (decimal_injective other count (omega (arith, h.1.1)) (omega (arith, k.1.1))
     (ap (λ (x : List (List ℕ)). get_or x 1 []) (two (Make other) (Make count) words h k)))

@@ -11,8 +11,10 @@ use Rattle.rh_name.specs.Lines.{asked}
 use Rattle.rh_script.specs.Scripts.{script}
 use Rattle.rh_made.specs.Texts.{summary_text}
 use Rattle.rh_generate.specs.Summaries.{summary}
+use Rattle.rh_capture.specs.Recordings.{roles_recording}
+use Rattle.rh_capture.specs.Reading.{captures}
 use Rattle.rh_words.specs.declared.form.Form.{Form}
-use Rattle.rh_words.specs.declared.form.Form.TheVariants.{Replay, Show, Name, Play, Make, Help, Version}
+use Rattle.rh_words.specs.declared.form.Form.TheVariants.{Replay, Show, Name, Play, Capture, Audit, Make, Help, Version}
 use Rattle.rh_words.specs.declared.status.Status.{Status}
 use Rattle.rh_words.specs.declared.status.Status.TheVariants as statuses
 use Rattle.rh_word.specs.declared.word.Ended.{Ended}
@@ -22,6 +24,8 @@ use Rattle.rh_words.specs.Statuses.{status_of}
 use Rattle.rh_words.specs.Replay.{IsReplayed}
 use Rattle.rh_packet_words.specs.Show.{IsShown}
 use Rattle.rh_packet_words.specs.Name.{IsNamed}
+use Rattle.rh_words.specs.Capture.{IsCaptured}
+use Rattle.rh_packet_words.specs.Audit.{IsAudited}
 use Rattle.rh_words.specs.Play.{IsPlayed}
 use Rattle.rh_words.specs.Forms.{Outside, Reads, Tells, Ran}
 use Rattle.rh_words.specs.Memory.{IsRoomFor, RanIn, RanInMemory}
@@ -127,6 +131,10 @@ ran_in_memory help version Unfailing Name status before after text h sure left n
     rw h.1 (spared asked IsNamed Unfailing before after text h.0 h.2 sure left none room)
 ran_in_memory help version Unfailing Play status before after text h sure left none room =
     rw h.1 (spared script IsPlayed Unfailing before after text h.0 h.2 sure left none room)
+ran_in_memory help version Unfailing Capture status before after text h sure left none room =
+    rw h.1 (spared roles_recording IsCaptured Unfailing before after text h.0 h.2 sure left none room)
+ran_in_memory help version Unfailing Audit status before after text h sure left none room =
+    rw h.1 (spared captures IsAudited Unfailing before after text h.0 h.2 sure left none room)
 ran_in_memory help version Unfailing (Make count) status before after text (
     inl h
     ) sure left none room =

@@ -15,8 +15,10 @@ use Rattle.rh_script.specs.Scripts.{script}
 use Rattle.rh_made.specs.Making.{IsCount}
 use Rattle.rh_made.specs.Texts.{summary_text}
 use Rattle.rh_generate.specs.Summaries.{summary}
+use Rattle.rh_capture.specs.Recordings.{roles_recording}
+use Rattle.rh_capture.specs.Reading.{captures}
 use Rattle.rh_words.specs.declared.form.Form.{Form}
-use Rattle.rh_words.specs.declared.form.Form.TheVariants.{Replay, Show, Name, Play, Make, Help, Version}
+use Rattle.rh_words.specs.declared.form.Form.TheVariants.{Replay, Show, Name, Play, Capture, Audit, Make, Help, Version}
 use Rattle.rh_words.specs.declared.status.Status.{Status}
 use Rattle.rh_words.specs.declared.status.Status.TheVariants.{Done, WriteFault, NoMemory}
 use Rattle.rh_word.specs.declared.word.Ended.{Ended}
@@ -26,6 +28,8 @@ use Rattle.rh_word.specs.Words.{Answers, Counts, counts, Counted, IsTaken, IsWho
 use Rattle.rh_words.specs.Replay.{IsReplayed}
 use Rattle.rh_packet_words.specs.Show.{IsShown}
 use Rattle.rh_packet_words.specs.Name.{IsNamed}
+use Rattle.rh_words.specs.Capture.{IsCaptured}
+use Rattle.rh_packet_words.specs.Audit.{IsAudited}
 use Rattle.rh_words.specs.Play.{IsPlayed}
 
 -- the words that ask for it
@@ -34,6 +38,8 @@ form_words Replay = codes "replay" ∷ []
 form_words Show = codes "show" ∷ []
 form_words Name = codes "name" ∷ []
 form_words Play = codes "play" ∷ []
+form_words Capture = codes "capture" ∷ []
+form_words Audit = codes "audit" ∷ []
 form_words (Make count) = codes "make" ∷ decimal count ∷ []
 form_words Help = codes "--help" ∷ []
 form_words Version = codes "--version" ∷ []
@@ -44,6 +50,8 @@ IsMade Replay = Unit {0}
 IsMade Show = Unit {0}
 IsMade Name = Unit {0}
 IsMade Play = Unit {0}
+IsMade Capture = Unit {0}
+IsMade Audit = Unit {0}
 IsMade (Make count) = IsCount count
 IsMade Help = Unit {0}
 IsMade Version = Unit {0}
@@ -128,6 +136,12 @@ Ran help version Unfailing Name status before after =
 Ran help version Unfailing Play status before after =
     (ended : Ended) × (status ≡ status_of ended)
     × Reads script IsPlayed Unfailing ended before after
+Ran help version Unfailing Capture status before after =
+    (ended : Ended) × (status ≡ status_of ended)
+    × Reads roles_recording IsCaptured Unfailing ended before after
+Ran help version Unfailing Audit status before after =
+    (ended : Ended) × (status ≡ status_of ended)
+    × Reads captures IsAudited Unfailing ended before after
 Ran help version Unfailing (Make count) status before after =
     Made (summary_text (summary count)) status before after
 Ran help version Unfailing Help status before after =

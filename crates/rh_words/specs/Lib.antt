@@ -1,6 +1,8 @@
 pub mod Statuses
 pub mod Retelling
 pub mod Retellings
+pub mod Capture
+pub mod Captures
 pub mod Replay
 pub mod Replays
 pub mod Play

@@ -8,14 +8,18 @@ use Rattle.rh_name.specs.Lines.{asked}
 use Rattle.rh_script.specs.Scripts.{script}
 use Rattle.rh_made.specs.Texts.{summary_text}
 use Rattle.rh_generate.specs.Summaries.{summary}
+use Rattle.rh_capture.specs.Recordings.{roles_recording}
+use Rattle.rh_capture.specs.Reading.{captures}
 use Rattle.rh_words.specs.declared.form.Form.{Form}
-use Rattle.rh_words.specs.declared.form.Form.TheVariants.{Replay, Show, Name, Play, Make, Help, Version}
+use Rattle.rh_words.specs.declared.form.Form.TheVariants.{Replay, Show, Name, Play, Capture, Audit, Make, Help, Version}
 use Rattle.rh_words.specs.declared.status.Status.{Status}
 use Rattle.rh_words.specs.declared.status.Status.TheVariants as statuses
 use Rattle.rh_word.specs.Words.{most_input}
 use Rattle.rh_words.specs.Replay.{IsReplayed}
 use Rattle.rh_packet_words.specs.Show.{IsShown}
 use Rattle.rh_packet_words.specs.Name.{IsNamed}
+use Rattle.rh_words.specs.Capture.{IsCaptured}
+use Rattle.rh_packet_words.specs.Audit.{IsAudited}
 use Rattle.rh_words.specs.Play.{IsPlayed}
 
 -- what a form writes of a text, whole; `help` and `version` are what the program tells of itself
@@ -24,6 +28,8 @@ IsOutput help version Replay text whole = IsReplayed text whole
 IsOutput help version Show text whole = IsShown text whole
 IsOutput help version Name text whole = IsNamed text whole
 IsOutput help version Play text whole = IsPlayed text whole
+IsOutput help version Capture text whole = IsCaptured text whole
+IsOutput help version Audit text whole = IsAudited text whole
 IsOutput help version (Make count) text whole = whole ≡ summary_text (summary count)
 IsOutput help version Help text whole = whole ≡ help
 IsOutput help version Version text whole = whole ≡ version
@@ -34,6 +40,8 @@ IsInput Replay text = IsText recording text × (length text ≤ most_input)
 IsInput Show text = IsText packets text × (length text ≤ most_input)
 IsInput Name text = IsText asked text × (length text ≤ most_input)
 IsInput Play text = IsText script text × (length text ≤ most_input)
+IsInput Capture text = IsText roles_recording text × (length text ≤ most_input)
+IsInput Audit text = IsText captures text × (length text ≤ most_input)
 IsInput (Make count) text = Unit {0}
 IsInput Help text = Unit {0}
 IsInput Version text = Unit {0}

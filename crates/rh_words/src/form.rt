@@ -20,6 +20,10 @@ pub enum Form {
     Name,
     /// `play`: what one role answers to a script.
     Play,
+    /// `capture`: the capture of a recording's run.
+    Capture,
+    /// `audit`: what captured legs carried, and whether in order.
+    Audit,
     /// `make <n>`: the summary of a generated recording of so many PDUs.
     Make(u32),
     /// `--help`: what each word does.
@@ -50,6 +54,8 @@ fn form_of_word(word: &str) -> Option<Form>
         "show" => Some(Form::Show),
         "name" => Some(Form::Name),
         "play" => Some(Form::Play),
+        "capture" => Some(Form::Capture),
+        "audit" => Some(Form::Audit),
         "--help" => Some(Form::Help),
         "--version" => Some(Form::Version),
         _ => None,

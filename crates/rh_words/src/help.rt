@@ -12,6 +12,8 @@ its roles alone.
   rh_cli show         reads lines of hex, one packet each, and writes one line for each packet
   rh_cli name         reads such lines, and writes what people call each packet
   rh_cli play         reads a script that tells one role what comes to it, and writes the answers
+  rh_cli capture      reads a recording of roles, and writes what its run moved on the legs
+  rh_cli audit        reads what was seen on legs, and writes whether PDUs were carried in order
   rh_cli make <n>     runs a generated recording of n PDUs (1 to 10,000), writes its report's last
                       lines, the bytes that moved and the rounds of its settlings
   rh_cli --help       writes this page
@@ -22,6 +24,7 @@ name may have the leg and the direction in front: ciu, cou, cod, isu, isd, osu o
 that tshark reads and from a file that holds one packet, by the repository's tools and by xxd:
 
   tools/pcap_packets.py FILE | rh_cli show
+  tools/pcap_packets.py --audit FILE | rh_cli audit
   xxd -p FILE | tr -d '\\n' | rh_cli show
 
 A status other than 0 has its text on standard error:

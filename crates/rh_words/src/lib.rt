@@ -2,6 +2,7 @@
 //! how it ends; and the top call, which may carry what is claimed of all recordings.
 #![tactic(auto)]
 
+pub mod capture;
 pub mod claims;
 pub mod form;
 pub mod help;
@@ -14,6 +15,7 @@ pub mod running;
 pub mod status;
 pub mod telling;
 
+pub use capture::Capture;
 pub use claims::{Claims, Plain};
 pub use form::{Form, form_of};
 pub use help::HELP;
