@@ -120,6 +120,8 @@ HEADERS = {"rh 1 direct": DIRECT, OF_ROLES: ROLES}
 PLAY = [
     ("case", TEXT),
     *SETTINGS,
+    ("names", "on"),
+    ("names", "off"),
     ("client",),
     ("server",),
     ("inproxy", CHANNEL),

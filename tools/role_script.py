@@ -125,11 +125,15 @@ class Node:
         """The place of the byte that comes next."""
         return self.came.get(leg, 0)
 
-    def draw(self, leg, most, data):
-        """Up to so many bytes are drawn, and these come."""
+    def draw(self, leg, most, data, *names):
+        """Up to so many bytes are drawn, and these come; packets among them have these names."""
         assert len(data) <= most
         answer = f"{len(data)} {data.hex()}" if data else "0"
-        self.script.say(f"draw {leg} {most}", f"draw {leg} {answer}")
+        named = [f"name {name}" for name in names]
+        self.script.say(f"draw {leg} {most}", f"draw {leg} {answer}", *named)
+
+    def names(self, word):
+        self.script.say(f"names {word}")
 
     def ended(self, leg, verdict=None):
         self.event(f"ended {leg}", f"ended {leg}", verdict)

@@ -12,6 +12,7 @@ import sys
 
 import role_cases_client
 import role_cases_in_proxy
+import role_cases_names
 import role_cases_out_proxy
 import role_cases_pairs
 import role_cases_server
@@ -23,6 +24,7 @@ CASES = [
     role_cases_in_proxy,
     role_cases_out_proxy,
     role_cases_pairs,
+    role_cases_names,
 ]
 FOLDER = pathlib.Path(__file__).resolve().parent.parent / "crates" / "test_roles"
 

@@ -5,7 +5,11 @@ use Rattle.std.specs.declared.result.Result.{Result}
 use Rattle.rh_rts.specs.declared.command.Cookie.{Cookie}
 use Rattle.rh_text.specs.declared.ends.Side.{Side}
 use Rattle.rh_text.specs.declared.ends.Side.TheVariants as sides
+use Rattle.rh_sig.specs.declared.name.Pipe.{Pipe}
+use Rattle.rh_sig.specs.declared.name.Pipe.TheVariants as pipes
 use Rattle.rh_line.specs.declared.leg.Leg.{Leg}
+use Rattle.rh_line.specs.declared.leg.LegKind.{LegKind}
+use Rattle.rh_line.specs.declared.leg.LegKind.TheVariants as legs
 use Rattle.rh_line.specs.declared.state.State.{State}
 use Rattle.rh_line.specs.declared.state.Take.{Take}
 use Rattle.rh_line.specs.declared.state.Take.TheVariants as taken_as
@@ -143,6 +147,20 @@ state (Client s) = shells.state_of clients.rules s
 state (Server s) = shells.state_of servers.rules s
 state (InProxy s) = shells.state_of in_proxies.rules s
 state (OutProxy s) = shells.state_of out_proxies.rules s
+
+-- the pipe on which a node puts packets of a leg, where it puts any there
+abbrev pub put_on : Node → LegKind → Option Pipe
+put_on (Client s) legs.ClientIn = Some pipes.CiU
+put_on (Client s) legs.ClientOut = Some pipes.CoU
+put_on (Client s) _ = None
+put_on (Server s) legs.InServer = Some pipes.IsD
+put_on (Server s) legs.OutServer = Some pipes.OsD
+put_on (Server s) _ = None
+put_on (InProxy s) legs.InServer = Some pipes.IsU
+put_on (InProxy s) _ = None
+put_on (OutProxy s) legs.ClientOut = Some pipes.CoD
+put_on (OutProxy s) legs.OutServer = Some pipes.OsU
+put_on (OutProxy s) _ = None
 
 -- ---- ends and proxies; none where the node is no such one
 

@@ -12,13 +12,14 @@ use crate::target::target_of;
 use rh_client::{Client, ClientConfig};
 use rh_http::Host;
 use rh_inproxy::{InProxy, InProxyConfig};
-use rh_line::{GiveFault, Leg, State, Take, Verdict};
+use rh_line::{GiveFault, Leg, LegKind, State, Take, Verdict};
 use rh_outproxy::{OutProxy, OutProxyConfig};
 use rh_pdu::header::GREATEST_FRAG;
 use rh_record::{Answer, Side, TakeAnswer};
 use rh_rts::Cookie;
 use rh_script::{Ask, Cut, Loss, Part};
 use rh_server::{FirstKind, Server, ServerConfig, first_kind};
+use rh_sig::Pipe;
 use rh_text::Bytes;
 use rh_told::Target;
 use rh_world::WorldConfig;
@@ -351,6 +352,22 @@ impl Node {
         let drawn = self.draw_into(leg, room.as_mut_slice());
         room.truncate(drawn);
         Ok(Bytes::new(room))
+    }
+
+    /// The pipe on which the node puts packets of such legs; `None` where it puts none there.
+    pub fn put_on(&self, kind: LegKind) -> Option<Pipe>
+        ensures { result ≡ seen.put_on self.now kind }
+    {
+        match (self, kind) {
+            (Node::Client(_), LegKind::ClientIn) => Some(Pipe::CiU),
+            (Node::Client(_), LegKind::ClientOut) => Some(Pipe::CoU),
+            (Node::Server(_), LegKind::InServer) => Some(Pipe::IsD),
+            (Node::Server(_), LegKind::OutServer) => Some(Pipe::OsD),
+            (Node::InProxy(_), LegKind::InServer) => Some(Pipe::IsU),
+            (Node::OutProxy(_), LegKind::ClientOut) => Some(Pipe::CoD),
+            (Node::OutProxy(_), LegKind::OutServer) => Some(Pipe::OsU),
+            _ => None,
+        }
     }
 
     /// The moment, in milliseconds.

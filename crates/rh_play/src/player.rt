@@ -4,25 +4,30 @@ ghost use Rattle.std.specs.Prelude.{◌≡◌, IfOk};
 ghost use Rattle.rh_play.specs.Players as seen;
 
 use crate::node::Node;
+use rh_line::Leg;
 use rh_record::{Answer, Key};
 use rh_rts::NO_COOKIE;
-use rh_script::{Act, Part, Step, Words};
+use rh_script::{Act, Naming, Part, Step, Words};
+use rh_sig::Pipe;
+use rh_text::Bytes;
 use rh_told::Told;
 use rh_world::{Roles, WorldConfig};
 use std::alloc::{AllocError, Global};
 use std::marker::Model;
 
-/// The node that plays, where one began, and the numbers of those that will begin.
+/// The node that plays, where one began, the numbers of those that will begin, and whether packets
+/// are named.
 #[derive(Drop)]
 pub struct Player {
     roles: Roles,
+    naming: Naming,
     node: Option<Node>,
 }
 
 impl Model for Player {
     ghost Value = { seen.Player };
 
-    ghost view = { λ p. record { config = p.roles; node = p.node } };
+    ghost view = { λ p. record { config = p.roles; naming = p.naming; node = p.node } };
 }
 
 /// What an end answered, where the node is one.
@@ -32,6 +37,16 @@ fn told_end(answer: Option<Answer>) -> Told
     match answer {
         None => Told::None,
         Some(answer) => Told::End(answer),
+    }
+}
+
+/// What is told of bytes that were drawn and put on that pipe.
+fn told_drawn(naming: Naming, pipe: Option<Pipe>, leg: Leg, bytes: Bytes) -> Told
+    ensures { result ≡ seen.told_drawn naming pipe leg bytes }
+{
+    match naming {
+        Naming::On => Told::Named { leg, pipe, bytes },
+        Naming::Off => Told::Drawn { leg, bytes },
     }
 }
 
@@ -56,11 +71,13 @@ fn do_act(alloc: Global, node: &mut Node, act: Act) -> Result<Told, AllocError>
 }
 
 /// What a node is told or asked.
-fn do_step(alloc: Global, node: &mut Node, step: &Step) -> Result<Told, AllocError>
-    ensures { IfOk result (λ told. (node.new, told) ≡ seen.done node.old step.now) }
+fn do_step(alloc: Global, naming: Naming, node: &mut Node, step: &Step) -> Result<Told, AllocError>
+    ensures { IfOk result (λ told. (node.new, told) ≡ seen.done naming node.old step.now) }
 {
     match step {
-        Step::Note | Step::Case { .. } | Step::Set { .. } | Step::Begin(_) => Ok(Told::Silent),
+        Step::Note | Step::Case { .. } | Step::Set { .. } | Step::Names(_) | Step::Begin(_) => {
+            Ok(Told::Silent)
+        }
         Step::Ask { ask, leg } => {
             let (ask, leg) = (*ask, *leg);
             let yes = node.ask(ask, leg);
@@ -78,8 +95,9 @@ fn do_step(alloc: Global, node: &mut Node, step: &Step) -> Result<Told, AllocErr
         }
         Step::Draw { leg, count } => {
             let leg = *leg;
+            let pipe = node.put_on(leg.kind);
             let bytes = node.draw(alloc, leg, *count)?;
-            Ok(Told::Drawn { leg, bytes })
+            Ok(told_drawn(naming, pipe, leg, bytes))
         }
         Step::Lose { loss, leg } => {
             let (loss, leg) = (*loss, *leg);
@@ -109,6 +127,7 @@ impl Player {
     {
         Player {
             roles: Roles::new(WorldConfig::roles()),
+            naming: Naming::Off,
             node: None,
         }
     }
@@ -135,7 +154,7 @@ impl Player {
     {
         match &mut self.node {
             None => Ok(Told::None),
-            Some(node) => do_step(alloc, node, step),
+            Some(node) => do_step(alloc, self.naming, node, step),
         }
     }
 
@@ -150,6 +169,10 @@ impl Player {
             Step::Case { words } => Ok(Told::Case(Words::copy(alloc, words.as_slice())?)),
             Step::Set { key, value } => {
                 self.set(*key, *value);
+                Ok(Told::Silent)
+            }
+            Step::Names(naming) => {
+                self.naming = *naming;
                 Ok(Told::Silent)
             }
             Step::Begin(part) => {

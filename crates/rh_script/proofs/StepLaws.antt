@@ -18,14 +18,15 @@ use Rattle.rh_script.specs.declared.step.Cut.{Cut as Coming}
 use Rattle.rh_script.specs.declared.step.Cut.TheVariants as comings
 use Rattle.rh_script.specs.declared.step.Loss.{Loss}
 use Rattle.rh_script.specs.declared.step.Loss.TheVariants as losses
+use Rattle.rh_script.specs.declared.step.Naming.{Naming}
 use Rattle.rh_script.specs.declared.step.Act.TheVariants as acts
 use Rattle.rh_script.specs.declared.step.Step.{Step}
-use Rattle.rh_script.specs.declared.step.Step.TheVariants.{Note, Case, Set, Begin, Ask, Up, Feed, Draw, Lose, Tick, Give, Act, First}
+use Rattle.rh_script.specs.declared.step.Step.TheVariants.{Note, Case, Set, Names, Begin, Ask, Up, Feed, Draw, Lose, Tick, Give, Act, First}
 use Rattle.rh_script.specs.declared.verb.Verb.{Verb}
 use Rattle.rh_script.specs.declared.verb.Verb.TheVariants as verbs
 use Rattle.rh_script.specs.declared.verb.Lone.{Lone}
 use Rattle.rh_script.specs.declared.verb.Lone.TheVariants as lone
-use Rattle.rh_script.specs.Steps.{ask_word, cut_word, loss_word}
+use Rattle.rh_script.specs.Steps.{ask_word, cut_word, loss_word, naming_word}
 use Rattle.rh_script.specs.Scripts.{StepText, IsBytes, IsChannel, IsCookie, IsNote, IsUp}
 use Rattle.rh_script.specs.Verbs.{verb_word, lone_word, lone_step}
 use Rattle.rh_script.specs.declared.reading.StepRefused.{StepRefused}
@@ -46,6 +47,11 @@ pub no_set : (rest : List ℕ) → ((key : Key) (value : ℕ) → Word (key_word
     → IsBehind (codes "set") rest None
 no_set rest none text cut (Set key value) h = none key value (behind text _ _ cut h).1
 no_set rest none text cut step h = absurd (omega (arith, kind_behind step text _ _ cut h))
+
+pub no_names : (rest : List ℕ) → ((naming : Naming) → rest ≡ naming_word naming → ⊥)
+    → IsBehind (codes "names") rest None
+no_names rest none text cut (Names naming) h = none naming (behind text _ _ cut h).1
+no_names rest none text cut step h = absurd (omega (arith, kind_behind step text _ _ cut h))
 
 pub no_in_proxy : (rest : List ℕ) → ((number : ℕ) → IsChannel number rest → ⊥)
     → IsBehind (codes "inproxy") rest None
@@ -114,6 +120,7 @@ pub no_line : (text : List ℕ) → (IsNote text → ⊥)
 no_line text note none alone Note h = note h
 no_line text note none alone (Case words) h = none verbs.Case h.1 (cut_of h)
 no_line text note none alone (Set key value) h = none verbs.Set h.1 (cut_of h)
+no_line text note none alone (Names naming) h = none verbs.Names h.1 (cut_of h)
 no_line text note none alone (Begin Client) h = alone lone.Client h
 no_line text note none alone (Begin Server) h = alone lone.Server h
 no_line text note none alone (Begin (InProxy number)) h = none verbs.InProxy h.1 (cut_of h)

@@ -15,11 +15,13 @@ use Rattle.rh_script.specs.declared.step.Cut.TheVariants.{Whole, Each}
 use Rattle.rh_script.specs.declared.step.Cut.{Cut as Coming}
 use Rattle.rh_script.specs.declared.step.Loss.TheVariants.{Ended, Broken}
 use Rattle.rh_script.specs.declared.step.Loss.{Loss}
+use Rattle.rh_script.specs.declared.step.Naming.TheVariants.{On, Off}
+use Rattle.rh_script.specs.declared.step.Naming.{Naming}
 use Rattle.rh_script.specs.declared.step.Act.TheVariants.{Take, Close, Recycle, State, Channels, Target}
 use Rattle.rh_script.specs.declared.step.Act.{Act as Acted}
 use Rattle.rh_script.specs.declared.step.Step.{Step}
-use Rattle.rh_script.specs.declared.step.Step.TheVariants.{Note, Case, Set, Begin, Ask, Up, Feed, Draw, Lose, Tick, Give, Act, First}
-use Rattle.rh_script.specs.Steps.{act_word, ask_word, cut_word, loss_word}
+use Rattle.rh_script.specs.declared.step.Step.TheVariants.{Note, Case, Set, Names, Begin, Ask, Up, Feed, Draw, Lose, Tick, Give, Act, First}
+use Rattle.rh_script.specs.Steps.{act_word, ask_word, cut_word, loss_word, naming_word}
 use Rattle.rh_script.specs.Scripts.{StepText, IsChannel, IsCookie}
 
 -- ---- first words
@@ -48,13 +50,15 @@ kind_of tag =
     (if tag == 6777206 then 10 else
     (if tag == 7627115 || tag == 6515823 || tag == 7497059
     || tag == 7566433 || tag == 6514785 || tag == 7627122 then 11 else
-    12)))))))))))
+    (if tag == 7233901 then 13 else
+    12))))))))))))
 
 -- the kind of a line
 abbrev pub kind : Step → ℕ
 kind Note = 0
 kind (Case _) = 1
 kind (Set _ _) = 2
+kind (Names _) = 13
 kind (Begin _) = 3
 kind (Ask _ _) = 4
 kind (Up _ _) = 5
@@ -105,6 +109,7 @@ pub told : (step : Step) (text : List ℕ) → StepText step text → kind_of (t
 told Note text (rest, is) = ap (λ (t : List ℕ). kind_of (tag_of t)) is
 told (Case words) text h = ahead 1 (codes "case") text (λ rest. refl) h
 told (Set key value) text h = ahead 2 (codes "set") text (λ rest. refl) h
+told (Names naming) text h = ahead 13 (codes "names") text (λ rest. refl) h
 told (Begin Client) text h = alone 3 (codes "client") text refl h
 told (Begin Server) text h = alone 3 (codes "server") text refl h
 told (Begin (InProxy number)) text h = ahead 3 (codes "inproxy") text (λ rest. refl) h
@@ -152,6 +157,11 @@ one_loss : (word : List ℕ) (a b : Loss) → word ≡ loss_word a → word ≡ 
 one_loss word Ended Ended h k = refl
 one_loss word Broken Broken h k = refl
 one_loss word _ _ h k = absurd (omega (arith, ap letters (sym h ∙ k)))
+
+one_naming : (word : List ℕ) (a b : Naming) → word ≡ naming_word a → word ≡ naming_word b → a ≡ b
+one_naming word On On h k = refl
+one_naming word Off Off h k = refl
+one_naming word _ _ h k = absurd (omega (arith, ap letters (sym h ∙ k)))
 
 one_act : (word : List ℕ) (a b : Acted) → word ≡ act_word a → word ≡ act_word b → a ≡ b
 one_act word Take Take h k = refl
@@ -209,6 +219,8 @@ one_step text (Set a v) (Set b w) h k =
     let keys : a ≡ b = one_key later.0 a b later.2.0 later.2.1 in
     let values : v ≡ w = one_number 0 most_number later.1 v w
     (omega arith) later.3.0.spelled later.3.1.spelled in cc
+one_step text (Names a) (Names b) h k =
+    let here = both text h k in ap Names (one_naming here.1 a b here.3.0 here.3.1)
 one_step text (Begin a) (Begin b) h k = ap Begin (one_part text a b h k)
 one_step text (Ask a l) (Ask b m) h k =
     let here = both text h k in

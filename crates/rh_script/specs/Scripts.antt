@@ -12,7 +12,7 @@ use Rattle.rh_script.specs.declared.reading.TheConstants.{HASH}
 use Rattle.rh_script.specs.declared.step.Part.TheVariants as parts
 use Rattle.rh_script.specs.declared.step.Step.{Step}
 use Rattle.rh_script.specs.declared.step.Step.TheVariants as steps
-use Rattle.rh_script.specs.Steps.{act_word, ask_word, cut_word, loss_word}
+use Rattle.rh_script.specs.Steps.{act_word, ask_word, cut_word, loss_word, naming_word}
 
 -- a comment
 abbrev pub IsNote : List ℕ → Type 0
@@ -44,6 +44,7 @@ abbrev pub StepText : Step → List ℕ → Type 0
 StepText steps.Note = IsNote
 StepText (steps.Case words) = Word (codes "case") (IsWords words)
 StepText (steps.Set key value) = Word (codes "set") (Word (key_word key) (IsValue key value))
+StepText (steps.Names naming) = Word (codes "names") (Is (naming_word naming))
 StepText (steps.Begin parts.Client) = Is (codes "client")
 StepText (steps.Begin parts.Server) = Is (codes "server")
 StepText (steps.Begin (parts.InProxy number)) = Word (codes "inproxy") (IsChannel number)

@@ -8,6 +8,8 @@ use Rattle.rh_script.specs.declared.step.Cut.{Cut}
 use Rattle.rh_script.specs.declared.step.Cut.TheVariants.{Whole, Each}
 use Rattle.rh_script.specs.declared.step.Loss.{Loss}
 use Rattle.rh_script.specs.declared.step.Loss.TheVariants.{Ended, Broken}
+use Rattle.rh_script.specs.declared.step.Naming.{Naming}
+use Rattle.rh_script.specs.declared.step.Naming.TheVariants.{On, Off}
 
 -- the word for what is asked of a leg
 abbrev pub ask_word : Ask → List ℕ
@@ -24,6 +26,11 @@ cut_word Each = codes "each"
 abbrev pub loss_word : Loss → List ℕ
 loss_word Ended = codes "ended"
 loss_word Broken = codes "broken"
+
+-- the word for whether packets are named
+abbrev pub naming_word : Naming → List ℕ
+naming_word On = codes "on"
+naming_word Off = codes "off"
 
 -- the word for what is done or asked with no more words
 abbrev pub act_word : Act → List ℕ

@@ -13,6 +13,7 @@ use Rattle.rh_script.specs.declared.verb.Lone.TheVariants as lone
 abbrev pub verb_word : Verb → List ℕ
 verb_word verbs.Case = codes "case"
 verb_word verbs.Set = codes "set"
+verb_word verbs.Names = codes "names"
 verb_word verbs.InProxy = codes "inproxy"
 verb_word verbs.OutProxy = codes "outproxy"
 verb_word verbs.Wants = codes "wants"

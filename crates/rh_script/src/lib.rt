@@ -10,5 +10,5 @@ pub mod words;
 
 pub use reading::{StepRefused, read_step};
 pub use script::Script;
-pub use step::{Act, Ask, Cut, Loss, Part, Step};
+pub use step::{Act, Ask, Cut, Loss, Naming, Part, Step};
 pub use words::Words;

@@ -6,14 +6,15 @@ ghost use Rattle.rh_rts.specs.declared.command.Cookie.{Cookie};
 ghost use Rattle.rh_line.specs.declared.leg.Leg.{Leg};
 ghost use Rattle.rh_record.specs.declared.line.Key.{Key};
 ghost use Rattle.rh_record.specs.Words.{Is, IsCount, IsLeg, IsValue, Then, Word, key_word};
+ghost use Rattle.rh_script.specs.declared.step.Naming.{Naming};
 ghost use Rattle.rh_script.specs.declared.step.Step.{Step};
 ghost use Rattle.rh_script.specs.declared.reading.StepRefused.TheVariants.{Grammar};
-ghost use Rattle.rh_script.specs.Steps.{ask_word, cut_word, loss_word};
+ghost use Rattle.rh_script.specs.Steps.{ask_word, cut_word, loss_word, naming_word};
 ghost use Rattle.rh_script.specs.Scripts.{IsBytes, IsChannel, IsCookie, IsNote, IsUp, StepText};
 ghost use Rattle.rh_script.specs.Verbs.{lone_step, verb_word};
 ghost use Rattle.rh_script.specs.ParsedSteps.{IsBehind, IsParsed, IsRead, IsWhole};
 
-use crate::step::{Act, Ask, Cut, Loss, Part, Step};
+use crate::step::{Act, Ask, Cut, Loss, Naming, Part, Step};
 use crate::verb::{Lone, Verb};
 use crate::words::Words;
 use rh_line::Leg;
@@ -79,6 +80,18 @@ fn read_setting(text: &[u8]) -> Option<(Key, u32)>
     let key = Key::of_word(key)?;
     let value = key.read_value(value)?;
     Some((key, value))
+}
+
+/// Whether packets are named.
+fn read_naming(word: &[u8]) -> Option<Naming>
+    ensures { MatchOption result ((naming : Naming) → ¬ (word.now ≡ naming_word naming))
+        (λ naming. word.now ≡ naming_word naming) }
+{
+    match word {
+        b"on" => Some(Naming::On),
+        b"off" => Some(Naming::Off),
+        _ => None,
+    }
 }
 
 /// The cookie of 32 hex digits.
@@ -151,6 +164,14 @@ fn parse_set(words: &[u8]) -> Option<Parsed<'_>>
 {
     let (key, value) = read_setting(words)?;
     Some(Parsed::Plain(Step::Set { key, value }))
+}
+
+/// Reads whether packets are named.
+fn parse_names(words: &[u8]) -> Option<Parsed<'_>>
+    ensures { IsBehind (codes "names") words.now result }
+{
+    let naming = read_naming(words)?;
+    Some(Parsed::Plain(Step::Names(naming)))
 }
 
 /// Reads the number of an in proxy that begins.
@@ -238,6 +259,7 @@ fn parse_behind(verb: Verb, words: &[u8]) -> Option<Parsed<'_>>
     match verb {
         Verb::Case => parse_case(words),
         Verb::Set => parse_set(words),
+        Verb::Names => parse_names(words),
         Verb::InProxy => parse_in_proxy(words),
         Verb::OutProxy => parse_out_proxy(words),
         Verb::Wants => parse_ask(Ask::Wants, words),

@@ -44,6 +44,13 @@ pub enum Loss {
     Broken,
 }
 
+/// Whether the packets among bytes that are drawn are named.
+#[derive(Clone, Copy)]
+pub enum Naming {
+    On,
+    Off,
+}
+
 /// What is done or asked with no more words.
 #[derive(Clone, Copy)]
 pub enum Act {
@@ -70,6 +77,8 @@ pub enum Step {
     Case { words: Words },
     /// A number of the nodes that begin behind it, in the range of its key.
     Set { key: Key, value: u32 },
+    /// The packets of draws behind it are named, or are not.
+    Names(Naming),
     /// A node begins, with no leg. It ends the one before.
     Begin(Part),
     Ask { ask: Ask, leg: Leg },

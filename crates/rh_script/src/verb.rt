@@ -7,6 +7,7 @@ use rh_record::words::split_word;
 pub(crate) enum Verb {
     Case,
     Set,
+    Names,
     InProxy,
     OutProxy,
     Wants,
@@ -50,6 +51,7 @@ impl Verb {
         match word {
             b"case" => Some(Verb::Case),
             b"set" => Some(Verb::Set),
+            b"names" => Some(Verb::Names),
             b"inproxy" => Some(Verb::InProxy),
             b"outproxy" => Some(Verb::OutProxy),
             b"wants" => Some(Verb::Wants),

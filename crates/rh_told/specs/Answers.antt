@@ -15,6 +15,7 @@ use Rattle.rh_script.specs.declared.step.Part.{Part}
 use Rattle.rh_script.specs.declared.step.Part.TheVariants as parts
 use Rattle.rh_script.specs.Steps.{ask_word, cut_word, loss_word}
 use Rattle.rh_told.specs.declared.told.Told.{Told}
+use Rattle.rh_told.specs.Names.{names_among}
 use Rattle.rh_told.specs.declared.told.Told.TheVariants as told
 
 -- ---- lines
@@ -81,6 +82,7 @@ told_text (told.Asked ask leg ok) = on_leg (ask_word ask) leg ++ yes_text ok
 told_text (told.Up leg ok) = on_leg (codes "up") leg ++ yes_text ok
 told_text (told.Fed cut leg verdict) = on_leg (cut_word cut) leg ++ verdict_text verdict
 told_text (told.Drawn leg bytes) = drawn_text leg bytes
+told_text (told.Named leg pipe bytes) = drawn_text leg bytes ++ names_among pipe bytes
 told_text (told.Lost loss leg verdict) = on_leg (loss_word loss) leg ++ verdict_text verdict
 told_text (told.Ticked now verdict) = tick_text now verdict
 told_text (told.End answer) = report_text (answer ∷ [])

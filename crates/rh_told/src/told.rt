@@ -7,13 +7,16 @@ ghost use Rattle.std.specs.Prelude.{◌≡◌, ◌++◌, codes, string_bytes};
 ghost use Rattle.rh_text.specs.Writing.{Writes};
 ghost use Rattle.rh_line.specs.Texts.{cause_text};
 ghost use Rattle.rh_script.specs.Steps.{ask_word, cut_word, loss_word};
+ghost use Rattle.rh_told.specs.Names.{names_among};
 ghost use Rattle.rh_told.specs.Answers as seen;
 
+use crate::names::write_names;
 use crate::target::Target;
 use rh_line::{Cause, Leg, State, Verdict, write_cause};
 use rh_record::{Answer, write_answer};
 use rh_script::{Ask, Cut, Loss, Part, Words};
 use rh_server::FirstKind;
+use rh_sig::Pipe;
 use rh_text::{Bytes, Part as Piece, push_ascii, write_parts};
 use std::alloc::AllocError;
 
@@ -43,6 +46,13 @@ pub enum Told {
     },
     Drawn {
         leg: Leg,
+        bytes: Bytes,
+    },
+    /// The same, and what the packets among the bytes are called on the pipe on which they were
+    /// put; on any one where none is told.
+    Named {
+        leg: Leg,
+        pipe: Option<Pipe>,
         bytes: Bytes,
     },
     Lost {
@@ -181,6 +191,20 @@ fn write_drawn(leg: Leg, bytes: &[u8], out: &mut String) -> Result<(), AllocErro
     write_parts(&[word, letters, number, SPACE, len, SPACE, hex, END], out)
 }
 
+/// Appends the line of bytes that were drawn, and one for each packet among them.
+fn write_drawn_names(
+    leg: Leg,
+    pipe: Option<Pipe>,
+    bytes: &[u8],
+    out: &mut String,
+) -> Result<(), AllocError>
+    ensures { Writes (seen.drawn_text leg bytes.now ++ names_among pipe bytes.now) result
+        (string_bytes out.old) (string_bytes out.new) }
+{
+    write_drawn(leg, bytes, out)?;
+    write_names(pipe, bytes, out)
+}
+
 /// Appends the line of a case.
 fn write_case(words: &Words, out: &mut String) -> Result<(), AllocError>
     ensures { Writes (seen.case_text words.now) result
@@ -269,7 +293,7 @@ fn first_line(kind: FirstKind) -> &'static str
     }
 }
 
-/// Appends the text of an answer: a line with LF at its end, or nothing.
+/// Appends the text of an answer: lines with LF at their ends, or nothing.
 ///
 /// Fails where there is no memory; a front of the text may stand in `out` then, and nothing else.
 pub fn write_told(told: &Told, out: &mut String) -> Result<(), AllocError>
@@ -284,6 +308,7 @@ pub fn write_told(told: &Told, out: &mut String) -> Result<(), AllocError>
         Told::Up { leg, yes } => write_on_leg("up", *leg, yes_word(*yes), out),
         Told::Fed { cut, leg, verdict } => write_event(cut_word(*cut), *leg, verdict, out),
         Told::Drawn { leg, bytes } => write_drawn(*leg, bytes.as_slice(), out),
+        Told::Named { leg, pipe, bytes } => write_drawn_names(*leg, *pipe, bytes.as_slice(), out),
         Told::Lost { loss, leg, verdict } => write_event(loss_word(*loss), *leg, verdict, out),
         Told::Ticked { now, verdict } => write_tick(*now, verdict, out),
         Told::End(answer) => write_answer(answer, out),
