@@ -63,9 +63,10 @@ pub fn write_cookie(word: &'static str, cookie: Cookie, out: &mut String) -> Res
     write_id(cookie, out)
 }
 
-/// Appends a word, the bytes received and the available window of an acknowledgement.
+/// Appends a word, the bytes received and the available window of an acknowledgement, both in
+/// bytes.
 #[tactic(auto, unfolding(crate::specs::Fields::counts_field))]
-fn write_counts(
+pub fn write_counts(
     word: &'static str,
     received: u32,
     window: u32,

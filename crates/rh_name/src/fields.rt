@@ -195,7 +195,7 @@ fn of_replacement(number: u8) -> &'static str
 }
 
 /// The word for a cookie of a packet with this name, before which so many stand.
-fn cookie_word(name: Name, number: u8) -> &'static str
+pub fn cookie_word(name: Name, number: u8) -> &'static str
     ensures { result.now ≡ seen.cookie_word name number }
 {
     match name {
@@ -230,7 +230,7 @@ fn word_of(name: Name, number: u8, command: CommandRef<'_>) -> &'static str
 }
 
 /// How many cookies stand before the next command, as far as words tell.
-fn counted(number: u8, command: CommandRef<'_>) -> u8
+pub fn counted(number: u8, command: CommandRef<'_>) -> u8
     ensures { result ≡ seen.counted number (shown command.entry) }
 {
     match command {
@@ -242,7 +242,7 @@ fn counted(number: u8, command: CommandRef<'_>) -> u8
 // ---- packets
 
 /// Appends a field of a packet with this name, before which so many cookies stand.
-fn write_named_field(
+pub fn write_named_field(
     name: Name,
     number: u8,
     command: CommandRef<'_>,

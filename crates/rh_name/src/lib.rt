@@ -11,7 +11,10 @@ pub mod reader;
 pub mod telling;
 mod words;
 
+pub use cookies::write_counts;
+pub use fields::{cookie_word, counted, write_named_field};
 pub use laws::one_name;
+pub use pdus::{write_kind, write_pdu};
 pub use reader::{Asked, Namer, Names, split_pipe};
-pub use telling::{name_packet, write_named};
+pub use telling::{is_rts, name_packet, write_named};
 pub use words::{name_word, pipe_word};

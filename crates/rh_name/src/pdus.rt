@@ -40,9 +40,9 @@ fn kind_word(ptype: u8) -> Option<&'static str>
     }
 }
 
-/// Appends the word for a kind of PDU, or its number.
+/// Appends the word for a kind of PDU, by its PTYPE (C706 12.1), or its number.
 #[tactic(auto, unfolding(crate::specs::Pdus::kind_by))]
-fn write_kind(ptype: u8, out: &mut String) -> Result<(), AllocError>
+pub fn write_kind(ptype: u8, out: &mut String) -> Result<(), AllocError>
     ensures { Writes (seen.kind_by ptype (slice_get seen.kinds ptype)) result
         (string_bytes out.old) (string_bytes out.new) }
 {

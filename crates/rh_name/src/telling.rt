@@ -75,7 +75,7 @@ fn write_rts(pipe: Option<Pipe>, bytes: &[u8], out: &mut String) -> Result<(), A
 }
 
 /// Whether the bytes have a whole header of the kind of RTS packets.
-fn is_rts(bytes: &[u8]) -> bool
+pub fn is_rts(bytes: &[u8]) -> bool
     ensures { result ≡ seen.is_rts bytes.now }
 {
     bytes.len() >= HEADER_LEN && bytes[PTYPE_AT] == RTS
