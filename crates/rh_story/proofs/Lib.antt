@@ -1,0 +1,6 @@
+mod Cutting
+mod FrameItems
+mod LineTexts
+mod Places
+pub mod Printed
+mod WholeFrames

@@ -1,0 +1,4 @@
+pub mod Streams
+pub mod Items
+pub mod Brief
+pub mod Stories
