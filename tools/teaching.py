@@ -22,7 +22,7 @@ READ_BY = {
 # The forms of lines of words that tell each packet in a line.
 OF_PACKETS = {"show": line_forms.SHOW, "name": line_forms.NAME}
 # What else a word reads of what begins like the texts of another one.
-READS = {"name": "show", "capture": "replay"}
+READS = {"name": "show", "capture": "replay", "story": "replay"}
 # How much of a line is told.
 MOST_TOLD = 60
 
@@ -135,7 +135,7 @@ def why_refused(word, text, number, is_front=True):
     lines = [it.decode("utf-8", "replace") for it in text.split(b"\n", number)[:number]]
     if is_front and not text.strip():
         return "the input is empty"
-    if word == "replay":
+    if word in ("replay", "story"):
         return of_recording(lines, number, list(line_forms.HEADERS))
     if word == "capture":
         return of_recording(lines, number, [line_forms.OF_ROLES])

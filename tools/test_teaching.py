@@ -27,6 +27,7 @@ SPELLED = {
 
 SAID = {
     ("replay", "rh 1 roles\nset cwin 100\n", 2): "'100' is no window: 8,192 to 262,144 bytes",
+    ("story", "rh 1 roles\nset cwin 100\n", 2): "'100' is no window: 8,192 to 262,144 bytes",
     ("replay", "rh 1 roles\nset keep 59999\n", 2): "'59999' is no keepalive: 0, or 60,000 to 4,29",
     ("replay", "rh 1 roles\nset\n", 2): "behind 'set' is missing: 'cwin'",
     ("replay", "rh 1 roles\nset win 1\n", 2): "'win' is no setting: they are cwin, iwin, owin,",

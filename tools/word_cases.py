@@ -96,6 +96,68 @@ REPLAYED = [
     *((text, ALL_OPENING) for text in SETTINGS),
 ]
 
+# ---- story: recordings, and what is told of them
+
+TOLD = [
+    # A PDU that comes in two pieces is told when it is whole.
+    (
+        f"""rh 1 direct
+give c {PDU}
+send cs u 24
+move cs u 20
+move cs u 20
+take s
+take s
+""",
+        """0 give c request call 1 length 24
+0 send cs u 24
+0 cs c>s request call 1 length 24
+0 take s request call 1 length 24
+0 take s empty
+0 up given 1 taken 1
+0 down given 0 taken 0
+""",
+    ),
+    # Each line has the moment before it; a tick that is refused changes none. A move on a leg that
+    # isn't up tells nothing.
+    (
+        """rh 1 roles
+tick 5
+tick 4
+tick 7
+send co1 u 1
+move co1 u 1
+""",
+        """0 tick 5 ok
+5 tick 4 no
+5 tick 7 ok
+7 send co1 u no
+7 up given 0 taken 0
+7 down given 0 taken 0
+7 client opening in 1 out 1
+7 server opening in 1 out 1
+""",
+    ),
+    # A head is told by its first line. The packet behind it has its fields, and the last four bytes
+    # of each cookie.
+    (
+        """rh 1 roles
+open co1
+send co1 u 65536
+move co1 u 65536
+""",
+        """0 open co1 ok
+0 send co1 u 274
+0 co1 c>o RPC_OUT_DATA /rpc/rpcproxy.dll?server:593 HTTP/1.1
+0 co1 c>o CONN/A1 virtual ..00000001 out ..00000003 window 65536
+0 up given 0 taken 0
+0 down given 0 taken 0
+0 client opening in 1 out 1
+0 server opening in 1 out 1
+""",
+    ),
+]
+
 # ---- replay: texts just outside the grammar, by the number of the first such line
 
 HEADERS = [
@@ -431,6 +493,7 @@ def bad_plays():
 
 ANSWERED = {
     "replay": REPLAYED,
+    "story": TOLD,
     "show": list(shown()),
     "name": list(named()),
     "play": PLAYED,
@@ -439,6 +502,7 @@ ANSWERED = {
 }
 REFUSED = {
     "replay": list(bad_replays()),
+    "story": list(bad_replays()),
     "show": list(bad_shows()),
     "name": list(bad_names()),
     "play": list(bad_plays()),

@@ -3,7 +3,7 @@
 _guddrino() {
     local words word="${COMP_WORDS[COMP_CWORD]}"
     case "${COMP_WORDS[0]##*/}" in
-    rh_cli) words="--unproved replay show name play capture audit make --help --version" ;;
+    rh_cli) words="--unproved replay story show name play capture audit make --help --version" ;;
     rh_roles) words="--unproved client inproxy outproxy server --help --version" ;;
     replay) words="--unproved --help" ;;
     esac

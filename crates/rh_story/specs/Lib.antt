@@ -2,3 +2,4 @@ pub mod Streams
 pub mod Items
 pub mod Brief
 pub mod Stories
+pub mod Tale

@@ -9,6 +9,7 @@ pub mod laws;
 mod lines;
 pub mod story;
 mod streams;
+mod teller;
 
 pub use laws::{cut_anywhere, each_frame_is_told};
 pub use story::Story;

@@ -14,7 +14,7 @@ use Rattle.rh_generate.specs.Summaries.{summary}
 use Rattle.rh_capture.specs.Recordings.{roles_recording}
 use Rattle.rh_capture.specs.Reading.{captures}
 use Rattle.rh_words.specs.declared.form.Form.{Form}
-use Rattle.rh_words.specs.declared.form.Form.TheVariants.{Replay, Show, Name, Play, Capture, Audit, Make, Help, Version}
+use Rattle.rh_words.specs.declared.form.Form.TheVariants.{Replay, Story, Show, Name, Play, Capture, Audit, Make, Help, Version}
 use Rattle.rh_words.specs.declared.status.Status.{Status}
 use Rattle.rh_words.specs.declared.status.Status.TheVariants as statuses
 use Rattle.rh_word.specs.declared.word.Ended.{Ended}
@@ -22,6 +22,7 @@ use Rattle.rh_word.specs.declared.word.Ended.TheVariants as ends
 use Rattle.rh_word.specs.Words.{IsBegun, most_input}
 use Rattle.rh_words.specs.Statuses.{status_of}
 use Rattle.rh_words.specs.Replay.{IsReplayed}
+use Rattle.rh_words.specs.Story.{IsStory}
 use Rattle.rh_packet_words.specs.Show.{IsShown}
 use Rattle.rh_packet_words.specs.Name.{IsNamed}
 use Rattle.rh_words.specs.Capture.{IsCaptured}
@@ -125,6 +126,8 @@ pub ran_in_memory : (help version : List ℕ) (Unfailing : Type 0) (form : Form)
     → RanInMemory help version form text status after.written
 ran_in_memory help version Unfailing Replay status before after text h sure left none room =
     rw h.1 (spared recording IsReplayed Unfailing before after text h.0 h.2 sure left none room)
+ran_in_memory help version Unfailing Story status before after text h sure left none room =
+    rw h.1 (spared recording IsStory Unfailing before after text h.0 h.2 sure left none room)
 ran_in_memory help version Unfailing Show status before after text h sure left none room =
     rw h.1 (spared packets IsShown Unfailing before after text h.0 h.2 sure left none room)
 ran_in_memory help version Unfailing Name status before after text h sure left none room =

@@ -18,7 +18,7 @@ use Rattle.rh_generate.specs.Summaries.{summary}
 use Rattle.rh_capture.specs.Recordings.{roles_recording}
 use Rattle.rh_capture.specs.Reading.{captures}
 use Rattle.rh_words.specs.declared.form.Form.{Form}
-use Rattle.rh_words.specs.declared.form.Form.TheVariants.{Replay, Show, Name, Play, Capture, Audit, Make, Help, Version}
+use Rattle.rh_words.specs.declared.form.Form.TheVariants.{Replay, Story, Show, Name, Play, Capture, Audit, Make, Help, Version}
 use Rattle.rh_words.specs.declared.status.Status.{Status}
 use Rattle.rh_words.specs.declared.status.Status.TheVariants.{Done, WriteFault, NoMemory}
 use Rattle.rh_word.specs.declared.word.Ended.{Ended}
@@ -26,6 +26,7 @@ use Rattle.rh_word.specs.declared.word.Ended.TheVariants as ends
 use Rattle.rh_words.specs.Statuses.{status_of}
 use Rattle.rh_word.specs.Words.{Answers, Counts, counts, Counted, IsTaken, IsWhole, most_input}
 use Rattle.rh_words.specs.Replay.{IsReplayed}
+use Rattle.rh_words.specs.Story.{IsStory}
 use Rattle.rh_packet_words.specs.Show.{IsShown}
 use Rattle.rh_packet_words.specs.Name.{IsNamed}
 use Rattle.rh_words.specs.Capture.{IsCaptured}
@@ -35,6 +36,7 @@ use Rattle.rh_words.specs.Play.{IsPlayed}
 -- the words that ask for it
 abbrev pub form_words : Form → List (List ℕ)
 form_words Replay = codes "replay" ∷ []
+form_words Story = codes "story" ∷ []
 form_words Show = codes "show" ∷ []
 form_words Name = codes "name" ∷ []
 form_words Play = codes "play" ∷ []
@@ -47,6 +49,7 @@ form_words Version = codes "--version" ∷ []
 -- a generated recording gives as many PDUs as it may
 abbrev pub IsMade : Form → Type 0
 IsMade Replay = Unit {0}
+IsMade Story = Unit {0}
 IsMade Show = Unit {0}
 IsMade Name = Unit {0}
 IsMade Play = Unit {0}
@@ -127,6 +130,9 @@ abbrev pub Ran : (help version : List ℕ) (Unfailing : Type 0) → Form → Sta
 Ran help version Unfailing Replay status before after =
     (ended : Ended) × (status ≡ status_of ended)
     × Reads recording IsReplayed Unfailing ended before after
+Ran help version Unfailing Story status before after =
+    (ended : Ended) × (status ≡ status_of ended)
+    × Reads recording IsStory Unfailing ended before after
 Ran help version Unfailing Show status before after =
     (ended : Ended) × (status ≡ status_of ended)
     × Reads packets IsShown Unfailing ended before after

@@ -5,6 +5,8 @@ pub mod Capture
 pub mod Captures
 pub mod Replay
 pub mod Replays
+pub mod Story
+pub mod Stories
 pub mod Play
 pub mod Plays
 pub mod Forms

@@ -14,6 +14,8 @@ use rh_text::read_number;
 pub enum Form {
     /// `replay`: a recording's report.
     Replay,
+    /// `story`: a recording, told to people.
+    Story,
     /// `show`: what the packets of lines of hex are.
     Show,
     /// `name`: what the packets of lines of hex are called.
@@ -51,6 +53,7 @@ fn form_of_word(word: &str) -> Option<Form>
 {
     match word {
         "replay" => Some(Form::Replay),
+        "story" => Some(Form::Story),
         "show" => Some(Form::Show),
         "name" => Some(Form::Name),
         "play" => Some(Form::Play),

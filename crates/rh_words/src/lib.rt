@@ -13,6 +13,7 @@ pub mod replay;
 pub mod retelling;
 pub mod running;
 pub mod status;
+pub mod story;
 pub mod telling;
 
 pub use capture::Capture;
@@ -30,4 +31,5 @@ pub use rh_packet_words::{Name, Show};
 pub use rh_word::{Ended, Word, answer, numbers_are_fixed};
 pub use running::{VERSION, run};
 pub use status::Status;
+pub use story::StoryWord;
 pub use telling::{tell, tell_summary};

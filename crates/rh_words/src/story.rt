@@ -1,0 +1,50 @@
+//! Tells a recording as a story.
+
+use crate::retelling::Retelling;
+use rh_io::Sink;
+use rh_record::{Place, Recording};
+use rh_story::Story;
+use rh_word::{Unfinished, Word};
+use std::alloc::{AllocError, Global};
+
+/// The word `story`: reads a recording and tells it to people.
+pub type StoryWord = Retelling<Story>;
+
+impl Word<Recording> for Retelling<Story> {
+    ghost use Rattle.rh_story.specs.Tale.{story};
+    ghost use Rattle.rh_world.specs.Any.{given};
+    ghost use Rattle.rh_words.specs.Story.{IsStory};
+    ghost use Rattle.rh_words.specs.Retelling.{retelling};
+    ghost use Rattle.rh_words.specs.Stories.{goes_on, comes_to_end, means};
+
+    ghost deeds = { retelling story };
+
+    ghost says = { IsStory };
+
+    ghost done = { λ s. given s.world };
+
+    fn start(alloc: Global) -> Result<Retelling<Story>, AllocError> {
+        Retelling::begin(alloc)
+    }
+
+    fn write_line<W: Sink>(
+        &mut self,
+        alloc: Global,
+        line: &[u8],
+        place: Place,
+        gathered: &mut String,
+        output: &mut W,
+    ) -> Result<Place, Unfinished> {
+        self.do_line::<W>(alloc, line, place, gathered, output)
+    }
+
+    fn finish(&mut self, alloc: Global, out: &mut String) -> Result<(), AllocError> {
+        self.tell_last(alloc, out)
+    }
+
+    ghost goes_on = { goes_on };
+
+    ghost comes_to_end = { comes_to_end };
+
+    ghost means = { means };
+}
