@@ -6,6 +6,7 @@
                                                       proved
 """
 import os
+import pathlib
 import subprocess
 import sys
 
@@ -15,7 +16,9 @@ import given_pieces
 from program_crates import TOP
 from teaching import OF_PACKETS
 
-READS = "replay", "show", "name", "play", "capture", "audit"
+READS = "replay", "story", "show", "name", "play", "capture", "audit"
+# What tools/story_chart.py draws of a story, by the word behind `story`.
+CHARTS = {"--chart": [], "--svg": ["--svg"]}
 # How many words each form has, by its first word.
 ROLES = {"client": 4, "inproxy": 3, "outproxy": 3, "server": 2}
 FORMS = {"rh_cli": dict.fromkeys(READS, 1), "rh_roles": ROLES}
@@ -38,7 +41,7 @@ def say_what_to_type(program, words):
     elif words[:1] and words[0] in READS:
         say(program, f"{words[0]} reads standard input: type ./rh_cli {words[0]} < FILE")
     else:
-        reading = "replay, show, name, play, capture or audit"
+        reading = "replay, story, show, name, play, capture or audit"
         hint = f"type ./rh_cli WORD < FILE with {reading}, or ./rh_cli --help for more"
         say(program, hint)
 
@@ -75,8 +78,23 @@ def run_over_input(program, command, word, place):
     return given_pieces.run(*said, whole if command[0] == "rt" else None)
 
 
+def run_chart(command, options, place):
+    """Runs `story`, and draws what it tells: its status, or else that of the chart."""
+    chart = pathlib.Path(__file__).resolve().with_name("story_chart.py")
+    drawing = subprocess.Popen([sys.executable, "-B", chart, *options], stdin=subprocess.PIPE)
+    out = os.dup(1)
+    os.dup2(drawing.stdin.fileno(), 1)
+    drawing.stdin.close()
+    status = given_input.run(command, "story", lambda text: say("rh_cli", text), place)
+    os.dup2(out, 1)
+    return status or drawing.wait()
+
+
 def run(program, command, words, place=None):
     """Runs it, and says what to type behind a usage error."""
+    is_chart = len(words) == 2 and words[0] == "story" and words[1] in CHARTS
+    if is_chart and program == "rh_cli" and given_input.is_readable():
+        return run_chart(command, CHARTS[words[1]], place)
     if words == ["--version"]:
         return tell_version(command, place)
     is_reading = len(words) == 1 and program == "rh_cli" and words[0] in READS
