@@ -101,13 +101,24 @@ class Readme(unittest.TestCase):
 class Recordings(unittest.TestCase):
     def test_captures(self):
         lines = [line for block in blocks(RECORDINGS, "sh") for line in block]
-        self.assertEqual(len([line for line in lines if "CAPTURE" in line]), len(lines))
-        for line in lines:
+        for line in (line for line in lines if "CAPTURE" in line):
             for capture, count in PACKETS.items():
                 done = run(line.replace("CAPTURE", capture))
-                self.assertEqual((done.returncode, done.stderr), (0, ""), line)
+                # For an audit it is told which tag is which connection.
+                said = "" if "--audit" in line else done.stderr
+                self.assertEqual((done.returncode, said), (0, ""), line)
                 packets = re.findall(r"(?m)^(?:\S+Z .* )?(?:rts [0-9a-f]{4}|rpc) ", done.stdout)
-                self.assertEqual(len(packets), 0 if "--play" in line else count, line)
+                shows = "--play" not in line and "--audit" not in line
+                self.assertEqual(len(packets), count if shows else 0, line)
+
+    def test_audits(self):
+        lines = [line for block in blocks(RECORDINGS, "sh") for line in block]
+        self.assertEqual(len([line for line in lines if "CAPTURE" not in line]), 2)
+        wanted = [r"up no 1\ndown yes 0 0\n", r"up yes \d+ \d+\ndown yes 0 0\n"]
+        for line, told in zip((line for line in lines if "CAPTURE" not in line), wanted):
+            done = run(line)
+            self.assertEqual((done.returncode, done.stderr), (0, ""), line)
+            self.assertRegex(done.stdout, f"^{told}$")
 
 
 if __name__ == "__main__":
