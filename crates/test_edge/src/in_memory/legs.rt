@@ -88,7 +88,7 @@ fn a_board_that_is_full_takes_no_caller(rt: HostRuntime) {
 
 #[test]
 fn finds_failures_of_a_net_that_are_planned_and_ignored(rt: HostRuntime) {
-    static STEPS: [[Step; 4]; 4] = [
+    const STEPS: [[Step; 4]; 4] = [
         [
             At(Caller, FailsToListen),
             At(Caller, Connects),

@@ -91,7 +91,7 @@ fn a_script_gives_its_legs_in_order_and_then_fails_or_gives_an_end(rt: HostRunti
 
 #[test]
 fn each_call_of_a_script_fails_in_turn_and_is_counted(rt: HostRuntime) {
-    static STEPS: [[Step; 4]; 4] = [
+    const STEPS: [[Step; 4]; 4] = [
         [
             At(Caller, FailsToListen),
             At(Caller, Connects),
@@ -125,7 +125,7 @@ fn each_call_of_a_script_fails_in_turn_and_is_counted(rt: HostRuntime) {
 
 #[test]
 fn a_script_tells_what_is_handed_back_while_there_is_room(rt: HostRuntime) {
-    static STEPS: [Step; 21] = [
+    const STEPS: [Step; 21] = [
         At(Caller, Connects),
         On(0, Reads(b"out")),
         On(0, FailsToRead),
