@@ -147,16 +147,7 @@ where
     N::Out: Drop,
 {
     let mut actor = actor;
-    let Serving {
-        legs,
-        gate,
-        room,
-        mut kept,
-    } = serving;
-    let end = match read_slot::<M, R, N::In, G>(rt, &mut actor, &legs, &gate, room, &mut kept) {
-        Ok(()) => NodeEnd::Ended,
-        Err(_) => NodeEnd::NoMemory,
-    };
+    let (kept, end) = read_slot::<M, R, N::In, G>(rt, &mut actor, serving);
     actor.stop_at(rt, end);
     Done {
         node,
@@ -179,16 +170,7 @@ where
     N::Out: Drop,
 {
     let mut actor = actor;
-    let Serving {
-        legs,
-        gate,
-        room,
-        mut kept,
-    } = serving;
-    let end = match write_slot::<M, R, N::Out, G>(rt, &mut actor, &legs, &gate, room, &mut kept) {
-        Ok(()) => NodeEnd::Ended,
-        Err(_) => NodeEnd::NoMemory,
-    };
+    let (kept, end) = write_slot::<M, R, N::Out, G>(rt, &mut actor, serving);
     actor.stop_at(rt, end);
     Done {
         node,

@@ -1,5 +1,7 @@
 //! What the jobs of a slot are given.
 
+ghost use Rattle.std.specs.Prelude.{◌≡◌, []};
+
 use crate::hand_over::HandOver;
 use crate::slot::Served;
 use rh_machines::PieceRoom;
@@ -15,6 +17,7 @@ pub struct Serving<T: Drop, K: Drop, G: Drop> {
     pub gate: Arc<G, Global>,
     /// For one piece.
     pub room: PieceRoom,
-    /// Its legs, as they are served.
+    /// For its legs, as they are served.
     pub kept: Vec<Served<K>>,
+    pub ghost none: { kept.items ≡ [] },
 }

@@ -1,13 +1,16 @@
 //! The slots of a node. Each has two jobs, which read and write one leg after the other.
 
-ghost use Rattle.std.specs.Prelude.{◌≡◌, ◌≤◌, ℕ, List, length, vec_len, IfOk};
+ghost use Rattle.std.specs.Prelude.{◌≡◌, ◌⊎◌, ◌≤◌, ℕ, List, length, vec_len, IfOk};
+ghost use Rattle.std.specs.Arc.{arc_value};
 ghost use Rattle.rh_machines.specs.HandingBack.{IsFed};
+ghost use Rattle.rh_slots.specs.Slots.{FeedsFirst, ReadsLeg, ReadsOne, Serves, WritesLeg, WritesOne};
 
 use crate::first::First;
 use crate::hand_over::HandOver;
+use crate::serving::Serving;
 use rh_actors::Actor;
 use rh_io::NoMemory;
-use rh_legs::{Call, Gate, LegEnd, Pen};
+use rh_legs::{Call, Gate, LegEnd, NodeEnd, Pen, read_leg, write_leg};
 use rh_line::{Leg, LegKind};
 use rh_machines::{Node, NodeEvent, NodeReply, Piece, PieceRoom, Role};
 use rh_net::{ShutSink, ShutSource};
@@ -122,6 +125,8 @@ fn feed_first<M: Node, R: Wait>(
 ) -> PieceRoom
 where
     M::State: Drop,
+    ensures begun { FeedsFirst M.next M.reply (arc_value actor.old.turn).first leg first.now
+        actor.old.seat actor.new.seat }
     ensures turn { actor.new.turn ≡ actor.old.turn }
 {
     let bytes = first.bytes();
@@ -156,6 +161,9 @@ fn read_one<M: Node, R: Wait, I: ShutSource + Drop, G: Gate>(
 ) -> (Served<I>, PieceRoom)
 where
     M::State: Drop,
+    ensures read { ReadsOne M.next M.reply (arc_value actor.old.turn).first
+        I.taken I.faults I.ends actor.old.seat actor.new.seat
+        read result.0.leg result.0.stream result.0.end }
     ensures turn { actor.new.turn ≡ actor.old.turn }
 {
     let ToRead {
@@ -164,7 +172,16 @@ where
         mut source,
     } = read;
     let room = feed_first(rt, actor, leg, &first, room);
-    let (end, room) = actor.read(rt, leg, &mut source, room, gate);
+    let (end, room) = read_leg(
+        rt,
+        &actor.turn,
+        &mut actor.seat,
+        leg,
+        &mut source,
+        room,
+        gate,
+        &actor.bell,
+    );
     source.shut();
     let served = Served {
         leg,
@@ -184,10 +201,22 @@ fn write_one<M: Node, R: Wait, O: ShutSink + Drop, G: Gate>(
 ) -> (Served<O>, PieceRoom)
 where
     M::State: Drop,
+    ensures written { WritesOne M.next M.reply (arc_value actor.old.turn).first
+        O.written O.faults actor.old.seat actor.new.seat
+        write result.0.leg result.0.stream result.0.end }
     ensures turn { actor.new.turn ≡ actor.old.turn }
 {
     let ToWrite { leg, mut sink } = write;
-    let (end, room) = actor.write(rt, Pen::of(leg), &mut sink, room, gate);
+    let (end, room) = write_leg(
+        rt,
+        &actor.turn,
+        &mut actor.seat,
+        Pen::of(leg),
+        &mut sink,
+        room,
+        gate,
+        &actor.bell,
+    );
     sink.shut();
     let served = Served {
         leg,
@@ -197,29 +226,34 @@ where
     (served, room)
 }
 
-/// Reads one leg after the other until none comes, and keeps them. Fails where there is no memory
-/// for them.
-pub fn read_slot<M: Node, R: Wait, I: ShutSource + Drop, G: Gate>(
+/// Reads one leg after the other until none comes, or there is no memory to keep a further one.
+/// Answers the legs, in order, and which of the two it was.
+pub fn read_slot<M: Node, R: Wait, I: ShutSource + Drop, G: Gate + Drop>(
     rt: &R,
     actor: &mut Actor<M>,
-    legs: &HandOver<ToRead<I>>,
-    gate: &G,
-    room: PieceRoom,
-    kept: &mut Vec<Served<I>>,
-) -> Result<(), NoMemory>
+    serving: Serving<ToRead<I>, I, G>,
+) -> (Vec<Served<I>>, NodeEnd)
 where
     M::State: Drop,
+    ensures read { Serves (ReadsLeg M.next M.reply (arc_value actor.old.turn).first
+        I.taken I.faults I.ends) actor.old.seat actor.new.seat result.0.items }
+    ensures end { (result.1 ≡ NodeEnd.Ended) ⊎ (result.1 ≡ NodeEnd.NoMemory) }
     ensures turn { actor.new.turn ≡ actor.old.turn }
 {
-    let mut room = room;
-    for _ in rt.forever() {
+    let Serving {
+        legs,
+        gate,
+        mut room,
+        mut kept,
+    } = serving;
+    'legs: for _ in rt.forever() {
         let Ok(()) = kept.try_reserve(1) else {
-            return Err(NoMemory);
+            return (kept, NodeEnd::NoMemory);
         };
         let Some(read) = legs.take(rt) else {
-            return Ok(());
+            return (kept, NodeEnd::Ended);
         };
-        let (served, back) = read_one(rt, actor, read, room, gate);
+        let (served, back) = read_one::<M, R, I, G>(rt, actor, read, room, &gate);
         room = back;
         let Ok(()) = kept.push(served) else {
             unreachable!()
@@ -228,29 +262,34 @@ where
     unreachable!()
 }
 
-/// Writes one leg after the other until none comes, and keeps them. Fails where there is no memory
-/// for them.
-pub fn write_slot<M: Node, R: Wait, O: ShutSink + Drop, G: Gate>(
+/// Writes one leg after the other until none comes, or there is no memory to keep a further one.
+/// Answers the legs, in order, and which of the two it was.
+pub fn write_slot<M: Node, R: Wait, O: ShutSink + Drop, G: Gate + Drop>(
     rt: &R,
     actor: &mut Actor<M>,
-    legs: &HandOver<ToWrite<O>>,
-    gate: &G,
-    room: PieceRoom,
-    kept: &mut Vec<Served<O>>,
-) -> Result<(), NoMemory>
+    serving: Serving<ToWrite<O>, O, G>,
+) -> (Vec<Served<O>>, NodeEnd)
 where
     M::State: Drop,
+    ensures written { Serves (WritesLeg M.next M.reply (arc_value actor.old.turn).first
+        O.written O.faults) actor.old.seat actor.new.seat result.0.items }
+    ensures end { (result.1 ≡ NodeEnd.Ended) ⊎ (result.1 ≡ NodeEnd.NoMemory) }
     ensures turn { actor.new.turn ≡ actor.old.turn }
 {
-    let mut room = room;
-    for _ in rt.forever() {
+    let Serving {
+        legs,
+        gate,
+        mut room,
+        mut kept,
+    } = serving;
+    'legs: for _ in rt.forever() {
         let Ok(()) = kept.try_reserve(1) else {
-            return Err(NoMemory);
+            return (kept, NodeEnd::NoMemory);
         };
         let Some(write) = legs.take(rt) else {
-            return Ok(());
+            return (kept, NodeEnd::Ended);
         };
-        let (served, back) = write_one(rt, actor, write, room, gate);
+        let (served, back) = write_one::<M, R, O, G>(rt, actor, write, room, &gate);
         room = back;
         let Ok(()) = kept.push(served) else {
             unreachable!()
