@@ -47,63 +47,63 @@ impl Connection {
     /// Connects legs and passes on what is put on them, until there is nothing left to do.
     pub(crate) fn settle(&mut self) {
         for _ in 0..ROUNDS {
-            self.client_and_out_proxy(1, cookie(3));
-            self.out_proxy_and_server(1);
-            self.client_and_in_proxy(1, cookie(4));
-            self.client_and_in_proxy(2, cookie(5));
-            self.in_proxy_and_server(1);
+            client_and_out_proxy(&mut self.client, &mut self.out_proxy, 1, cookie(3));
+            out_proxy_and_server(&mut self.out_proxy, &mut self.server, 1);
+            client_and_in_proxy(&mut self.client, &mut self.in_proxy, 1, cookie(4));
+            client_and_in_proxy(&mut self.client, &mut self.in_proxy, 2, cookie(5));
+            in_proxy_and_server(&mut self.in_proxy, &mut self.server, 1);
         }
     }
+}
 
-    fn client_and_out_proxy(&mut self, number: u32, cookie: Cookie) {
-        let leg = Leg {
-            kind: LegKind::ClientOut,
-            number,
-        };
-        if self.client.wants(leg) && self.out_proxy.may_up(leg) {
-            self.client.up(leg, cookie);
-            self.out_proxy.up(leg);
-        }
-        carry!(self.client => self.out_proxy, leg);
-        carry!(self.out_proxy => self.client, leg);
+fn client_and_out_proxy(client: &mut Client, proxy: &mut OutProxy, number: u32, cookie: Cookie) {
+    let leg = Leg {
+        kind: LegKind::ClientOut,
+        number,
+    };
+    if client.wants(leg) && proxy.may_up(leg) {
+        client.up(leg, cookie);
+        proxy.up(leg);
     }
+    carry!(client => proxy, leg);
+    carry!(proxy => client, leg);
+}
 
-    fn out_proxy_and_server(&mut self, number: u32) {
-        let leg = Leg {
-            kind: LegKind::OutServer,
-            number,
-        };
-        if self.out_proxy.wants(leg) && self.server.may_up(leg) {
-            self.out_proxy.up(leg);
-            self.server.up(leg);
-        }
-        carry!(self.out_proxy => self.server, leg);
-        carry!(self.server => self.out_proxy, leg);
+fn out_proxy_and_server(proxy: &mut OutProxy, server: &mut Server, number: u32) {
+    let leg = Leg {
+        kind: LegKind::OutServer,
+        number,
+    };
+    if proxy.wants(leg) && server.may_up(leg) {
+        proxy.up(leg);
+        server.up(leg);
     }
+    carry!(proxy => server, leg);
+    carry!(server => proxy, leg);
+}
 
-    fn client_and_in_proxy(&mut self, number: u32, cookie: Cookie) {
-        let leg = Leg {
-            kind: LegKind::ClientIn,
-            number,
-        };
-        if self.client.wants(leg) && self.in_proxy.may_up(leg) {
-            self.client.up(leg, cookie);
-            self.in_proxy.up(leg);
-        }
-        carry!(self.client => self.in_proxy, leg);
-        carry!(self.in_proxy => self.client, leg);
+fn client_and_in_proxy(client: &mut Client, proxy: &mut InProxy, number: u32, cookie: Cookie) {
+    let leg = Leg {
+        kind: LegKind::ClientIn,
+        number,
+    };
+    if client.wants(leg) && proxy.may_up(leg) {
+        client.up(leg, cookie);
+        proxy.up(leg);
     }
+    carry!(client => proxy, leg);
+    carry!(proxy => client, leg);
+}
 
-    fn in_proxy_and_server(&mut self, number: u32) {
-        let leg = Leg {
-            kind: LegKind::InServer,
-            number,
-        };
-        if self.in_proxy.wants(leg) && self.server.may_up(leg) {
-            self.in_proxy.up(leg);
-            self.server.up(leg);
-        }
-        carry!(self.in_proxy => self.server, leg);
-        carry!(self.server => self.in_proxy, leg);
+fn in_proxy_and_server(proxy: &mut InProxy, server: &mut Server, number: u32) {
+    let leg = Leg {
+        kind: LegKind::InServer,
+        number,
+    };
+    if proxy.wants(leg) && server.may_up(leg) {
+        proxy.up(leg);
+        server.up(leg);
     }
+    carry!(proxy => server, leg);
+    carry!(server => proxy, leg);
 }

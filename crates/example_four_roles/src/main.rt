@@ -7,6 +7,7 @@ mod made;
 
 use crate::connection::Connection;
 use rh_line::{State, Take};
+use std::alloc::Global;
 use std::io;
 
 /// A request and its response, of the call 1 and without a stub (C706 12.6.4).
@@ -38,49 +39,87 @@ fn take_words(taken: Take) -> &'static str {
     }
 }
 
-fn main(rt: HostRuntime) -> io::Result<()> {
-    let Some(mut all) = Connection::new(rt.alloc()) else {
-        return println!(rt; "no memory");
-    };
+/// The client gives a request; what the server takes.
+fn pass_up(all: &mut Connection) -> &'static str {
     let mut room = [0; 8192];
-    all.settle();
-    println!(rt; "the client is {}", state_word(all.client.state()))?;
-    println!(rt; "the server is {}", state_word(all.server.state()))?;
-
     let _ = all.client.give(&REQUEST);
     all.settle();
-    println!(rt;
-        "the server takes {}",
-        take_words(all.server.take(&mut room))
-    )?;
+    take_words(all.server.take(&mut room))
+}
+
+/// The server gives a response; what the client takes.
+fn pass_down(all: &mut Connection) -> &'static str {
+    let mut room = [0; 8192];
     let _ = all.server.give(&RESPONSE);
     all.settle();
-    println!(rt;
-        "the client takes {}",
-        take_words(all.client.take(&mut room))
-    )?;
+    take_words(all.client.take(&mut room))
+}
 
-    let _ = all.client.recycle_in();
-    let _ = all.client.give(&REQUEST);
-    all.settle();
-    println!(rt; "the client writes on ci{}", all.client.channels().0)?;
-    println!(rt;
-        "the server takes {}",
-        take_words(all.server.take(&mut room))
-    )?;
-
+/// Both ends close; what each takes then.
+fn end(all: &mut Connection) -> (&'static str, &'static str) {
+    let mut room = [0; 8192];
     all.client.close();
     all.server.close();
     all.settle();
-    println!(rt;
-        "the server takes {}",
-        take_words(all.server.take(&mut room))
-    )?;
-    println!(rt;
-        "the client takes {}",
-        take_words(all.client.take(&mut room))
-    )?;
-    println!(rt; "the client is {}", state_word(all.client.state()))?;
-    println!(rt; "the server is {}", state_word(all.server.state()))?;
-    Ok(())
+    let up = take_words(all.server.take(&mut room));
+    (up, take_words(all.client.take(&mut room)))
+}
+
+/// The states of the client and of the server.
+fn states(all: &Connection) -> (&'static str, &'static str) {
+    (
+        state_word(all.client.state()),
+        state_word(all.server.state()),
+    )
+}
+
+/// What is seen of a connection.
+#[derive(Clone, Copy)]
+struct Course {
+    opened: (&'static str, &'static str),
+    up: &'static str,
+    down: &'static str,
+    // The number of the client's writing channel, once that was replaced.
+    channel: u32,
+    up_again: &'static str,
+    last: (&'static str, &'static str),
+    ended: (&'static str, &'static str),
+}
+
+/// A connection from its first leg to its end. `None` for want of memory.
+fn run_course(alloc: Global) -> Option<Course> {
+    let mut all = Connection::new(alloc)?;
+    all.settle();
+    let opened = states(&all);
+    let up = pass_up(&mut all);
+    let down = pass_down(&mut all);
+    let _ = all.client.recycle_in();
+    let up_again = pass_up(&mut all);
+    let channel = all.client.channels().0;
+    let last = end(&mut all);
+    Some(Course {
+        opened,
+        up,
+        down,
+        channel,
+        up_again,
+        last,
+        ended: states(&all),
+    })
+}
+
+fn main(rt: HostRuntime) -> io::Result<()> {
+    let Some(seen) = run_course(rt.alloc()) else {
+        return println!(rt; "no memory");
+    };
+    println!(rt; "the client is {}", seen.opened.0)?;
+    println!(rt; "the server is {}", seen.opened.1)?;
+    println!(rt; "the server takes {}", seen.up)?;
+    println!(rt; "the client takes {}", seen.down)?;
+    println!(rt; "the client writes on ci{}", seen.channel)?;
+    println!(rt; "the server takes {}", seen.up_again)?;
+    println!(rt; "the server takes {}", seen.last.0)?;
+    println!(rt; "the client takes {}", seen.last.1)?;
+    println!(rt; "the client is {}", seen.ended.0)?;
+    println!(rt; "the server is {}", seen.ended.1)
 }
