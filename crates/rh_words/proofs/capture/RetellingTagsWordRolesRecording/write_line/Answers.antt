@@ -7,7 +7,7 @@ use Rattle.rh_record.specs.Places.{Stands}
 use Rattle.rh_record.specs.Readings.{one_line_at}
 use Rattle.rh_capture.specs.Recordings.{StandsInRoles}
 use Rattle.rh_word.proofs.Results.{map_err}
-use Rattle.rh_words.proofs.capture.RetellingWordRolesRecording.write_line.Goals as goal
+use Rattle.rh_words.proofs.capture.RetellingTagsWordRolesRecording.write_line.Goals as goal
 
 -- the line that stands there is of a recording of roles, since one that is stands there
 of_roles : (place : Place) (text : List ℕ) (line other : Line) → Stands place text line
