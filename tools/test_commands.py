@@ -436,7 +436,7 @@ class Words(Commands):
 
     def test_what_to_type_is_told_behind_usage(self):
         self.build()
-        reading = "replay, show, name, play, capture or audit"
+        reading = "replay, story, show, name, play, capture or audit"
         types = f"type ./rh_cli WORD < FILE with {reading}, or ./rh_cli --help for more"
         cases = [
             ((), types),

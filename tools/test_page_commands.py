@@ -111,11 +111,25 @@ class Recordings(unittest.TestCase):
                 shows = "--play" not in line and "--audit" not in line
                 self.assertEqual(len(packets), count if shows else 0, line)
 
+    def test_stories(self):
+        lines = [line for block in blocks(RECORDINGS, "sh") for line in block]
+        told, chart, picture = (line for line in lines if " story" in line)
+        [shown] = [it for it in blocks(RECORDINGS, "text") if it[0] == "0 recycle in ok"]
+        done = run(told)
+        self.assertEqual((done.returncode, done.stderr), (0, ""))
+        self.assertIn("\n".join(shown) + "\n", done.stdout)
+        done = run(chart)
+        self.assertEqual((done.returncode, done.stderr), (0, ""))
+        self.assertRegex(done.stdout, "(?m)^ *client +in proxy 1 ")
+        drawn = (TOP / "docs/pictures/replacement.svg").read_text()
+        done = run(picture.replace("> /tmp/replacement.svg", ""))
+        self.assertEqual((done.returncode, done.stderr, done.stdout), (0, "", drawn))
+
     def test_audits(self):
         lines = [line for block in blocks(RECORDINGS, "sh") for line in block]
-        self.assertEqual(len([line for line in lines if "CAPTURE" not in line]), 2)
+        audits = [line for line in lines if " audit" in line and "CAPTURE" not in line]
         wanted = [r"up no 1\ndown yes 0 0\n", r"up yes \d+ \d+\ndown yes 0 0\n"]
-        for line, told in zip((line for line in lines if "CAPTURE" not in line), wanted):
+        for line, told in zip(audits, wanted, strict=True):
             done = run(line)
             self.assertEqual((done.returncode, done.stderr), (0, ""), line)
             self.assertRegex(done.stdout, f"^{told}$")
