@@ -274,7 +274,9 @@ class Run:
         pipes = {"stdin": stdin, "stdout": stdout, "stderr": self.file()}
         how = {"bufsize": 0, "preexec_fn": self.limited_to(name)}
         command = [self.program, name.rstrip("0123456789"), *map(str, words)]
-        role = subprocess.Popen(command, **pipes, **how)
+        # Until it runs its program, a process holds the socket by which another thread looks at a port.
+        with PORTS.lock:
+            role = subprocess.Popen(command, **pipes, **how)
         role.files = pipes
         self.roles[name] = role
         self.stack.callback(self.stop, role)
