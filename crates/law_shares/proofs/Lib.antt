@@ -1,0 +1,3 @@
+pub mod Taking
+mod Dealing
+mod Ones
