@@ -9,6 +9,8 @@ use Rattle.rh_machines.specs.declared.event.NodeReply.{NodeReply}
 use Rattle.rh_machines.specs.declared.event.NodeReply.TheVariants as reply
 use Rattle.rh_runs.specs.Runs.{Ran}
 use Rattle.rh_legs.specs.Legs.{Calls, joined, AllAre}
+use Rattle.rh_legs.specs.declared.end.NodeEnd.{NodeEnd}
+use Rattle.rh_legs.specs.declared.end.NodeEnd.TheVariants.{Ended, BadInput, ReadFault}
 
 -- a giver gives, asks for the state, and says that no PDU comes any more
 abbrev pub IsGivers : NodeEvent → Type 0
@@ -33,6 +35,13 @@ closing_at e r = []
 
 abbrev pub closings : Calls → List NodeEvent
 closings calls = joined closing_at calls
+
+-- how a giver ends
+abbrev pub IsGiversEnd : NodeEnd → Type 0
+IsGiversEnd Ended = Unit {0}
+IsGiversEnd (BadInput place) = Unit {0}
+IsGiversEnd ReadFault = Unit {0}
+IsGiversEnd other = ⊥
 
 -- these PDUs were given, and it was not said that no further one comes
 pub record Giving {S : Type 0} (next : S → NodeEvent → S) (reply_to : S → NodeEvent → NodeReply)

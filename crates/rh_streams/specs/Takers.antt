@@ -10,7 +10,7 @@ use Rattle.rh_machines.specs.declared.event.NodeReply.TheVariants as reply
 use Rattle.rh_runs.specs.Runs.{Ran}
 use Rattle.rh_legs.specs.Legs.{Calls, joined, AllAre}
 use Rattle.rh_legs.specs.declared.end.NodeEnd.{NodeEnd}
-use Rattle.rh_legs.specs.declared.end.NodeEnd.TheVariants.{WriteFault}
+use Rattle.rh_legs.specs.declared.end.NodeEnd.TheVariants.{Ended, Closed, WriteFault}
 
 -- a taker takes, and does nothing else
 abbrev pub IsTakers : NodeEvent → Type 0
@@ -25,6 +25,13 @@ taken_at e r = []
 -- the PDUs of all takes, joined
 abbrev pub all_taken : Calls → List ℕ
 all_taken calls = joined taken_at calls
+
+-- how a taker ends
+abbrev pub IsTakersEnd : NodeEnd → Type 0
+IsTakersEnd Ended = Unit {0}
+IsTakersEnd (Closed cause) = Unit {0}
+IsTakersEnd WriteFault = Unit {0}
+IsTakersEnd other = ⊥
 
 -- The PDUs of the takes, joined, are what was written to the output. Where the output failed they
 -- begin with it.

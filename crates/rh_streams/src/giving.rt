@@ -10,7 +10,7 @@ ghost use Rattle.rh_machines.specs.declared.event.NodeReply.{NodeReply as Reply}
 ghost use Rattle.rh_machines.specs.declared.event.NodeReply.TheVariants as reply;
 ghost use Rattle.rh_legs.specs.Legs.{Calls};
 ghost use Rattle.rh_legs.specs.declared.end.NodeEnd.TheVariants.{ReadFault};
-ghost use Rattle.rh_streams.specs.Givers.{GaveOf, Gives, GivesOn, given_at};
+ghost use Rattle.rh_streams.specs.Givers.{GaveOf, Gives, GivesOn, IsGiversEnd, given_at};
 
 use rh_actors::Actor;
 use rh_legs::{Call, NodeEnd};
@@ -35,7 +35,8 @@ struct PduReader {
 impl PduReader {
     // How the node ends where the PDU behind those counted is none.
     fn next_is_bad(&self) -> NodeEnd
-        ensures { result ≢ ReadFault }
+        ensures no_fault { result ≢ ReadFault }
+        ensures kind { IsGiversEnd result }
     {
         NodeEnd::BadInput(self.count.saturating_add(1))
     }
@@ -88,6 +89,7 @@ where
         actor.old.seat actor.new.seat (pdu.now ∷ [])) }
     ensures refused { IfErr result (λ end. GivesOn M.next M.reply (arc_value actor.old.turn).first
         actor.old.seat actor.new.seat [] × (end ≢ ReadFault)) }
+    ensures kind { IfErr result IsGiversEnd }
     ensures turn { actor.new.turn ≡ actor.old.turn }
 {
     let mut room = room;
@@ -129,6 +131,7 @@ where
         × GaveOf M.next M.reply (arc_value actor.old.turn).first
         actor.old.seat actor.new.seat (reader.old.framer.rest ++ piece.now) rest
         × (end ≢ ReadFault)) }
+    ensures kind { IfErr result IsGiversEnd }
     ensures turn { actor.new.turn ≡ actor.old.turn }
 {
     let mut rest = piece;
@@ -202,6 +205,7 @@ where
         × Gives M.next M.reply (arc_value actor.old.turn).first
         actor.old.seat actor.new.seat came calls }
     ensures turn { actor.new.turn ≡ actor.old.turn }
+    ensures kind { IsGiversEnd result }
     ensures failed { result ≡ ReadFault → Rose (S.faults input.old) (S.faults input.new) }
     ensures faults { S.faults input.old ≤ S.faults input.new }
 {

@@ -9,7 +9,7 @@ ghost use Rattle.rh_machines.specs.declared.event.NodeReply.{NodeReply as Reply}
 ghost use Rattle.rh_machines.specs.declared.event.NodeReply.TheVariants as reply;
 ghost use Rattle.rh_legs.specs.Legs.{Calls};
 ghost use Rattle.rh_legs.specs.declared.end.NodeEnd.TheVariants.{WriteFault};
-ghost use Rattle.rh_streams.specs.Takers.{Takes, taken_at};
+ghost use Rattle.rh_streams.specs.Takers.{IsTakersEnd, Takes, taken_at};
 
 use rh_actors::Actor;
 use rh_io::{Sink, write_whole};
@@ -60,6 +60,7 @@ where
     ensures taken { (calls : Calls) × Takes M.next M.reply (arc_value actor.old.turn).first
         actor.old.seat actor.new.seat (W.written output.old) (W.written output.new) result calls }
     ensures turn { actor.new.turn ≡ actor.old.turn }
+    ensures kind { IsTakersEnd result }
     ensures failed { result ≡ WriteFault → Rose (W.faults output.old) (W.faults output.new) }
     ensures faults { W.faults output.old ≤ W.faults output.new }
 {
