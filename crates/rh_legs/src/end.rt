@@ -1,5 +1,8 @@
 //! How legs and nodes end.
 
+ghost use Rattle.std.specs.Prelude.{◌≡◌, ◌⊎◌};
+ghost use Rattle.rh_legs.specs.NodeEnds.{rank_of, told_of};
+
 use rh_line::Cause;
 
 /// Why a leg is read or written no more.
@@ -39,7 +42,9 @@ pub enum NodeEnd {
 
 impl NodeEnd {
     /// The order in which ends are told where there are several, the first one first.
-    fn rank(&self) -> u8 {
+    fn rank(&self) -> u8
+        ensures { result ≡ rank_of self.now }
+    {
         match self {
             NodeEnd::NoMemory => 0,
             NodeEnd::BadInput(_) => 1,
@@ -54,7 +59,10 @@ impl NodeEnd {
     }
 
     /// The one of two that is told.
-    pub fn or(self, other: NodeEnd) -> NodeEnd {
+    pub fn or(self, other: NodeEnd) -> NodeEnd
+        ensures told { result ≡ told_of self other }
+        ensures either { (result ≡ self) ⊎ (result ≡ other) }
+    {
         if other.rank() < self.rank() {
             other
         } else {
