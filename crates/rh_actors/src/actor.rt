@@ -1,11 +1,12 @@
 //! Who acts on the machine of a node.
 
-ghost use Rattle.std.specs.Prelude.{◌≡◌, ◌⊎◌, ◌-◌, ◌≤◌, [], IfOk, OnOk};
+ghost use Rattle.std.specs.Prelude.{◌≡◌, ◌⊎◌, ◌-◌, ◌≤◌, [], false, IfOk, OnOk};
 ghost use Rattle.std.specs.Arc.{arc_value};
 ghost use Rattle.rh_turn.specs.Calls.{Acts};
 ghost use Rattle.rh_machines.specs.declared.event.NodeEvent.TheVariants as event;
 ghost use Rattle.rh_machines.specs.declared.event.NodeReply.{NodeReply as Reply};
 ghost use Rattle.rh_legs.specs.Legs.{Calls, IsRead, IsWritten};
+ghost use Rattle.rh_actors.specs.Living.{IsOver, says_live};
 
 use rh_io::{NoMemory, Sink, Source};
 use rh_legs::{Bell, Call, Gate, LegEnd, NodeEnd, Pen, read_leg, write_leg};
@@ -32,6 +33,13 @@ where
     /// What wakes the node's jobs.
     pub bell: Arc<Bell, Global>,
     pub ghost at: { seat.turn ≡ (arc_value turn).id },
+}
+
+// Whether a machine that replies so may still take and give PDUs.
+fn says_live(reply: &NodeReply) -> bool
+    ensures { result ≡ says_live reply.now }
+{
+    matches!(reply, NodeReply::State(State::Opening | State::Open))
 }
 
 impl<M: Node> Actor<M>
@@ -89,13 +97,15 @@ where
         ensures asked { (self.new.seat ≡ self.old.seat)
             ⊎ ((answer : Reply) × Acts M.next M.reply (arc_value self.old.turn).first
             event.State answer self.old.seat self.new.seat) }
+        ensures over { result ≡ false → IsOver M.next M.reply (arc_value self.old.turn).first
+            self.old.seat self.new.seat }
         ensures turn { self.new.turn ≡ self.old.turn }
     {
         if self.bell.is_stopped(rt) {
             return false;
         }
         let (state, _) = self.act(rt, NodeEvent::State, call);
-        matches!(state, NodeReply::State(State::Opening | State::Open))
+        says_live(&state)
     }
 
     /// How the machine ended: with a cause where it closed.
