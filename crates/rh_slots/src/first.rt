@@ -1,6 +1,8 @@
 //! The bytes that a keeper reads of a leg before it is up.
 
-ghost use Rattle.std.specs.Prelude.{◌≡◌, ◌≤◌, ◌++◌, [], length, take, drop, min};
+ghost use Rattle.std.specs.Prelude.{◌≡◌, ℕ, ◌≤◌, ◌++◌, List, [], length, take, IfOk, OnOk, OnErr};
+ghost use Rattle.rh_io.specs.Bytes.{Moves};
+ghost use Rattle.rh_io.specs.Counts.{Rose};
 
 use rh_io::{Source, SourceFailed};
 use std::marker::Model;
@@ -46,7 +48,14 @@ impl First {
 
     /// Reads once more of the source, and answers how many bytes came: 0 at its end, and where
     /// there is no room.
-    pub fn read<I: Source>(&mut self, source: &mut I) -> Result<usize, SourceFailed> {
+    pub fn read<I: Source>(&mut self, source: &mut I) -> Result<usize, SourceFailed>
+        ensures bytes { IfOk result (λ count. (bytes : List ℕ) × (self.new ≡ self.old ++ bytes)
+            × (length bytes ≡ count)
+            × Moves (I.left source.old) (I.left source.new)
+            (I.taken source.old) (I.taken source.new) bytes) }
+        ensures failed { OnErr result (Rose (I.faults source.old) (I.faults source.new)) }
+        ensures no_failure { OnOk result (I.faults source.new ≡ I.faults source.old) }
+    {
         let held = usize::from(self.len);
         let count = source.read(&mut self.room[held..])?;
         self.len = (held + count) as u16;

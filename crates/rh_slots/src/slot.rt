@@ -83,7 +83,7 @@ impl<I: Drop, O: Drop> Slot<I, O> {
 // How many slots a role has of each of its two kinds of leg: as many as it may have legs of the
 // kind at one time.
 fn slots_of_kind(role: Role) -> u32
-    ensures { result ≤ 4 }
+    ensures { (1 ≤ result) × (result ≤ 4) }
 {
     match role {
         Role::Client => 2,
@@ -102,9 +102,9 @@ fn kinds(role: Role) -> (LegKind, LegKind) {
     }
 }
 
-/// The slots of a role, eight at most. Fails where there is no memory.
+/// The slots of a role, two at least and eight at most. Fails where there is no memory.
 pub fn slots_of<I: Drop, O: Drop>(alloc: Global, role: Role) -> Result<Vec<Slot<I, O>>, NoMemory>
-    ensures { IfOk result (λ slots. vec_len slots ≤ 8) }
+    ensures { IfOk result (λ slots. (2 ≤ vec_len slots) × (vec_len slots ≤ 8)) }
 {
     let (one, other) = kinds(role);
     let mut slots = Vec::new(alloc);
