@@ -14,6 +14,8 @@ mod ServerStays
 mod Puts
 pub mod AtFronts
 mod Clients
+mod Unlost
 pub mod DownLegs
 pub mod UpLegs
+pub mod OverUp
 pub mod Recorded

@@ -7,8 +7,7 @@ use Rattle.rh_wires.specs.Legs as legs
 use Rattle.rh_wires.specs.Wires as wires
 use Rattle.rh_company.specs.Company as company
 use Rattle.rh_company.specs.Company as company
-use Rattle.law_moves.proofs.Vocabulary.{Dir, U, D, Side, same_number, Pipe, some_is, Leg, Going, NearEnd, is_ended, is_over, is_useless, Message, Rules, Shell, end_at, is_in_use, Reading, begin, messages_from, reading}
-use Rattle.law_moves.proofs.Lemmas.{leg_is}
+use Rattle.law_moves.proofs.Vocabulary.{Dir, U, D, Side, same_number, Pipe, some_is, Leg, Going, NearEnd, is_useless, Message, Rules, Shell, end_at, is_in_use, Reading, begin, messages_from, reading}
 use Rattle.law_node_history.proofs.Vocabulary.{blank, in_flight, receiver, sender, Rulebook, Deeds, Makers, World, at, wire_at, Change, all_changed, History, all_noted, nothing}
 use Rattle.law_node_history.proofs.Lemmas.{asked}
 use Rattle.law_node_streams.specs.Streams.{is_live}
@@ -187,16 +186,21 @@ module _ {K C S I O P T : Type 0} (r : Rulebook C S I O) (m : Makers K I O) (d :
       shown : way e
           ≡ Some (messages_from pipe stands (in_flight dir (wire_at (W e).legs leg) ++ begun))
 
-    reads : (e : List Change) (here : At e) → told_there e ≡ false
-        → ((x : Reading) × (read_on rules (takes e) pipe leg (up_there e) ≡ Some x)) ⊎ Passed e
-    reads e here untold = by (up_there e) refl
+    -- its bytes are read, or the node that takes has no use for it
+    abbrev Reads : List Change → Type 0
+    Reads e = (x : Reading) × (read_on rules (takes e) pipe leg (up_there e) ≡ Some x)
+
+    record Unused (e : List Change) : Type 0 where
+      rose : up_there e ≡ true
+      none : is_in_use rules (takes e).role leg ≡ false
+
+    reads_or_unused : (e : List Change) (here : At e) → told_there e ≡ false → Reads e ⊎ Unused e
+    reads_or_unused e here untold = by (up_there e) refl
       where
         of_end : up_there e ≡ true → (k : KeepsEnd (takes e) leg) → (t : Bool)
-            → is_useless rules k.end (takes e).role ≡ t
-            → ((x : Reading) × (read_on rules (takes e) pipe leg (up_there e) ≡ Some x))
-            ⊎ Passed e
+            → is_useless rules k.end (takes e).role ≡ t → Reads e ⊎ Unused e
         of_end up k true over =
-            inr (f.passes e here up (unused rules (takes e) leg k.end k.at over))
+            inr (record { rose = up; none = unused rules (takes e) leg k.end k.at over })
         of_end up k false over =
             inl (
               reading k.end.intake.stage k.end.intake.held,
@@ -207,14 +211,11 @@ module _ {K C S I O P T : Type 0} (r : Rulebook C S I O) (m : Makers K I O) (d :
 
         of_kept : up_there e ≡ true
             → KeepsEnd (takes e) leg ⊎ (is_in_use rules (takes e).role leg ≡ false)
-            → ((x : Reading) × (read_on rules (takes e) pipe leg (up_there e) ≡ Some x))
-            ⊎ Passed e
+            → Reads e ⊎ Unused e
         of_kept up (inl k) = of_end up k (is_useless rules k.end (takes e).role) refl
-        of_kept up (inr none) = inr (f.passes e here up none)
+        of_kept up (inr none) = inr (record { rose = up; none = none })
 
-        by : (b : Bool) → up_there e ≡ b
-            → ((x : Reading) × (read_on rules (takes e) pipe leg (up_there e) ≡ Some x))
-            ⊎ Passed e
+        by : (b : Bool) → up_there e ≡ b → Reads e ⊎ Unused e
         by false up =
             inl (
               begin pipe,
@@ -223,6 +224,35 @@ module _ {K C S I O P T : Type 0} (r : Rulebook C S I O) (m : Makers K I O) (d :
             )
         by true up = of_kept up (f.kept e here up untold)
 
+    reads : (e : List Change) (here : At e) → told_there e ≡ false → Reads e ⊎ Passed e
+    reads e here untold = by (reads_or_unused e here untold)
+      where
+        by : Reads e ⊎ Unused e → Reads e ⊎ Passed e
+        by (inl x) = inl x
+        by (inr u) = inr (f.passes e here u.rose u.none)
+
+    -- where no end left it or was told, all of it is told
+    told_of : (e : List Change) (here : At e) → was_left (W e) (H e) leg (receiver dir) ≡ false
+        → was_left (W e) (H e) leg (sender dir) ≡ false → told_here e ≡ false → Reads e
+        → Told e
+    told_of e here there here_left untold read =
+        let left = left_told (puts e) leg (up_here e) (told_here e) (f.puts_on e here) untold in
+        record {
+          untold = untold;
+          stands = read.0;
+          begun = left.0;
+          begun_is = left.1;
+          shown =
+              way_told pipe (is_cut (W e) (H e) leg dir)
+              (read_on rules (takes e) pipe leg (up_there e))
+              (in_flight dir (wire_at (W e).legs leg))
+              (left_on (puts e) leg (up_here e) (told_here e)) read.0 left.0
+              (uncut (was_left (W e) (H e) leg (sender dir))
+              (was_left (W e) (H e) leg (receiver dir))
+              (is_unheard (W e) (H e) leg dir) there here_left)
+              read.1 left.1;
+        }
+
     told : (e : List Change) (here : At e) → Before e → Told e ⊎ Passed e
     told e here before =
         by (was_left (W e) (H e) leg (receiver dir)) (was_left (W e) (H e) leg (sender dir))
@@ -230,27 +260,10 @@ module _ {K C S I O P T : Type 0} (r : Rulebook C S I O) (m : Makers K I O) (d :
       where
         all : was_left (W e) (H e) leg (receiver dir) ≡ false
             → was_left (W e) (H e) leg (sender dir) ≡ false → told_here e ≡ false
-            → ((x : Reading) × (read_on rules (takes e) pipe leg (up_there e) ≡ Some x))
-            ⊎ Passed e
-            → Told e ⊎ Passed e
+            → Reads e ⊎ Passed e → Told e ⊎ Passed e
         all there here_left untold (inr passed) = inr passed
         all there here_left untold (inl read) =
-            let left = left_told (puts e) leg (up_here e) (told_here e) (f.puts_on e here) untold in
-            inl (record {
-              untold = untold;
-              stands = read.0;
-              begun = left.0;
-              begun_is = left.1;
-              shown =
-                  way_told pipe (is_cut (W e) (H e) leg dir)
-                  (read_on rules (takes e) pipe leg (up_there e))
-                  (in_flight dir (wire_at (W e).legs leg))
-                  (left_on (puts e) leg (up_here e) (told_here e)) read.0 left.0
-                  (uncut (was_left (W e) (H e) leg (sender dir))
-                  (was_left (W e) (H e) leg (receiver dir))
-                  (is_unheard (W e) (H e) leg dir) there here_left)
-                  read.1 left.1;
-            })
+            inl (told_of e here there here_left untold read)
 
         by : (a b c t : Bool) → was_left (W e) (H e) leg (receiver dir) ≡ a
             → was_left (W e) (H e) leg (sender dir) ≡ b → told_there e ≡ c → told_here e ≡ t
@@ -272,6 +285,25 @@ module _ {K C S I O P T : Type 0} (r : Rulebook C S I O) (m : Makers K I O) (d :
         by true told = lost e here before (f.told e here (receiver dir) told)
         by false untold = f.finished e here up done untold
 
+    -- what was put there came, with its mark or END, once nothing is in flight
+    put_came : (e : List Change) (here : At e)
+        → legs.is_up leg (sender dir) (W e).legs ≡ true → up_here e ≡ true
+        → company.finished r (W e).company (at (W e) leg (sender dir)) leg ≡ true
+        → in_flight dir (wire_at (W e).legs leg) ≡ [] → Told e
+        → has_passed (came e here) ≡ true
+    put_came e here is_up rose done clear t =
+        let put = f.put e here is_up rose done t.untold in
+        let none : t.begun ≡ [] = sym (some_is [] t.begun (sym put.0 ∙ t.begun_is)) in
+        let empty : way e ≡ Some [] =
+        t.shown
+        ∙ ap (λ (bytes : List ℕ). Some (messages_from pipe t.stands (bytes ++ t.begun))) clear
+        ∙ ap (λ (bytes : List ℕ). Some (messages_from pipe t.stands bytes)) none in
+        let same : sent e here ≡ came e here =
+        f.arrives e here (ap is_lost empty)
+        ∙ ap (λ (o : Option (List Message)). came e here ++ items_on_way view o) empty
+        ∙ append-nil (came e here) in
+        ap has_passed (sym same) ∙ put.1
+
     over_here : (e : List Change) (here : At e) → Before e
         → legs.is_up leg (sender dir) (W e).legs ≡ true → up_here e ≡ true
         → company.finished r (W e).company (at (W e) leg (sender dir)) leg ≡ true
@@ -280,18 +312,25 @@ module _ {K C S I O P T : Type 0} (r : Rulebook C S I O) (m : Makers K I O) (d :
       where
         by : Told e ⊎ Passed e → Passed e
         by (inr passed) = passed
-        by (inl t) =
-            let put = f.put e here is_up rose done t.untold in
-            let none : t.begun ≡ [] = sym (some_is [] t.begun (sym put.0 ∙ t.begun_is)) in
-            let empty : way e ≡ Some [] =
-            t.shown
-            ∙ ap (λ (bytes : List ℕ). Some (messages_from pipe t.stands (bytes ++ t.begun))) clear
-            ∙ ap (λ (bytes : List ℕ). Some (messages_from pipe t.stands bytes)) none in
-            let same : sent e here ≡ came e here =
-            f.arrives e here (ap is_lost empty)
-            ∙ ap (λ (o : Option (List Message)). came e here ++ items_on_way view o) empty
-            ∙ append-nil (came e here) in
-            f.came_is e here (ap has_passed (sym same) ∙ put.1)
+        by (inl t) = f.came_is e here (put_came e here is_up rose done clear t)
+
+    -- so it is at once where no end left it or was told, unless the one that takes has no use for it
+    pub unlost_came : (e : List Change) (here : At e)
+        → was_left (W e) (H e) leg (receiver dir) ≡ false
+        → was_left (W e) (H e) leg (sender dir) ≡ false → told_there e ≡ false
+        → told_here e ≡ false → legs.is_up leg (sender dir) (W e).legs ≡ true
+        → company.finished r (W e).company (at (W e) leg (sender dir)) leg ≡ true
+        → legs.is_clear leg dir (W e).legs ≡ true
+        → (has_passed (came e here) ≡ true) ⊎ (is_in_use rules (takes e).role leg ≡ false)
+    unlost_came e here there here_left untold_there untold is_up done clear =
+        by (reads_or_unused e here untold_there)
+      where
+        by : Reads e ⊎ Unused e
+            → (has_passed (came e here) ≡ true) ⊎ (is_in_use rules (takes e).role leg ≡ false)
+        by (inl read) =
+            inl (put_came e here is_up (f.rose e here dir is_up) done (clear_is dir leg (W e) clear)
+            (told_of e here there here_left untold read))
+        by (inr u) = inr u.none
 
     over_passed : (e : List Change) (here : At e) → Before e → IsOver r (W e) leg → Passed e
     over_passed e here before over = by (two_dirs over.dir dir)

@@ -4,7 +4,7 @@ use Rattle.law_order.proofs.Vocabulary.{◌≡◌, ◌≢◌, ◌⊎◌, inl, in
 use Rattle.rh_record.specs.declared.answer.Who.TheVariants as who
 use Rattle.rh_inproxy.specs.Machine as in_proxy
 use Rattle.rh_server.specs.Servers as server
-use Rattle.law_moves.proofs.Vocabulary.{U, below_empty, nil_front, reader_at, prefix_self, CiU, IsU, is_in_use, EndEvent, Event, of_leg, messages_read}
+use Rattle.law_moves.proofs.Vocabulary.{U, D, below_empty, nil_front, reader_at, prefix_self, CiU, IsU, is_in_use, EndEvent, Event, of_leg, messages_read}
 use Rattle.law_role_inproxy.proofs.Vocabulary.{InProxy, item_came, put_items}
 use Rattle.law_role_inproxy.specs.Order as in_order
 use Rattle.law_role_client.proofs.Vocabulary.{up_items}
@@ -23,11 +23,12 @@ use Rattle.law_world_order.proofs.Vocabulary.{up_route_of, numbers_of}
 use Rattle.law_world_ways.proofs.ExactWays.Passing.{in_passes, server_passes}
 use Rattle.law_world_ways.proofs.ExactWays.ReadBy.{read_by}
 use Rattle.law_world_ways.proofs.ExactPaths.Streams.{InStream, ServerStream, ci_passed, is_passed}
-use Rattle.law_world_ways.proofs.ExactPaths.Fates.{Facts, goes_or_passed, never_lost}
+use Rattle.law_world_ways.proofs.ExactPaths.Fates.{Facts, goes_or_passed, never_lost, unlost_came}
 use Rattle.law_world_ways.proofs.ExactPaths.Fronts.{front_more}
 use Rattle.law_world_ways.proofs.ExactPaths.Grown.{in_grown, server_grown}
 use Rattle.law_world_ways.proofs.ExactPaths.Receivers.{in_later, in_passed, server_later}
 use Rattle.law_world_ways.proofs.ExactPaths.Shelves.{either, passed_more}
+use Rattle.law_world_ways.proofs.ExactPaths.Unlost.{not_left, over_parts}
 use Rattle.law_world_ways.proofs.ExactPaths.AtFronts.{NodeLaws, WorldLaws}
 use Rattle.law_world_ways.proofs.OnPaths.Used.{passed_goes}
 use Rattle.law_world_ways.proofs.ExactPaths.AtFronts as worlds
@@ -37,6 +38,7 @@ use Rattle.law_world_ways.specs.OnPaths.OnWay.{is_lost, items_on_way}
 use Rattle.law_world_ways.specs.OnPaths.Ways.{AreOnTheirWay, client_node, in_node, server_node, up_far, up_lost}
 use Rattle.law_world_ways.specs.ExactWays.Pdus.{IsBehindEnd, NoneStopsButBehindEnd}
 use Rattle.law_world_ways.specs.ExactPaths.GoingOn.{AllGoOn}
+use Rattle.law_world_ways.specs.ExactPaths.Over.{IsOverUpwards}
 
 if_there : (b : Bool) (items : List Item) → b ≡ true → (if b then items else []) ≡ items
 if_there true items e = refl
@@ -61,7 +63,7 @@ module _ {K : Type 0} (m : Makers K InProxy OutProxy) (w : OurWorld K) (new : Is
   abbrev At : List Change → Type 0
   At e = IsPrefix e changes
 
-  ways : (e : List Change) (here : At e) → AreOnTheirWay (numbers_of ours) (W e) (H e)
+  abbrev ways : (e : List Change) (here : At e) → AreOnTheirWay (numbers_of ours) (W e) (H e)
   ways e here = worlds.ways m w new ours node law changes allowed works going e here
 
   abbrev up : (e : List Change) (here : At e) → Route
@@ -239,6 +241,25 @@ module _ {K : Type 0} (m : Makers K InProxy OutProxy) (w : OurWorld K) (new : Is
       stays = near_stays;
     }
 
+    -- at a moment at which it is over
+    pub near_came : IsOverUpwards rules (W changes) (H changes) (ci n)
+        → (has_passed ((up changes (prefix_self changes)).came
+        (reader (up changes (prefix_self changes)).legs n) n) ≡ true)
+        ⊎ (is_in_use in_proxy.rules
+        (in_node (numbers_of ours) (H changes) (reads changes)).role (ci n) ≡ false)
+    near_came over =
+        unlost_came rules m deeds w changes in_time (ci n) U (Some CiU) in_proxy.rules
+        (λ e. client_node (numbers_of ours) (H e))
+        (λ e. in_node (numbers_of ours) (H e) (reads e)) item_came
+        (λ e here. (up e here).sent n)
+        (λ e here. (up e here).came (reader (up e here).legs n) n) NearPassed near_facts changes
+        (prefix_self changes)
+        (not_left rules (W changes) (H changes) (ci n) over side.Server)
+        (not_left rules (W changes) (H changes) (ci n) over side.Client)
+        (over.untold side.Server) (over.untold side.Client) (over.up side.Client)
+        (over_parts rules (W changes) (H changes) (ci n) over).0
+        (over_parts rules (W changes) (H changes) (ci n) over).1
+
   -- ---- and from an in proxy that was made to the server
 
   module _ (n : ℕ) (some : 0 < n) (made : is_made (W changes).company n ≡ true) where
@@ -379,6 +400,30 @@ module _ {K : Type 0} (m : Makers K InProxy OutProxy) (w : OurWorld K) (new : Is
           (ways e (front_more e more changes here)).directions.up.taker
           (done.passed (ways e (front_more e more changes here)).directions.up.taker);
     }
+
+    -- at a moment at which it is over
+    pub far_came : IsOverUpwards rules (W changes) (H changes) (is n)
+        → has_passed ((up changes (prefix_self changes)).got n) ≡ true
+    far_came over =
+        by (unlost_came rules m deeds w changes in_time (is n) U (Some IsU) server.rules
+        (λ e. in_node (numbers_of ours) (H e) n) (λ e. server_node (numbers_of ours) (H e))
+        in_items (λ e here. (up e here).put n) (λ e here. (up e here).got n) FarPassed far_facts
+        changes (prefix_self changes)
+        (not_left rules (W changes) (H changes) (is n) over side.Server)
+        (not_left rules (W changes) (H changes) (is n) over side.Client)
+        (over.untold side.Server) (over.untold side.Client) (over.up side.Client)
+        (over_parts rules (W changes) (H changes) (is n) over).0
+        (over_parts rules (W changes) (H changes) (is n) over).1)
+      where
+        by : (has_passed ((up changes (prefix_self changes)).got n) ≡ true)
+            ⊎ (is_in_use server.rules (server_node (numbers_of ours) (H changes)).role (is n)
+            ≡ false) → has_passed ((up changes (prefix_self changes)).got n) ≡ true
+        by (inl passed) = passed
+        by (inr unused) =
+            server_passes node.server_law ours.window n server_reads (H changes).server
+            (ways changes (prefix_self changes)).directions.up.taker
+            (worlds.rose m w new ours node law changes allowed works going changes
+            (prefix_self changes) (is n) D (over.up side.Server)) unused
 
   -- ---- so no leg stops the way
 

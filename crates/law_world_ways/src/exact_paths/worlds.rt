@@ -17,6 +17,7 @@ ghost use Rattle.law_world_ways.specs.OnPaths.Ways.{AreOnTheirWay, down_lost, up
 ghost use Rattle.law_world_ways.specs.ExactWays.Pdus.{NoneStopsButBehindEnd};
 ghost use Rattle.law_world_ways.specs.ExactPaths.Exact.{IsExact};
 ghost use Rattle.law_world_ways.specs.ExactPaths.GoingOn.{AllGoOn};
+ghost use Rattle.law_world_ways.specs.ExactPaths.Over.{PassesWhereOver};
 
 use crate::exact_ways::{
     a_leg_of_use_is_kept, a_leg_that_came_up_is_known, legs_that_go_on_lose_nothing,
@@ -51,7 +52,9 @@ use rh_server::ServerRole;
 /// In each world of new roles that lines lead to by changes that end a leg only where one of its
 /// ends is over: while all nodes go on, of the legs of the channels from the taker's current one up
 /// to that on which the giver writes each gives all that was put there, or its handover mark or END
-/// passed, or END came before on a channel that the same proxy reads.
+/// passed, or END came before on a channel that the same proxy reads. And where the end nearer the
+/// client has finished a leg of which neither end was told that it is lost, and all that was put
+/// there on the way up came, the handover mark or END came to the node that takes PDUs there.
 pub fn what_is_lost_in_time_had_passed<K>()
     ensures down { InNewWorlds K (λ m w ours.
         IsPort ours.config.port → (v : World K ClientRole Server InProxy OutProxy)
@@ -67,6 +70,11 @@ pub fn what_is_lost_in_time_had_passed<K>()
         let numbers = numbers_of ours in AllGoOn numbers h
         → (ways : AreOnTheirWay numbers v h)
         → NoneStopsButBehindEnd (up_route_of ways.directions) (up_lost numbers v h))) }
+    ensures over { InNewWorlds K (λ m w ours.
+        IsPort ours.config.port → (v : World K ClientRole Server InProxy OutProxy)
+        (ends : EndsInTime rules m deeds w v)
+        → (let h = all_noted rules m deeds w nothing ends.lines.leads.changes in
+        let numbers = numbers_of ours in AllGoOn numbers h → PassesWhereOver numbers v h)) }
 {
     nothing_on_its_way_is_lost::<K>();
     what_goes_down_is_a_route();

@@ -8,10 +8,12 @@ use Rattle.law_node_traces.proofs.Vocabulary.{AreOurs, deeds, rules}
 use Rattle.law_world_order.proofs.Vocabulary.{down_route_of, up_route_of, numbers_of, AreInRange, IsPort}
 use Rattle.law_world_ways.proofs.ExactPaths.DownLegs.{none_stops_down}
 use Rattle.law_world_ways.proofs.ExactPaths.UpLegs.{none_stops_up}
+use Rattle.law_world_ways.proofs.ExactPaths.OverUp.{passes_where_over}
 use Rattle.law_world_ways.proofs.ExactPaths.AtFronts.{NodeLaws, WorldLaws}
 use Rattle.law_world_ways.proofs.exact_paths.worlds.what_is_lost_in_time_had_passed.Goals as goal
 use Rattle.law_world_ways.specs.OnPaths.Ways.{AreOnTheirWay, down_lost, up_lost}
 use Rattle.law_world_ways.specs.ExactWays.Pdus.{NoneStopsButBehindEnd}
+use Rattle.law_world_ways.specs.ExactPaths.Over.{PassesWhereOver}
 
 pub returns : goal.returns
 returns g c = record {
@@ -34,6 +36,13 @@ returns g c = record {
       → NoneStopsButBehindEnd (up_route_of ways.directions) (up_lost numbers x h))
       ends.lines.leads.reached
       (none_stops_up m w new ours nodes (world m w new ours ranges port) changes
+      ends.lines.leads.allowed ends.lines.work ends.in_time going);
+  over = λ m w new ours ranges port v ends going.
+      let changes = ends.lines.leads.changes in
+      let h = all_noted rules m deeds w nothing changes in
+      subst (λ (x : World g.row.K.Denot ClientRole Server InProxy OutProxy).
+      PassesWhereOver (numbers_of ours) x h) ends.lines.leads.reached
+      (passes_where_over m w new ours nodes (world m w new ours ranges port) changes
       ends.lines.leads.allowed ends.lines.work ends.in_time going);
 }
   where
