@@ -1,0 +1,6 @@
+//! Which legs stand in the chain of a capture, where each replaces the one before it.
+#![tactic(auto)]
+
+pub mod chained;
+
+pub use chained::successors_stand_in_a_chain;
