@@ -1,0 +1,6 @@
+//! Legs of a virtual connection replace one another in the order of their numbers.
+#![tactic(auto)]
+
+pub mod succession;
+
+pub use succession::each_leg_replaces_the_one_before_it;
