@@ -6,3 +6,4 @@ pub mod Known
 pub mod OwnLegs
 pub mod OutLegs
 pub mod InLegs
+pub mod ReadWhole

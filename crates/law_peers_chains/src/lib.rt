@@ -2,5 +2,7 @@
 #![tactic(auto)]
 
 pub mod succession;
+pub mod whole;
 
 pub use succession::each_leg_replaces_the_one_before_it;
+pub use whole::what_is_read_is_whole;
