@@ -1,0 +1,4 @@
+pub mod Moved
+pub mod Tagged
+pub mod Fed
+pub mod ToldMoves

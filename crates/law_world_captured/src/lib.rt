@@ -1,0 +1,8 @@
+//! What the capture of a recording of roles carries on each leg.
+#![tactic(auto)]
+
+pub mod lists;
+pub mod moves;
+
+pub use lists::a_capture_has_what_moved;
+pub use moves::a_recording_tells_what_moved;
