@@ -5,3 +5,5 @@ pub mod FedLines
 pub mod FedRounds
 pub mod FedAtEnds
 pub mod ToldMoves
+pub mod SentOn
+pub mod SentRecorded

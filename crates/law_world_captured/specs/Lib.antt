@@ -2,3 +2,4 @@ pub mod Moved
 pub mod Tagged
 pub mod Fed
 pub mod ToldMoves
+pub mod Sent
