@@ -1,0 +1,5 @@
+pub mod Splits
+pub mod HeadFronts
+pub mod FrameFronts
+pub mod FineTexts
+pub mod Messages
