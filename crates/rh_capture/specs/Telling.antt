@@ -16,6 +16,7 @@ abbrev pub capturing : Tale (List Leg)
 capturing = record {
   first = [];
   line = λ legs line. first_told line;
+  heard = λ legs line. legs;
   answer = λ legs answer. lines_text (line_of legs answer);
   after = λ legs answer. met legs answer;
 }

@@ -31,7 +31,7 @@ impl Teller for Tags {
         Ok(Tags::new(alloc))
     }
 
-    fn tell_line(&self, line: &Line, out: &mut String) -> Result<(), AllocError> {
+    fn tell_line(&mut self, line: &Line, out: &mut String) -> Result<(), AllocError> {
         match line {
             Line::First { .. } => write_first(out),
             _ => Ok(()),

@@ -1,5 +1,5 @@
 -- whether a frame is whole, by the header of its first 16 bytes
-use Rattle.std.proofs.Common.{◌≡◌, ◌≤◌, ℕ, Bool, true, List, take, length, nat_le, Some, None, refl, sym, ◌∙◌, ap, arith}
+use Rattle.std.proofs.Common.{◌≡◌, ◌≤◌, ℕ, true, List, take, length, nat_le, Some, None, refl, sym, ◌∙◌, ap, arith}
 use Rattle.std.proofs.lemmas.Bool.Decides.{nat_tests}
 use Rattle.std.proofs.lemmas.List.{take-take}
 use Rattle.rh_pdu.specs.declared.fault.HeadFault.{HeadFault}

@@ -1,4 +1,5 @@
 pub mod Streams
+pub mod Rounds
 pub mod Items
 pub mod Brief
 pub mod Stories

@@ -1,5 +1,5 @@
 -- the story of a recording: what is told of each line and of each answer (profile)
-use Rattle.std.specs.Prelude.{ℕ, Bool, true, false, List, [], ◌∷◌, ◌++◌, codes, Some, None, Ok, Err}
+use Rattle.std.specs.Prelude.{ℕ, Bool, true, false, List, [], ◌∷◌, ◌++◌, codes, Some, None, Ok}
 use Rattle.std.specs.declared.option.Option.{Option}
 use Rattle.std.specs.Fmt.{decimal}
 use Rattle.hex.specs.Hex.{encode_lower}
@@ -7,26 +7,29 @@ use Rattle.rh_text.specs.declared.ends.Dir.{Dir}
 use Rattle.rh_text.specs.declared.ends.Side.{Side}
 use Rattle.rh_text.specs.Ends.{side_word}
 use Rattle.rh_line.specs.declared.leg.Leg.{Leg}
-use Rattle.rh_record.specs.declared.answer.TakeAnswer.{TakeAnswer}
 use Rattle.rh_record.specs.declared.answer.TakeAnswer.TheVariants as takes
 use Rattle.rh_record.specs.declared.answer.Answer.{Answer}
 use Rattle.rh_record.specs.declared.answer.Answer.TheVariants as answers
 use Rattle.rh_record.specs.declared.line.Line.{Line}
 use Rattle.rh_record.specs.declared.line.Line.TheVariants as lines
 use Rattle.rh_record.specs.Report.{report_text, route_text}
+use Rattle.rh_story.specs.declared.rounds.Settling.{Settling}
+use Rattle.rh_story.specs.Rounds.{begins, behind, settling_of}
 use Rattle.rh_story.specs.Streams.{held_of, key_of, pipe_of, way_word, with_held}
 use Rattle.rh_story.specs.Items.{items_from, held_from}
 use Rattle.rh_story.specs.Brief.{frame_brief, item_brief}
 
--- the moment in milliseconds, whether bytes are told as hex too, and what is held of each stream
+-- the moment in milliseconds, whether bytes are told as hex too, what is held of each stream, and
+-- the settling that goes on
 pub record Telling : Type 0 where
   pub moment : ℕ
   pub hex : Bool
   pub held : List (List ℕ × List ℕ)
+  pub settling : Option Settling
 
 -- nothing happened yet
 abbrev pub begun : Bool → Telling
-begun hex = record { moment = 0; hex = hex; held = [] }
+begun hex = record { moment = 0; hex = hex; held = []; settling = None }
 
 -- ---- lines of the story
 
@@ -65,6 +68,16 @@ item_lines moment hex leg dir (item ∷ items) =
 
 -- ---- what is told
 
+-- an answer is of a round
+abbrev pub in_round : Telling → Answer → Telling
+in_round s answer = record s { settling = behind s.settling answer }
+
+-- the round that begins
+abbrev pub round_text : ℕ → Option ℕ → List ℕ
+round_text moment None = []
+round_text moment (Some number) =
+    stamped moment (codes "round " ++ decimal number ++ codes "\n")
+
 -- of a line, before it is answered: the PDU that is given
 abbrev pub line_told : Telling → Line → List ℕ
 line_told s (lines.Give side pdu) = pdu_line s.moment s.hex (codes "give ") side pdu
@@ -76,15 +89,24 @@ moved_told s leg dir bytes =
     item_lines s.moment s.hex leg dir (items_from (held_of s.held (key_of leg dir)) bytes)
 
 -- of an answer: a give that was taken says no more; any other stands as in the report
-abbrev pub told : Telling → Answer → List ℕ
-told s (answers.Give side (Ok len)) = []
-told s (answers.Take side (takes.Pdu pdu)) =
+abbrev pub answer_told : Telling → Answer → List ℕ
+answer_told s (answers.Give side (Ok len)) = []
+answer_told s (answers.Take side (takes.Pdu pdu)) =
     pdu_line s.moment s.hex (codes "take ") side pdu
-told s (answers.Move leg dir (Some bytes)) = moved_told s leg dir bytes
-told s (answers.Move leg dir None) = []
-told s answer = stamped s.moment (report_text (answer ∷ []))
+answer_told s (answers.Move leg dir (Some bytes)) = moved_told s leg dir bytes
+answer_told s (answers.Move leg dir None) = []
+answer_told s answer = stamped s.moment (report_text (answer ∷ []))
 
--- ---- what is so behind an answer
+-- and before it, of the round that it begins
+abbrev pub told : Telling → Answer → List ℕ
+told s answer =
+    round_text s.moment (begins s.settling answer) ++ answer_told (in_round s answer) answer
+
+-- ---- what is so behind a line or an answer
+
+-- a line ends the settling of the line before it, and may begin one
+abbrev pub heard : Telling → Line → Telling
+heard s line = record s { settling = settling_of line }
 
 -- behind a move: of its stream the bytes that make no whole item are held
 abbrev pub after_move : Telling → Option Leg → Dir → List ℕ → Telling
@@ -93,7 +115,10 @@ after_move s leg dir bytes = record s {
       (held_from (held_of s.held (key_of leg dir)) bytes);
 }
 
+abbrev pub after_answer : Telling → Answer → Telling
+after_answer s (answers.Tick now true) = record s { moment = now }
+after_answer s (answers.Move leg dir (Some bytes)) = after_move s leg dir bytes
+after_answer s _ = s
+
 abbrev pub after : Telling → Answer → Telling
-after s (answers.Tick now true) = record s { moment = now }
-after s (answers.Move leg dir (Some bytes)) = after_move s leg dir bytes
-after s _ = s
+after s answer = after_answer (in_round s answer) answer

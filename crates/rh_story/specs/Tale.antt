@@ -1,7 +1,13 @@
--- what a story tells of a recording, line by line and answer by answer
-use Rattle.std.specs.Prelude.{false}
+-- what a story tells of a recording, line by line and answer by answer, with or without hex
+use Rattle.std.specs.Prelude.{Bool}
 use Rattle.rh_teller.specs.Tales.{Tale}
-use Rattle.rh_story.specs.Stories.{Telling, after, begun, line_told, told}
+use Rattle.rh_story.specs.Stories.{Telling, after, begun, heard, line_told, told}
 
-abbrev pub story : Tale Telling
-story = record { first = begun false; line = line_told; answer = told; after = after }
+abbrev pub story : Bool → Tale Telling
+story hex = record {
+  first = begun hex;
+  line = line_told;
+  heard = heard;
+  answer = told;
+  after = after;
+}

@@ -7,9 +7,11 @@ mod held;
 mod items;
 pub mod laws;
 mod lines;
+mod rounds;
 pub mod story;
 mod streams;
-mod teller;
+pub mod teller;
 
 pub use laws::{cut_anywhere, each_frame_is_told};
 pub use story::Story;
+pub use teller::HexStory;

@@ -176,6 +176,25 @@ pub(crate) fn write_items(
     Ok(())
 }
 
+/// Appends the line that tells of a round that begins, where one does.
+pub(crate) fn write_round(
+    moment: u64,
+    number: Option<u64>,
+    out: &mut String,
+) -> Result<(), AllocError>
+    ensures { Writes (seen.round_text moment number) result
+        (string_bytes out.old) (string_bytes out.new) }
+{
+    match number {
+        None => Ok(()),
+        Some(number) => {
+            let (moment, number) = (Part::Number(moment), Part::Number(number));
+            let word = Part::Text("round ");
+            write_parts(&[moment, SPACE, word, number, Part::Text("\n")], out)
+        }
+    }
+}
+
 /// Appends the line that tells an answer as the report does, behind the moment.
 pub(crate) fn write_reported(
     moment: u64,

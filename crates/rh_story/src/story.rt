@@ -1,7 +1,8 @@
 //! A story, which is told line by line.
 
 use crate::held::Held;
-use crate::lines::{Manner, Stream, write_items, write_pdu_line, write_reported};
+use crate::lines::{Manner, Stream, write_items, write_pdu_line, write_reported, write_round};
+use crate::rounds::{Settling, settling_of};
 use crate::streams::key_of;
 use rh_line::{Dir, Leg};
 use rh_record::{Answer, Line, TakeAnswer};
@@ -17,6 +18,7 @@ pub struct Story {
     moment: u64,
     hex: bool,
     held: Held,
+    settling: Option<Settling>,
 }
 
 impl Model for Story {
@@ -24,12 +26,13 @@ impl Model for Story {
 
     ghost Value = { Telling };
 
-    ghost view = { λ a. record { moment = a.moment; hex = a.hex; held = a.held } };
+    ghost view = { λ a. record { moment = a.moment; hex = a.hex; held = a.held; settling = a.settling } };
 }
 
 impl Story {
     ghost use Rattle.std.specs.Prelude.{◌≡◌, OnOk, string_bytes};
     ghost use Rattle.rh_text.specs.Writing.{Writes};
+    ghost use Rattle.rh_story.specs.Rounds.{begins};
     ghost use Rattle.rh_story.specs.Stories as seen;
 
     /// A story of which nothing happened yet, at the moment 0. Where `hex` is true, the bytes of
@@ -41,6 +44,7 @@ impl Story {
             moment: 0,
             hex,
             held: Held::new(alloc),
+            settling: None,
         }
     }
 
@@ -77,10 +81,12 @@ impl Story {
     /// Appends what is told of a line before it is answered: the PDU that is given.
     ///
     /// Fails where there is no memory; a front of that may stand in `out` then, and nothing else.
-    pub fn tell_of_line(&self, line: &Line, out: &mut String) -> Result<(), AllocError>
-        ensures { Writes (seen.line_told self.now line.now) result
+    pub fn tell_of_line(&mut self, line: &Line, out: &mut String) -> Result<(), AllocError>
+        ensures text { Writes (seen.line_told self.old line.now) result
             (string_bytes out.old) (string_bytes out.new) }
+        ensures heard { OnOk result (self.new ≡ seen.heard self.old line.now) }
     {
+        self.settling = settling_of(line);
         match line {
             Line::Give { side, pdu } => {
                 write_pdu_line(self.manner(), "give ", *side, pdu.as_slice(), out)
@@ -89,20 +95,31 @@ impl Story {
         }
     }
 
-    /// Appends what is told of an answer: the items that a move makes whole, by their names; a PDU
-    /// that is taken; nothing of a give that was taken; and any other answer as the report has it.
-    /// The moment stands before each line.
-    ///
-    /// Fails where there is no memory; a front of that may stand in `out` then, and nothing else.
-    pub fn tell_of_answer(
+    /// Appends the line of the round that an answer begins.
+    fn tell_round(&mut self, answer: &Answer, out: &mut String) -> Result<(), AllocError>
+        ensures text { Writes
+            (seen.round_text self.old.moment (begins self.old.settling answer.now)) result
+            (string_bytes out.old) (string_bytes out.new) }
+        ensures after { OnOk result (self.new ≡ seen.in_round self.old answer.now) }
+    {
+        let Some(settling) = self.settling else {
+            return Ok(());
+        };
+        write_round(self.moment, settling.begins(answer), out)?;
+        self.settling = Some(settling.behind(answer));
+        Ok(())
+    }
+
+    /// Appends what is told of an answer, but of the round that it begins.
+    fn tell_answer(
         &mut self,
         alloc: Global,
         answer: &Answer,
         out: &mut String,
     ) -> Result<(), AllocError>
-        ensures text { Writes (seen.told self.old answer.now) result
+        ensures text { Writes (seen.answer_told self.old answer.now) result
             (string_bytes out.old) (string_bytes out.new) }
-        ensures after { OnOk result (self.new ≡ seen.after self.old answer.now) }
+        ensures after { OnOk result (self.new ≡ seen.after_answer self.old answer.now) }
     {
         match answer {
             Answer::Give { answer: Ok(_), .. } | Answer::Move { bytes: None, .. } => Ok(()),
@@ -122,5 +139,24 @@ impl Story {
             }
             _ => write_reported(self.moment, answer, out),
         }
+    }
+
+    /// Appends what is told of an answer: the round of a settling that it begins; the items that a
+    /// move makes whole, by their names; a PDU that is taken; nothing of a give that was taken; and
+    /// any other answer as the report has it. The moment stands before each line.
+    ///
+    /// Fails where there is no memory; a front of that may stand in `out` then, and nothing else.
+    pub fn tell_of_answer(
+        &mut self,
+        alloc: Global,
+        answer: &Answer,
+        out: &mut String,
+    ) -> Result<(), AllocError>
+        ensures text { Writes (seen.told self.old answer.now) result
+            (string_bytes out.old) (string_bytes out.new) }
+        ensures after { OnOk result (self.new ≡ seen.after self.old answer.now) }
+    {
+        self.tell_round(answer, out)?;
+        self.tell_answer(alloc, answer, out)
     }
 }

@@ -64,7 +64,7 @@ fn way_down(kind: LegKind) -> &'static str
 }
 
 /// The place of a kind of leg in a key; 0 stands for the leg of a direct recording.
-fn kind_place(kind: LegKind) -> u32
+pub(crate) fn kind_place(kind: LegKind) -> u32
     ensures { result ≡ seen.kind_place kind }
 {
     match kind {
@@ -76,7 +76,7 @@ fn kind_place(kind: LegKind) -> u32
 }
 
 /// The place of a direction in a key.
-fn dir_place(dir: Dir) -> u32
+pub(crate) fn dir_place(dir: Dir) -> u32
     ensures { result ≡ seen.dir_place dir }
 {
     match dir {

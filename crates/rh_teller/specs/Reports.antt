@@ -8,6 +8,7 @@ abbrev pub report : Tale Reporter
 report = record {
   first = record {};
   line = λ teller line. [];
+  heard = λ teller line. teller;
   answer = λ teller answer. report_text (answer ∷ []);
   after = λ teller answer. teller;
 }

@@ -6,8 +6,9 @@ use Rattle.rh_record.specs.declared.line.Line.{Line}
 pub record Tale (Teller : Type 0) : Type 0 where
   -- before the first line
   pub first : Teller
-  -- what is told of a line, before it is answered
+  -- what is told of a line, before it is answered, and the teller behind that
   pub line : Teller → Line → List ℕ
+  pub heard : Teller → Line → Teller
   -- what is told of an answer, and the teller behind it
   pub answer : Teller → Answer → List ℕ
   pub after : Teller → Answer → Teller

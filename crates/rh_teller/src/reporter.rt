@@ -17,7 +17,7 @@ impl Teller for Reporter {
         Ok(Reporter)
     }
 
-    fn tell_line(&self, _: &Line, _: &mut String) -> Result<(), AllocError> {
+    fn tell_line(&mut self, _: &Line, _: &mut String) -> Result<(), AllocError> {
         Ok(())
     }
 

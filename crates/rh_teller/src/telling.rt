@@ -10,7 +10,7 @@ use std::alloc::{AllocError, Global};
 /// Tells of a recording while it runs. It is told each line, and then each answer to that line; what
 /// it appends, one behind the other, is its tale.
 pub trait Teller: Drop {
-    /// As what it begins, what it tells of a line and of an answer, and what it is behind an answer.
+    /// As what it begins, what it tells of a line and of an answer, and what it is behind each.
     ghost tale: { Tale Self };
 
     /// The teller before the first line. Fails where there is no memory.
@@ -20,9 +20,10 @@ pub trait Teller: Drop {
     /// Appends what is told of a line before it is answered.
     ///
     /// Fails where there is no memory; a front of that may stand in `out` then, and nothing else.
-    fn tell_line(&self, line: &Line, out: &mut String) -> Result<(), AllocError>
-        ensures { Writes (tale.line self.now line.now) result
-            (string_bytes out.old) (string_bytes out.new) };
+    fn tell_line(&mut self, line: &Line, out: &mut String) -> Result<(), AllocError>
+        ensures text { Writes (tale.line self.old line.now) result
+            (string_bytes out.old) (string_bytes out.new) }
+        ensures heard { OnOk result (self.new ≡ tale.heard self.old line.now) };
 
     /// Appends what is told of an answer.
     ///

@@ -1,6 +1,6 @@
 -- the printed bytes at the front
 use Rattle.std.proofs.Common.{◌<◌, ◌∙◌, ℕ, List, take, slice_index, ap, sym, subst}
-use Rattle.rh_story.specs.Brief.{is_printed, text_brief}
+use Rattle.rh_story.specs.Brief.{text_brief}
 use Rattle.rh_story.proofs.Printed.{printed_ascii}
 use Rattle.rh_story.proofs.brief.printed.Goals as goal
 

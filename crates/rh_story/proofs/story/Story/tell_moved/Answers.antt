@@ -1,10 +1,10 @@
 -- what is left is held in place of what was
-use Rattle.std.proofs.Common.{◌≡◌, ℕ, List, [], Ok, Err, sym, ap, ◌∙◌}
+use Rattle.std.proofs.Common.{◌≡◌, ℕ, List, [], Ok, Err, ap, ◌∙◌}
 use Rattle.std.specs.Prelude.{OnOk}
 use Rattle.std.specs.declared.result.Result.{Result}
 use Rattle.rh_story.specs.Items.{held_from}
 use Rattle.rh_story.specs.Streams.{held_of, key_of, with_held}
-use Rattle.rh_story.specs.Stories.{Telling, after_move}
+use Rattle.rh_story.specs.Stories.{Telling}
 use Rattle.rh_story.proofs.Places.{put_again}
 use Rattle.rh_story.proofs.story.Story.tell_moved.Goals as goal
 
