@@ -1,5 +1,5 @@
 -- two texts, one behind the other
-use Rattle.std.proofs.Common.{◌≡◌, ℕ, ◌≤◌, List, ◌++◌, length, sym, subst, ap, ◌∙◌, append_assoc}
+use Rattle.std.proofs.Common.{ℕ, ◌≤◌, List, ◌++◌, length, sym, subst, ap, ◌∙◌, append_assoc}
 use Rattle.std.specs.declared.option.Option.{Option}
 use Rattle.rh_word.specs.Outputs.{Out, Gathers, Stops}
 use Rattle.rh_word.proofs.Gathering.{gathers_more, gathers_on, gathers_sure, stops_on, sure_front}

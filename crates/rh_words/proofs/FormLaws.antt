@@ -4,7 +4,7 @@ use Rattle.std.proofs.lemmas.Fmt.{decimal_injective}
 use Rattle.std.specs.declared.string.String.{String}
 use Rattle.std.specs.Global.{Global}
 use Rattle.rh_words.specs.declared.form.Form.{Form}
-use Rattle.rh_words.specs.declared.form.Form.TheVariants.{Replay, Story, Show, Name, Play, Capture, Audit, Make, Help, Version}
+use Rattle.rh_words.specs.declared.form.Form.TheVariants.{Replay, Story, HexStory, Show, Name, Play, Capture, Audit, Make, Help, Version}
 use Rattle.rh_words.specs.declared.status.Status.{Status}
 use Rattle.rh_words.specs.declared.status.Status.TheVariants.{Done, Usage, BadInput, ReadFault, WriteFault, NoMemory, TooLong}
 use Rattle.rh_words.specs.Forms.{IsForm, form_words}
@@ -20,6 +20,9 @@ only_make Replay count words h k =
     absurd (let e = ap length (two Replay (Make count) words h k) in cc)
 only_make Story count words h k =
     absurd (let e = ap length (two Story (Make count) words h k) in cc)
+only_make HexStory count words h k =
+    absurd (let e = ap (λ (x : List (List ℕ)). length (get_or x 0 []))
+    (two HexStory (Make count) words h k) in cc)
 only_make Show count words h k =
     absurd (let e = ap length (two Show (Make count) words h k) in cc)
 only_make Name count words h k =

@@ -1,6 +1,6 @@
 -- runs from bytes in memory to room in memory
 use Rattle.std.proofs.Common.{◌≡◌, ◌≤◌, ℕ, List, [], length, refl, sym, ◌∙◌, ap, subst, inl, inr}
-use Rattle.std.proofs.Common.{Some, None, ◌++◌}
+use Rattle.std.proofs.Common.{Some, None, true, false, ◌++◌}
 use Rattle.std.proofs.lemmas.List.{append-nil}
 use Rattle.std.specs.declared.option.Option.{Option}
 use Rattle.std.specs.Io.KnownBytes.{Appends}
@@ -14,7 +14,7 @@ use Rattle.rh_generate.specs.Summaries.{summary}
 use Rattle.rh_capture.specs.Recordings.{roles_recording}
 use Rattle.rh_capture.specs.Reading.{captures}
 use Rattle.rh_words.specs.declared.form.Form.{Form}
-use Rattle.rh_words.specs.declared.form.Form.TheVariants.{Replay, Story, Show, Name, Play, Capture, Audit, Make, Help, Version}
+use Rattle.rh_words.specs.declared.form.Form.TheVariants.{Replay, Story, HexStory, Show, Name, Play, Capture, Audit, Make, Help, Version}
 use Rattle.rh_words.specs.declared.status.Status.{Status}
 use Rattle.rh_words.specs.declared.status.Status.TheVariants as statuses
 use Rattle.rh_word.specs.declared.word.Ended.{Ended}
@@ -127,7 +127,9 @@ pub ran_in_memory : (help version : List ℕ) (Unfailing : Type 0) (form : Form)
 ran_in_memory help version Unfailing Replay status before after text h sure left none room =
     rw h.1 (spared recording IsReplayed Unfailing before after text h.0 h.2 sure left none room)
 ran_in_memory help version Unfailing Story status before after text h sure left none room =
-    rw h.1 (spared recording IsStory Unfailing before after text h.0 h.2 sure left none room)
+    rw h.1 (spared recording (IsStory false) Unfailing before after text h.0 h.2 sure left none room)
+ran_in_memory help version Unfailing HexStory status before after text h sure left none room =
+    rw h.1 (spared recording (IsStory true) Unfailing before after text h.0 h.2 sure left none room)
 ran_in_memory help version Unfailing Show status before after text h sure left none room =
     rw h.1 (spared packets IsShown Unfailing before after text h.0 h.2 sure left none room)
 ran_in_memory help version Unfailing Name status before after text h sure left none room =

@@ -1,5 +1,5 @@
 -- the forms of a command line, and what each is answered
-use Rattle.std.specs.Prelude.{◌≡◌, ◌⊎◌, ◌≢◌, ◌≤◌, ℕ, List, [], ◌∷◌, ◌++◌, length, codes, map, string_bytes, Some}
+use Rattle.std.specs.Prelude.{◌≡◌, ◌⊎◌, ◌≢◌, ◌≤◌, ℕ, true, false, List, [], ◌∷◌, ◌++◌, length, codes, map, string_bytes, Some}
 use Rattle.std.specs.Fmt.{decimal}
 use Rattle.std.specs.declared.option.Option.{Option}
 use Rattle.std.specs.declared.string.String.{String}
@@ -18,7 +18,7 @@ use Rattle.rh_generate.specs.Summaries.{summary}
 use Rattle.rh_capture.specs.Recordings.{roles_recording}
 use Rattle.rh_capture.specs.Reading.{captures}
 use Rattle.rh_words.specs.declared.form.Form.{Form}
-use Rattle.rh_words.specs.declared.form.Form.TheVariants.{Replay, Story, Show, Name, Play, Capture, Audit, Make, Help, Version}
+use Rattle.rh_words.specs.declared.form.Form.TheVariants.{Replay, Story, HexStory, Show, Name, Play, Capture, Audit, Make, Help, Version}
 use Rattle.rh_words.specs.declared.status.Status.{Status}
 use Rattle.rh_words.specs.declared.status.Status.TheVariants.{Done, WriteFault, NoMemory}
 use Rattle.rh_word.specs.declared.word.Ended.{Ended}
@@ -37,6 +37,7 @@ use Rattle.rh_words.specs.Play.{IsPlayed}
 abbrev pub form_words : Form → List (List ℕ)
 form_words Replay = codes "replay" ∷ []
 form_words Story = codes "story" ∷ []
+form_words HexStory = codes "story" ∷ codes "hex" ∷ []
 form_words Show = codes "show" ∷ []
 form_words Name = codes "name" ∷ []
 form_words Play = codes "play" ∷ []
@@ -50,6 +51,7 @@ form_words Version = codes "--version" ∷ []
 abbrev pub IsMade : Form → Type 0
 IsMade Replay = Unit {0}
 IsMade Story = Unit {0}
+IsMade HexStory = Unit {0}
 IsMade Show = Unit {0}
 IsMade Name = Unit {0}
 IsMade Play = Unit {0}
@@ -132,7 +134,10 @@ Ran help version Unfailing Replay status before after =
     × Reads recording IsReplayed Unfailing ended before after
 Ran help version Unfailing Story status before after =
     (ended : Ended) × (status ≡ status_of ended)
-    × Reads recording IsStory Unfailing ended before after
+    × Reads recording (IsStory false) Unfailing ended before after
+Ran help version Unfailing HexStory status before after =
+    (ended : Ended) × (status ≡ status_of ended)
+    × Reads recording (IsStory true) Unfailing ended before after
 Ran help version Unfailing Show status before after =
     (ended : Ended) × (status ≡ status_of ended)
     × Reads packets IsShown Unfailing ended before after

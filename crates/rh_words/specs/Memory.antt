@@ -1,5 +1,5 @@
 -- runs from bytes in memory to room in memory, where no call of either is to fail
-use Rattle.std.specs.Prelude.{◌≡◌, ◌⊎◌, ◌≤◌, ℕ, List, [], ◌++◌, length, Some}
+use Rattle.std.specs.Prelude.{◌≡◌, ◌⊎◌, ◌≤◌, ℕ, true, false, List, [], ◌++◌, length, Some}
 use Rattle.std.specs.declared.option.Option.{Option}
 use Rattle.rh_text.specs.Lines.{IsText}
 use Rattle.rh_record.specs.Places.{recording}
@@ -11,7 +11,7 @@ use Rattle.rh_generate.specs.Summaries.{summary}
 use Rattle.rh_capture.specs.Recordings.{roles_recording}
 use Rattle.rh_capture.specs.Reading.{captures}
 use Rattle.rh_words.specs.declared.form.Form.{Form}
-use Rattle.rh_words.specs.declared.form.Form.TheVariants.{Replay, Story, Show, Name, Play, Capture, Audit, Make, Help, Version}
+use Rattle.rh_words.specs.declared.form.Form.TheVariants.{Replay, Story, HexStory, Show, Name, Play, Capture, Audit, Make, Help, Version}
 use Rattle.rh_words.specs.declared.status.Status.{Status}
 use Rattle.rh_words.specs.declared.status.Status.TheVariants as statuses
 use Rattle.rh_word.specs.Words.{most_input}
@@ -26,7 +26,8 @@ use Rattle.rh_words.specs.Play.{IsPlayed}
 -- what a form writes of a text, whole; `help` and `version` are what the program tells of itself
 abbrev pub IsOutput : (help version : List ℕ) → Form → List ℕ → List ℕ → Type 0
 IsOutput help version Replay text whole = IsReplayed text whole
-IsOutput help version Story text whole = IsStory text whole
+IsOutput help version Story text whole = IsStory false text whole
+IsOutput help version HexStory text whole = IsStory true text whole
 IsOutput help version Show text whole = IsShown text whole
 IsOutput help version Name text whole = IsNamed text whole
 IsOutput help version Play text whole = IsPlayed text whole
@@ -40,6 +41,7 @@ IsOutput help version Version text whole = whole ≡ version
 abbrev pub IsInput : Form → List ℕ → Type 0
 IsInput Replay text = IsText recording text × (length text ≤ most_input)
 IsInput Story text = IsText recording text × (length text ≤ most_input)
+IsInput HexStory text = IsText recording text × (length text ≤ most_input)
 IsInput Show text = IsText packets text × (length text ≤ most_input)
 IsInput Name text = IsText asked text × (length text ≤ most_input)
 IsInput Play text = IsText script text × (length text ≤ most_input)

@@ -1,6 +1,6 @@
 -- a replay can do any line and end at any time, and what it writes line by line is the report of
 -- the recording
-use Rattle.std.proofs.Common.{◌≡◌, ℕ, List, [], ◌∷◌, ◌++◌, refl, sym, ◌∙◌, ap}
+use Rattle.std.proofs.Common.{◌≡◌, ℕ, List, [], ◌∷◌, ◌++◌, sym, ◌∙◌, ap}
 use Rattle.rh_record.specs.declared.line.Line.{Line}
 use Rattle.rh_record.specs.declared.place.Place.{Place}
 use Rattle.rh_record.specs.Places.{Stands, recording}

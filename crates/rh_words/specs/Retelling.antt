@@ -14,13 +14,14 @@ pub record Retold (T : Type 0) : Type 0 where
 
 -- what is told of a line and then of its answers
 abbrev pub line_told : {T : Type 0} → Tale T → Retold T → Line → List ℕ
-line_told tale s line = tale.line s.teller line ++ told tale s.teller (step s.world line).1
+line_told tale s line =
+    tale.line s.teller line ++ told tale (tale.heard s.teller line) (step s.world line).1
 
 -- and what there is behind it
 abbrev pub line_behind : {T : Type 0} → Tale T → Retold T → Line → Retold T
 line_behind tale s line = record {
   world = (step s.world line).0;
-  teller = behind tale s.teller (step s.world line).1;
+  teller = behind tale (tale.heard s.teller line) (step s.world line).1;
 }
 
 -- it starts before the first line, does a line to the world that it makes, and tells of the line

@@ -16,6 +16,8 @@ pub enum Form {
     Replay,
     /// `story`: a recording, told to people.
     Story,
+    /// `story hex`: the same, with the bytes in hex.
+    HexStory,
     /// `show`: what the packets of lines of hex are.
     Show,
     /// `name`: what the packets of lines of hex are called.
@@ -65,14 +67,15 @@ fn form_of_word(word: &str) -> Option<Form>
     }
 }
 
-/// The form of a word and a number.
-fn form_of_words(word: &str, number: &str) -> Option<Form>
+/// The form of two words.
+fn form_of_words(word: &str, next: &str) -> Option<Form>
     ensures { MatchOption result
-        ((form : Form) → word.now ∷ number.now ∷ [] ≡ form_words form → ¬ IsMade form)
-        (λ form. (word.now ∷ number.now ∷ [] ≡ form_words form) × IsMade form) }
+        ((form : Form) → word.now ∷ next.now ∷ [] ≡ form_words form → ¬ IsMade form)
+        (λ form. (word.now ∷ next.now ∷ [] ≡ form_words form) × IsMade form) }
 {
-    match word {
-        "make" => Some(Form::Make(count_of(number)?)),
+    match (word, next) {
+        ("story", "hex") => Some(Form::HexStory),
+        ("make", number) => Some(Form::Make(count_of(number)?)),
         _ => None,
     }
 }

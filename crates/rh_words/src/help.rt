@@ -10,6 +10,7 @@ its roles alone.
 
   rh_cli replay       reads a recording from standard input, writes its report to standard output
   rh_cli story        reads a recording, and tells it to people: packets and PDUs by name
+  rh_cli story hex    the same, with the bytes of each in hex
   rh_cli show         reads lines of hex, one packet each, and writes one line for each packet
   rh_cli name         reads such lines, and writes what people call each packet
   rh_cli play         reads a script that tells one role what comes to it, and writes the answers

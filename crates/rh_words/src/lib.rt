@@ -31,5 +31,5 @@ pub use rh_packet_words::{Name, Show};
 pub use rh_word::{Ended, Word, answer, numbers_are_fixed};
 pub use running::{VERSION, run};
 pub use status::Status;
-pub use story::StoryWord;
+pub use story::{HexStoryWord, StoryWord};
 pub use telling::{tell, tell_summary};

@@ -36,24 +36,25 @@ impl<T: Teller> Model for Retelling<T> {
 /// Gathers what is told of a line before it is answered, and writes what is gathered where that is
 /// a piece.
 fn gather_line<T: Teller, W: Sink>(
-    teller: &T,
+    teller: &mut T,
     line: &Line,
     gathered: &mut String,
     output: &mut W,
 ) -> Result<(), Unfinished>
+    ensures teller { OnOk result (teller.new ≡ T.tale.heard teller.old line.now) }
     ensures ok { OnOk result (Gathers
-        (string_bytes gathered.old ++ T.tale.line teller.now line.now)
+        (string_bytes gathered.old ++ T.tale.line teller.old line.now)
         (string_bytes gathered.new)
         (out W.written W.takes output.old) (out W.written W.takes output.new)) }
     ensures below { OnOk result (length (string_bytes gathered.new) < PIECE) }
     ensures err { OnErr result (Stops
-        (string_bytes gathered.old ++ T.tale.line teller.now line.now)
+        (string_bytes gathered.old ++ T.tale.line teller.old line.now)
         (W.written output.old) (W.written output.new)) }
     ensures failed { result ≡ Err Unfinished.WriteFault
         → Rose (W.faults output.old) (W.faults output.new) }
     ensures no_failure { result ≢ Err Unfinished.WriteFault
         → W.faults output.new ≡ W.faults output.old }
-    ensures takes { length (string_bytes gathered.old ++ T.tale.line teller.now line.now)
+    ensures takes { length (string_bytes gathered.old ++ T.tale.line teller.old line.now)
         ≤ W.takes output.old → result ≢ Err Unfinished.WriteFault }
 {
     teller.tell_line(line, gathered)?;
@@ -279,17 +280,18 @@ fn tell_line<T: Teller, W: Sink>(
     requires { seen.given world.old < MOST_INPUT }
     ensures world { OnOk result (world.new ≡ (seen.step world.old line.now).0) }
     ensures teller { OnOk result
-        (teller.new ≡ behind T.tale teller.old (seen.step world.old line.now).1) }
+        (teller.new ≡ behind T.tale (T.tale.heard teller.old line.now)
+        (seen.step world.old line.now).1) }
     ensures given { OnOk result (seen.given world.new ≤ seen.given world.old + 1) }
     ensures ok { OnOk result (Gathers
         (string_bytes gathered.old ++ (T.tale.line teller.old line.now
-        ++ told T.tale teller.old (seen.step world.old line.now).1))
+        ++ told T.tale (T.tale.heard teller.old line.now) (seen.step world.old line.now).1))
         (string_bytes gathered.new)
         (out W.written W.takes output.old) (out W.written W.takes output.new)) }
     ensures below { OnOk result (length (string_bytes gathered.new) < PIECE) }
     ensures err { OnErr result (Stops
         (string_bytes gathered.old ++ (T.tale.line teller.old line.now
-        ++ told T.tale teller.old (seen.step world.old line.now).1))
+        ++ told T.tale (T.tale.heard teller.old line.now) (seen.step world.old line.now).1))
         (W.written output.old) (W.written output.new)) }
     ensures failed { result ≡ Err Unfinished.WriteFault
         → Rose (W.faults output.old) (W.faults output.new) }
@@ -297,7 +299,7 @@ fn tell_line<T: Teller, W: Sink>(
         → W.faults output.new ≡ W.faults output.old }
     ensures takes { length
         (string_bytes gathered.old ++ (T.tale.line teller.old line.now
-        ++ told T.tale teller.old (seen.step world.old line.now).1))
+        ++ told T.tale (T.tale.heard teller.old line.now) (seen.step world.old line.now).1))
         ≤ W.takes output.old → result ≢ Err Unfinished.WriteFault }
 {
     gather_line::<T, W>(teller, line, gathered, output)?;

@@ -12,7 +12,7 @@ use crate::help::HELP;
 use crate::play::Play;
 use crate::replay::Replay;
 use crate::status::Status;
-use crate::story::StoryWord;
+use crate::story::{HexStoryWord, StoryWord};
 use crate::telling::{tell, tell_summary};
 use rh_capture::RolesRecording;
 use rh_io::{Sink, Source};
@@ -30,12 +30,13 @@ pub const VERSION: &str = "rh_cli 0.1.0\n";
 /// Does what the words say, from the input to the output.
 ///
 /// The words are those behind the program's own name. The one word `replay` reads a recording and
-/// writes its report; `story` reads one and tells it to people; `show` reads lines of hex, one
-/// packet each, and writes one line for each; `name` reads the same lines, and writes what each
-/// packet is called; `play` reads a script and writes what one role answers to its lines; `capture` reads a recording
-/// of roles and writes what its run moved on the legs; `audit` reads such lines and writes whether
-/// PDUs were carried in order; `make` with a number from 1 to 10,000 generates a recording of roles
-/// of so many PDUs and writes what its report comes to.
+/// writes its report; `story` reads one and tells it to people, and `story hex` tells its bytes too;
+/// `show` reads lines of hex, one packet each, and writes one line for each; `name` reads the same
+/// lines, and writes what each packet is called; `play` reads a script and writes what one role
+/// answers to its lines; `capture` reads a recording of roles and writes what its run moved on the
+/// legs; `audit` reads such lines and writes whether PDUs were carried in order; `make` with a
+/// number from 1 to 10,000 generates a recording of roles of so many PDUs and writes what its report
+/// comes to.
 /// `--help` and `--version` alone write a text. These three read nothing. Other words are `Usage`.
 ///
 /// Of every recording, whatever the words are, what `C` claims holds.
@@ -62,6 +63,9 @@ pub fn run<C: Claims, R: Source, W: Sink>(
         Some(Form::Replay) => Status::from(answer::<Recording, Replay, R, W>(alloc, input, output)),
         Some(Form::Story) => {
             Status::from(answer::<Recording, StoryWord, R, W>(alloc, input, output))
+        }
+        Some(Form::HexStory) => {
+            Status::from(answer::<Recording, HexStoryWord, R, W>(alloc, input, output))
         }
         Some(Form::Show) => Status::from(answer::<Packets, Show, R, W>(alloc, input, output)),
         Some(Form::Name) => Status::from(answer::<Names, Name, R, W>(alloc, input, output)),

@@ -1,5 +1,5 @@
 -- the line that is done is one of a recording of roles
-use Rattle.std.proofs.Common.{◌≡◌, List, ℕ, Ok, Err, IfOk, sym, subst}
+use Rattle.std.proofs.Common.{List, ℕ, Ok, Err, IfOk, sym, subst}
 use Rattle.std.specs.declared.result.Result.{Result}
 use Rattle.rh_record.specs.declared.line.Line.{Line}
 use Rattle.rh_record.specs.declared.place.Place.{Place}
