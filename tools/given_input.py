@@ -22,9 +22,11 @@ PIECE = 1 << 20
 MOST_INPUT = 67_108_864
 TOO_LONG = f"reads at most {MOST_INPUT:,} bytes"
 # What may be done where that isn't enough.
+OF_RECORDINGS = "a recording is one run from its first line on, so make more than one of it"
 HINTS = {
-    "replay": "a recording is one run from its first line on, so make more than one of it",
+    **dict.fromkeys(("replay", "story", "capture"), OF_RECORDINGS),
     "play": "cut the script in front of lines that begin a role, and play each part",
+    "audit": "an audit is of all that was captured, so capture for a shorter time",
 }
 READ_FAULT, WRITE_FAULT = (3, "read fault"), (4, "write fault")
 BAD_INPUT = re.compile(rb"bad input (\d+)\n")
@@ -105,14 +107,14 @@ class Given:
 
 
 class Running:
-    """A program that runs over what it is given of all of standard input."""
+    """A program whose words run over what it is given of all of standard input."""
 
-    def __init__(self, command, word, say, place=None):
-        self.word, self.say, self.rest = word, say, b""
+    def __init__(self, command, words, say, place=None):
+        self.word, self.say, self.rest = words[0], say, b""
         self.first = self.read()
-        self.given, self.kept = Given(word, self.first), bytearray()
+        self.given, self.kept = Given(self.word, self.first), bytearray()
         pipes = {"stdin": subprocess.PIPE, "stderr": subprocess.PIPE}
-        self.child = subprocess.Popen([*command, word], cwd=place, **pipes)
+        self.child = subprocess.Popen([*command, *words], cwd=place, **pipes)
         # The line that was refused; whether there was too much, and whether reading failed.
         self.bad, self.is_long, self.is_broken = None, False, False
 
@@ -211,9 +213,9 @@ def end_by(number):
     os.kill(os.getpid(), number)
 
 
-def run(command, word, say, place=None):
-    """Runs the program with this word. Its status; a signal that ended it ends this process."""
-    running = Running(command, word, say, place)
+def run(command, words, say, place=None):
+    """Runs the program with these words. Its status; a signal that ended it ends this process."""
+    running = Running(command, words, say, place)
     status = running.end()
     if running.is_broken:
         return fails(*READ_FAULT)

@@ -8,7 +8,7 @@ TOP = pathlib.Path(__file__).resolve().parent.parent
 SOURCES = TOP / "crates/rh_words/src"
 PAGE = TOP / "docs/RECORDINGS.md"
 # A form of words, what it does, and the lines that this goes on in.
-FORM = re.compile(r"^  rh_cli (\S+(?: <\w+>)?)  +(.*(?:\n {6,}\S.*)*)$", re.MULTILINE)
+FORM = re.compile(r"^  rh_cli (\S+(?: \S+)?)  +(.*(?:\n {6,}\S.*)*)$", re.MULTILINE)
 
 
 def statuses():
@@ -36,7 +36,7 @@ def forms():
 def words_of(program):
     """The first words of a program, as its own page has them."""
     if program == "rh_cli":
-        return [words.split()[0] for words, _ in forms()]
+        return list(dict.fromkeys(words.split()[0] for words, _ in forms()))
     text = (TOP / "crates/rh_roles/src/main.rt").read_text()
     return re.findall(r"^  rh_roles (\S+) ", text, re.MULTILINE)
 

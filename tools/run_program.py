@@ -19,6 +19,9 @@ from teaching import OF_PACKETS
 READS = "replay", "story", "show", "name", "play", "capture", "audit"
 # What tools/story_chart.py draws of a story, by the word behind `story`.
 CHARTS = {"--chart": [], "--svg": ["--svg"]}
+# The words of a story with hex, as the program has them and as they may be typed too.
+HEX_STORY = ["story", "hex"]
+AS_OPTION = ["story", "--hex"]
 # How many words each form has, by its first word.
 ROLES = {"client": 4, "inproxy": 3, "outproxy": 3, "server": 2}
 FORMS = {"rh_cli": dict.fromkeys(READS, 1), "rh_roles": ROLES}
@@ -31,7 +34,7 @@ def say(program, text):
 def is_form(program, words):
     """Whether nothing is left to say behind a run, as far as the number of words tells."""
     lengths = FORMS[program] | {"--help": 1, "--version": 1}
-    return bool(words) and len(words) == lengths.get(words[0])
+    return words == HEX_STORY or bool(words) and len(words) == lengths.get(words[0])
 
 
 def say_what_to_type(program, words):
@@ -68,14 +71,14 @@ def tell_version(command, place):
     return done.returncode if is_written else given_input.fails(*given_input.WRITE_FAULT)
 
 
-def run_over_input(program, command, word, place):
-    """Runs a word over standard input. Packets are told in pieces, but for sources that take a
+def run_over_input(program, command, words, place):
+    """Runs words over standard input. Packets are told in pieces, but for sources that take a
     minute to begin."""
-    said = [command, word, lambda text: say(program, text), place]
-    if word not in OF_PACKETS:
-        return given_input.run(*said)
+    said = [lambda text: say(program, text), place]
+    if words[0] not in OF_PACKETS:
+        return given_input.run(command, words, *said)
     whole = given_pieces.Input(given_input.MOST_INPUT, None)
-    return given_pieces.run(*said, whole if command[0] == "rt" else None)
+    return given_pieces.run(command, words[0], *said, whole if command[0] == "rt" else None)
 
 
 def run_chart(command, options, place):
@@ -85,7 +88,7 @@ def run_chart(command, options, place):
     out = os.dup(1)
     os.dup2(drawing.stdin.fileno(), 1)
     drawing.stdin.close()
-    status = given_input.run(command, "story", lambda text: say("rh_cli", text), place)
+    status = given_input.run(command, ["story"], lambda text: say("rh_cli", text), place)
     os.dup2(out, 1)
     return status or drawing.wait()
 
@@ -97,9 +100,11 @@ def run(program, command, words, place=None):
         return run_chart(command, CHARTS[words[1]], place)
     if words == ["--version"]:
         return tell_version(command, place)
-    is_reading = len(words) == 1 and program == "rh_cli" and words[0] in READS
-    if is_reading and given_input.is_readable():
-        return run_over_input(program, command, words[0], place)
+    if program == "rh_cli":
+        words = HEX_STORY if words == AS_OPTION else words
+    is_reading = words == HEX_STORY or len(words) == 1 and words[0] in READS
+    if is_reading and program == "rh_cli" and given_input.is_readable():
+        return run_over_input(program, command, words, place)
     if is_form(program, words):
         # The program takes the place of this process, so that signals come to it.
         os.chdir(place or os.curdir)

@@ -51,6 +51,8 @@ class Chart:
 
     def __init__(self, text):
         self.rows, self.brackets, self.last = [], [], []
+        # The rounds of settlings: in front of which row each begins, and its number.
+        self.rounds = []
         # The in proxy of a channel that has none of its own, and where each channel's leg came up.
         self.same, self.opened = {}, {}
         # Where the client or server was asked for a replacement that has no successor yet.
@@ -88,7 +90,8 @@ class Chart:
             ends = ends[::-1]
         self.sent.pop((leg, ends), None)
         detail = f"{leg} {detail}".rstrip()
-        before = self.rows[-1] if self.rows else None
+        begins_round = self.rounds[-1:] and self.rounds[-1][0] == len(self.rows)
+        before = self.rows[-1] if self.rows and not begins_round else None
         if before and before.tone == "head" and (before.start, before.end) == ends and (
                 before.detail.split(" ")[0] == leg):
             self.rows.pop()
@@ -151,6 +154,9 @@ class Chart:
         told = "" if words[2] == "ok" else ": " + " ".join(words[2:])
         self.add("tag", lane, lane, f"replace {words[1].upper()}{told}", tone="mark")
 
+    def take_round(self, words):
+        self.rounds.append((len(self.rows), words[1]))
+
     def take_quiet(self, words):
         self.add("rule", None, None, f"settled in {words[1]} rounds")
 
@@ -175,6 +181,11 @@ class Chart:
         self.last.append(" ".join(words))
 
     take_down = take_client = take_server = take_up
+
+    def rounds_at(self, index):
+        """What is told of the rounds that begin in front of a row, if one does."""
+        numbers = [number for at, number in self.rounds if at == index]
+        return f"round {', '.join(numbers)}" if numbers else ""
 
     # ---- lanes
 
@@ -287,6 +298,8 @@ class TextChart:
         yield self.titles()
         moment = None
         for index, row in enumerate(self.chart.rows):
+            if self.chart.rounds_at(index):
+                yield self.round_line(index)
             for _, bracket in self.levels:
                 if bracket.first == index:
                     yield self.bracket_line(index, bracket)
@@ -318,6 +331,11 @@ class TextChart:
         line = self.base(index, True)
         level = next(level for level, it in self.levels if it is bracket)
         line.put(self.clock + 2 + 2 * level, f"+-- {bracket.label}")
+        return line.text().rstrip()
+
+    def round_line(self, index):
+        line = self.base(index, True)
+        line.put(self.places["c"] + 2, f". . {self.chart.rounds_at(index)} . .")
         return line.text().rstrip()
 
     def row_line(self, index, row, moment):
@@ -381,8 +399,9 @@ def lives(chart):
 class Picture:
     """A chart as SVG, with all that it needs in one file."""
 
-    # Heights and widths in pixels: of a row, above and beside all, and beside the outer lanes.
-    ROW, TOP, SIDE, EDGE = 25, 56, 14, 44
+    # Heights and widths in pixels: of a row, above and beside all, and beside the outer lanes; the
+    # least width of moments and rounds.
+    ROW, TOP, SIDE, EDGE, CLOCK = 25, 56, 14, 44, 52
     # The least distance of two lanes, and how many letters a line of details has at most.
     LEAST, LETTERS = 132, 52
     STYLE = """
@@ -390,6 +409,7 @@ class Picture:
     .halo { stroke: #ffffff; stroke-width: 5px; stroke-linejoin: round; paint-order: stroke }
     .title { font-weight: bold; font-size: 13px }
     .small { font-size: 10.5px; fill: #57606a }
+    .round { font-size: 10px; fill: #8c959f } .border { stroke: #d0d7de; stroke-width: 1 }
     .lane { stroke: #afb8c1; stroke-width: 1.5 }
     .line { stroke-width: 1.6; fill: none }
     .packet { stroke: #0550ae; fill: #0550ae } .pdu { stroke: #116329; fill: #116329 }
@@ -405,7 +425,7 @@ class Picture:
         self.levels = of_levels(chart.brackets)
         depth = len({level for level, _ in self.levels})
         clock = max([1, *(len(row.moment) for row in chart.rows)])
-        self.clock = self.SIDE + 7.5 * max(clock + 3, 5)
+        self.clock = self.SIDE + max(7.5 * (clock + 3), self.CLOCK)
         self.front = self.clock + 22 * depth + 8
         labels = [self.wide(row.label) + 28 for row in chart.rows
                   if row.kind not in ("rule", "tag") and self.is_near(row)]
@@ -456,6 +476,7 @@ class Picture:
         return self.TOP + self.ROW * (index + 0.5)
 
     def svg(self):
+        self.put_rounds()
         self.put_lanes()
         for level, bracket in self.levels:
             self.put_bracket(level, bracket)
@@ -485,6 +506,12 @@ class Picture:
             self.add("line", x1=x, y1=top, x2=x, y2=end, _class="lane")
             self.put_title(lane, x, self.TOP - 24)
             self.put_title(lane, x, self.bottom + 18)
+
+    def put_rounds(self):
+        for index in dict(self.chart.rounds):
+            y = self.row_at(index - 0.5)
+            self.add("text", self.chart.rounds_at(index), x=self.SIDE, y=y + 3.5, _class="round")
+            self.add("line", x1=self.clock, y1=y, x2=self.right, y2=y, _class="border")
 
     def put_title(self, lane, x, y):
         self.add("text", title_of(lane), x=x, y=y, text_anchor="middle", _class="title")

@@ -17,6 +17,12 @@ import line_forms
 
 TOP = pathlib.Path(__file__).resolve().parent.parent
 PROGRAMS = "rh_cli", "rh_roles"
+# What may stand behind `story`, as the scripts take it, and what comes of it.
+OF_STORIES = {
+    "--hex": "tells the bytes in hex too",
+    "--chart": "draws a sequence chart as text",
+    "--svg": "draws one as a picture",
+}
 # Words of reports that no line has.
 ANSWERS = """ok no bad full empty pdu ended closed closing quiet spent given taken up down client server
     opening in out busy notopen last""".split()
@@ -74,8 +80,12 @@ _guddrino() {{
 {cases}
     replay) words="--unproved --help" ;;
     esac
-    if [ "$COMP_CWORD" -ge 2 ] && [ "${{COMP_WORDS[1]}}" != --unproved ]; then
-        words=
+    if [ "$COMP_CWORD" -ge 2 ]; then
+        case "${{COMP_WORDS[COMP_CWORD-1]}}" in
+        --unproved) ;;
+        story) words="{of_stories}" ;;
+        *) words= ;;
+        esac
     fi
     mapfile -t COMPREPLY < <(compgen -W "$words" -- "$word")
     if [ "${{COMP_WORDS[0]##*/}}" = replay ]; then
@@ -100,6 +110,11 @@ replay)
 esac
 if (( CURRENT == 2 )) || {{ (( CURRENT == 3 )) && [[ "${{words[2]}}" == --unproved ]] }}; then
     _describe -t words word forms
+elif [[ "${{words[CURRENT-1]}}" == story ]]; then
+    forms=(
+{of_stories}
+    )
+    _describe -t words word forms
 else
     _files
 fi
@@ -111,23 +126,30 @@ def bash():
         f'    {program}) words="--unproved {" ".join(help_page.words_of(program))}" ;;'
         for program in PROGRAMS
     ]
-    return BASH.format(cases="\n".join(cases))
+    return BASH.format(cases="\n".join(cases), of_stories=" ".join(OF_STORIES))
+
+
+def described(word, what):
+    """A word, and what it does, as zsh describes it."""
+    return "        '" + f"{word}:{what}".rstrip(":").replace("'", "'\\''") + "'"
 
 
 def zsh_cases(program):
-    told = {words.split()[0]: what for words, what in help_page.forms()}
+    # Of words that begin alike, what the first does.
+    told = {words.split()[0]: what for words, what in reversed(help_page.forms())}
     yield f"{program})"
     yield "    forms=("
     for word in ["--unproved", *help_page.words_of(program)]:
         what = told.get(word, "") if program == "rh_cli" else ""
         what = "runs the sources as they stand" if word == "--unproved" else what
-        yield "        '" + f"{word}:{what}".rstrip(":").replace("'", "'\\''") + "'"
+        yield described(word, what)
     yield "    )"
     yield "    ;;"
 
 
 def zsh():
-    return ZSH.format(cases="\n".join(it for name in PROGRAMS for it in zsh_cases(name)))
+    cases = "\n".join(it for name in PROGRAMS for it in zsh_cases(name))
+    return ZSH.format(cases=cases, of_stories="\n".join(map(described, *zip(*OF_STORIES.items()))))
 
 
 # ---- grammars of editors

@@ -28,7 +28,7 @@ rh_roles: middle low
 """
 PROGRAM = """#!/bin/sh
 case "$*" in
-replay | show | name | play)
+replay | story | "story hex" | show | name | play | capture | audit)
     input="$(cat; echo .)"
     number="$(echo "$input" | grep -n bad | head -n 1 | cut -d : -f 1)"
     case "$input" in *long*) echo "input too long" >&2; exit 9 ;; esac
@@ -539,8 +539,19 @@ class Inputs(Commands):
         told = "rh_cli: left out of what show reads: 1000 comments and 1000 CRs\n"
         self.check(done, text + "05", told, 0)
 
+    def test_a_story_with_hex(self):
+        told = "rh_cli: left out of what story reads: 1 comment and 1 CR\n"
+        for option in "hex", "--hex":
+            done = self.run_it("./rh_cli", "story", option, text="rh 1 direct # a story\r\n")
+            self.check(done, "rh 1 direct\n", told, 0)
+        done = self.run_it("./rh_cli", "story", "hexes", text="rh 1 direct\n")
+        typed = "story reads standard input: type ./rh_cli story < FILE"
+        self.check(done, "", f"usage\nrh_cli: {typed}\n", 1)
+
     def test_too_long_an_input_is_told_with_the_limit(self):
-        for word, hint in ("replay", "a recording is one run "), ("play", "cut the script in front "):
+        hints = dict.fromkeys(("replay", "story", "capture"), "a recording is one run ")
+        hints |= {"play": "cut the script in front ", "audit": "an audit is of all that was captured"}
+        for word, hint in hints.items():
             done = self.run_it("./rh_cli", word, text="long\n")
             told = f"input too long\nrh_cli: {word} reads at most 67,108,864 bytes: {hint}"
             self.assertEqual((done.stdout, done.returncode), ("", 9))

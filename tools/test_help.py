@@ -99,9 +99,9 @@ class Texts(unittest.TestCase):
 
     def test_words(self):
         """The page's row of wrong words names each form that --help tells."""
-        words = [form.split()[0] for form, _ in forms()]
+        words = [form.partition(" <")[0] for form, _ in forms()]
         [when] = [when for _, text, when in rows_of_page() if text == "`usage`"]
-        self.assertEqual(sorted(words), sorted(re.findall(r"`(\S+)`", when)))
+        self.assertEqual(sorted(words), sorted(re.findall(r"`([^`]+)`", when)))
 
 
 def number(file, name):

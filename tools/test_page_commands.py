@@ -113,11 +113,15 @@ class Recordings(unittest.TestCase):
 
     def test_stories(self):
         lines = [line for block in blocks(RECORDINGS, "sh") for line in block]
-        told, chart, picture = (line for line in lines if " story" in line)
+        told, with_hex, chart, picture = (line for line in lines if " story" in line)
         [shown] = [it for it in blocks(RECORDINGS, "text") if it[0] == "0 recycle in ok"]
         done = run(told)
         self.assertEqual((done.returncode, done.stderr), (0, ""))
         self.assertIn("\n".join(shown) + "\n", done.stdout)
+        done = run(with_hex)
+        self.assertEqual((done.returncode, done.stderr), (0, ""))
+        pdu = f"request call 1 length 24 {PDU}\n"
+        self.assertEqual(done.stdout.count(pdu), 3)
         done = run(chart)
         self.assertEqual((done.returncode, done.stderr), (0, ""))
         self.assertRegex(done.stdout, "(?m)^ *client +in proxy 1 ")

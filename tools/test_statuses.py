@@ -10,7 +10,7 @@ TOP = pathlib.Path(__file__).resolve().parent.parent
 PROGRAM = TOP / "crates/rh_cli/out/rh_cli"
 MOST_INPUT = 67_108_864
 
-WORDS = "replay", "show", "name", "play", "capture", "audit"
+WORDS = "replay", "story", "story hex", "show", "name", "play", "capture", "audit"
 
 RECORDING = b"rh 1 direct\ntake s\n"
 ROLES = b"rh 1 roles\nopen ci1\nsend ci1 u 9\nmove ci1 u 9"
@@ -21,6 +21,7 @@ REPORT = b"take s empty\nup given 0 taken 0\ndown given 0 taken 0\n"
 # Words in no form, with commas between.
 USAGE = ["", "Replay", "replays", "replay,replay", "-h", "Show", "show,-", "plays", "play,client"]
 USAGE += ["Name", "names", "name,cou", "captures", "capture,x", "Audit", "audit,x"]
+USAGE += ["Story", "story,hexes", "story,--hex", "story,--chart", "story,hex,hex", "hex"]
 USAGE += ["--help,x", "make", "make,0", "make,10001", "make,03", "make,x", "make,3,4"]
 PAGE = """\
   1  usage
@@ -62,6 +63,9 @@ class Statuses(unittest.TestCase):
 
     def test_0(self):
         self.assertEqual(self.check(["replay"], 0, b"", self.file(RECORDING)), REPORT)
+        story = self.check(["story"], 0, b"", self.file(RECORDING))
+        self.assertEqual(story, b"".join(b"0 " + it for it in REPORT.splitlines(True)))
+        self.assertEqual(self.check(["story", "hex"], 0, b"", self.file(RECORDING)), story)
         self.assertEqual(self.check(["show"], 0, b"", self.file(b"ff\n")), b"fault Cut 1\n")
         self.assertEqual(self.check(["show"], 0, b""), b"")
         self.assertEqual(self.check(["name"], 0, b"", self.file(b"cou ff\n")), b"bad Cut 1\n")
@@ -89,6 +93,8 @@ class Statuses(unittest.TestCase):
         for word, text, line in [
             ("replay", b"", 1),
             ("replay", RECORDING + b"take x\n", 3),
+            ("story", RECORDING + b"take x\n", 3),
+            ("story hex", RECORDING + b"take x\n", 3),
             ("show", b"05\n" * 11 + b"0\n", 12),
             ("name", b"05\n" * 11 + b"co 05\n", 12),
             ("play", SCRIPT + b"\nstate s\n", 4),
@@ -99,16 +105,18 @@ class Statuses(unittest.TestCase):
             ("audit", CAPTURE + b"seen 1 cou 05\n", 3),
         ]:
             said = f"bad input {line}\n".encode()
-            self.assertEqual(self.check([word], 2, said, self.file(text)), b"")
+            self.assertEqual(self.check(word.split(" "), 2, said, self.file(text)), b"")
 
     def test_3_read_fault(self):
         for word in WORDS:
-            closed = self.check([word], 3, b"read fault\n", None, preexec_fn=lambda: os.close(0))
+            closed = self.check(word.split(" "), 3, b"read fault\n", None, preexec_fn=lambda: os.close(0))
             self.assertEqual(closed, b"")
 
     def test_4_write_fault(self):
         for word, text in [
             ("replay", RECORDING),
+            ("story", RECORDING),
+            ("story hex", RECORDING),
             ("show", b"ff\n"),
             ("name", b"ff\n"),
             ("play", SCRIPT),
@@ -124,7 +132,7 @@ class Statuses(unittest.TestCase):
     def test_9_input_too_long(self):
         for word in WORDS:
             text = self.file(b"0" * (MOST_INPUT + 2))
-            self.assertEqual(self.check([word], 9, b"input too long\n", text), b"")
+            self.assertEqual(self.check(word.split(" "), 9, b"input too long\n", text), b"")
             self.assertEqual(os.lseek(text.fileno(), 0, os.SEEK_CUR), MOST_INPUT + 1)
 
 

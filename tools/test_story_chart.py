@@ -17,12 +17,14 @@ SVG = "{http://www.w3.org/2000/svg}"
 
 # A story by hand: an opening, a replacement whose predecessor breaks, and closes.
 STORY = """\
+0 round 1
 0 open co1 ok
 0 open ci1 ok
 0 co1 c>o RPC_OUT_DATA /rpc/rpcproxy.dll?server:593 HTTP/1.1
 0 co1 c>o CONN/A1 virtual ..00000001 out ..00000003 window 65536
+0 round 2
 0 os1 s>o ncacn_http/1.0
-0 quiet 4
+0 quiet 2
 0 recycle in ok
 0 give c request call 1 length 24
 0 open ci2 ok
@@ -90,6 +92,22 @@ class Rows(unittest.TestCase):
         rows = story_chart.Chart(story).rows
         self.assertEqual([it.end for it in rows if it.label == "IN_R1/A1"], ["i1"])
 
+    def test_rounds_begin_in_front_of_rows(self):
+        chart = story_chart.Chart(STORY)
+        self.assertEqual(chart.rounds_at(0), "round 1")
+        [at] = [at for at, row in enumerate(chart.rows) if row.label == "ncacn_http/1.0"]
+        self.assertEqual(chart.rounds_at(at), "round 2")
+        self.assertEqual(chart.rounds_at(at + 1), "")
+
+    def test_rounds_that_tell_nothing_stand_together(self):
+        chart = story_chart.Chart(STORY.replace("0 round 2\n", "0 round 2\n0 round 3\n"))
+        self.assertIn("round 2, 3", map(chart.rounds_at, range(len(chart.rows))))
+
+    def test_an_item_is_not_joined_to_one_of_the_round_before(self):
+        story = STORY.replace("0 co1 c>o CONN/A1", "0 round 2\n0 co1 c>o CONN/A1")
+        labels = [it.label for it in story_chart.Chart(story).rows if it.kind == "arrow"]
+        self.assertEqual(labels[:2], ["RPC_OUT_DATA", "CONN/A1"])
+
     def test_what_is_no_story_is_refused(self):
         for text in ("rh 1 roles\n", "open co1 ok\n", "0 dance co1\n", "0\n"):
             with self.subTest(text=text):
@@ -130,6 +148,12 @@ class Pictures(unittest.TestCase):
         paths = classes(svg, "path")
         # The break and what it lost, the end of a leg, and the bracket.
         self.assertEqual(sorted(paths), ["line bad"] * 3 + ["line quiet"])
+
+    def test_each_round_is_told(self):
+        self.assertEqual(classes(picture(STORY), "line").count("border"), 2)
+        rounds = [it.text for it in elements(picture(STORY), "text") if it.get("class") == "round"]
+        self.assertEqual(rounds, ["round 1", "round 2"])
+        self.assertEqual(drawn(STORY).count(". . round "), 2)
 
     def test_text_is_escaped(self):
         self.assertIn("bad &lt;a&gt;&amp;b", picture(STORY.replace("LegBroken ci1", "bad <a>&b")))

@@ -98,7 +98,8 @@ class Said(unittest.TestCase):
             self.assertIn(wanted, told)
 
     def test_each_refused_line_is_explained(self):
-        for word, cases in word_cases.REFUSED.items():
+        for words, cases in word_cases.REFUSED.items():
+            word = words.split(" ")[0]
             for text, number in cases:
                 why = teaching.why_refused(word, text.encode(), number)
                 self.assertIsNotNone(why, (word, text[-80:]))

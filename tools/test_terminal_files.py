@@ -107,6 +107,9 @@ class Completion(unittest.TestCase):
         self.assertEqual(self.bash("./rh_cli", "re"), ["replay"])
         self.assertEqual(self.bash("rh_cli", "--unproved", "sh"), ["show"])
         self.assertEqual(self.bash("./rh_cli", "show", ""), [])
+        self.assertEqual(self.bash("./rh_cli", "st"), ["story"])
+        self.assertEqual(self.bash("./rh_cli", "story", ""), list(terminal_files.OF_STORIES))
+        self.assertEqual(self.bash("./rh_cli", "--unproved", "story", "--h"), ["--hex"])
         self.assertEqual(self.bash("../rh_roles", "in"), ["inproxy"])
         self.assertEqual(self.bash("./replay", ""), ["--unproved", "--help", "one.rh"])
         self.assertEqual(self.bash("./replay", "--unproved", "o"), ["one.rh"])
@@ -119,6 +122,10 @@ class Completion(unittest.TestCase):
         text += f'words=(./rh_cli ""); CURRENT=2; . {ZSH}'
         told = run("zsh", "-f", "-c", text).stdout
         for word in terminal_files.help_page.words_of("rh_cli"):
+            self.assertRegex(told, rf"(?m)^{word}:\S")
+        behind = text.replace('(./rh_cli ""); CURRENT=2', '(./rh_cli story ""); CURRENT=3')
+        told = run("zsh", "-f", "-c", behind).stdout
+        for word in terminal_files.OF_STORIES:
             self.assertRegex(told, rf"(?m)^{word}:\S")
         text = text.replace('(./rh_cli "")', '(./replay "")')
         self.assertEqual(run("zsh", "-f", "-c", text).stdout.split("\n")[0], "files")

@@ -60,6 +60,22 @@ class Words(unittest.TestCase):
                     said = f"bad input {line}\n".encode()
                     self.assertEqual(self.answer(word, text), (2, said, b""))
 
+    def test_a_story_tells_as_many_rounds_as_the_report(self):
+        settlings = 0
+        for recording in sorted([*TOP.glob("recordings/*.rh"), *TOP.glob("examples/*.rh")]):
+            status, said, story = self.answer("story", recording.read_text())
+            self.assertEqual((status, said), (0, b""), recording.name)
+            rounds = 0
+            for _, word, *rest in map(str.split, story.decode().splitlines()):
+                if word == "round":
+                    rounds += 1
+                    self.assertEqual(rest, [str(rounds)], recording.name)
+                if word in ("quiet", "spent"):
+                    self.assertEqual(rest, [str(rounds)], recording.name)
+                    rounds, settlings = 0, settlings + 1
+        # There are recordings that settle.
+        self.assertGreater(settlings, 30)
+
     def test_make(self):
         self.assertEqual(self.answer("make 3", ""), (0, b"", THREE.encode()))
         for count in 1, 10_000:
@@ -87,6 +103,7 @@ class Words(unittest.TestCase):
         texts = [
             ("replay", word_cases.TWO_PIECES[0]),
             ("replay", settling()),
+            ("story hex", settling()),
             ("show", "ff\nFFff\n"),
             ("name", "ff\nisu FFff\n"),
             ("play", "client\nstate\nchannels\n"),

@@ -4,6 +4,7 @@ What is wanted is worked out by hand from docs/RECORDINGS.md, and never taken fr
 """
 
 import audit_cases
+import role_packets
 
 # 24 bytes.
 PDU = "05000003100000001800000001000000aabbccddeeff0011"
@@ -138,6 +139,44 @@ move co1 u 1
 7 server opening in 1 out 1
 """,
     ),
+    # Each round of a settling that did something is told where it begins. What a line asks for by
+    # hand is of no round, and each settling counts its own.
+    (
+        """rh 1 roles
+open co1
+settle 1
+open ci1
+settle 2
+""",
+        """0 open co1 ok
+0 round 1
+0 open ci1 ok
+0 co1 c>o RPC_OUT_DATA /rpc/rpcproxy.dll?server:593 HTTP/1.1
+0 co1 c>o CONN/A1 virtual ..00000001 out ..00000003 window 65536
+0 ci1 c>i RPC_IN_DATA /rpc/rpcproxy.dll?server:593 HTTP/1.1
+0 ci1 c>i CONN/B1 virtual ..00000001 in ..00000004 lifetime 1073741824 keepalive 300000 group \
+..00000002
+0 spent 1
+0 open ci1 no
+0 round 1
+0 open os1 ok
+0 open is1 ok
+0 co1 o>c HTTP/1.1 200 Success
+0 co1 o>c CONN/A3 timeout 120000
+0 os1 o>s CONN/A2 virtual ..00000001 out ..00000003 lifetime 1073741824 window 65536
+0 os1 s>o ncacn_http/1.0
+0 is1 i>s CONN/B2 virtual ..00000001 in ..00000004 window 65536 timeout 120000 group ..00000002
+0 is1 s>i ncacn_http/1.0
+0 is1 s>i CONN/B3 window 65536
+0 round 2
+0 os1 s>o CONN/C1 window 65536 timeout 120000
+0 spent 2
+0 up given 0 taken 0
+0 down given 0 taken 0
+0 client opening in 1 out 1
+0 server open in 1 out 1
+""",
+    ),
     # A head is told by its first line. The packet behind it has its fields, and the last four bytes
     # of each cookie.
     (
@@ -150,6 +189,40 @@ move co1 u 65536
 0 send co1 u 274
 0 co1 c>o RPC_OUT_DATA /rpc/rpcproxy.dll?server:593 HTTP/1.1
 0 co1 c>o CONN/A1 virtual ..00000001 out ..00000003 window 65536
+0 up given 0 taken 0
+0 down given 0 taken 0
+0 client opening in 1 out 1
+0 server opening in 1 out 1
+""",
+    ),
+]
+
+# ---- story hex: the same, with the bytes of what is told by name
+
+# The head of the client for its OUT channel, behind which 76 bytes come.
+OUT_HEAD = role_packets.out_request(76).hex()
+CONN_A1_OF_ROLES = (
+    "05001403100000004c0000000000000000000400060000000100000003000000000000000000000000000000"
+    "0000000103000000000000000000000000000000000000030000000000000100"
+)
+TOLD_IN_HEX = [
+    (
+        f"rh 1 direct\ngive c {PDU}\nsend cs u 24\nmove cs u 20\nmove cs u 20\ntake s\ntake s\n",
+        f"""0 give c request call 1 length 24 {PDU}
+0 send cs u 24
+0 cs c>s request call 1 length 24 {PDU}
+0 take s request call 1 length 24 {PDU}
+0 take s empty
+0 up given 1 taken 1
+0 down given 0 taken 0
+""",
+    ),
+    (
+        "rh 1 roles\nopen co1\nsend co1 u 65536\nmove co1 u 65536\n",
+        f"""0 open co1 ok
+0 send co1 u 274
+0 co1 c>o RPC_OUT_DATA /rpc/rpcproxy.dll?server:593 HTTP/1.1 {OUT_HEAD}
+0 co1 c>o CONN/A1 virtual ..00000001 out ..00000003 window 65536 {CONN_A1_OF_ROLES}
 0 up given 0 taken 0
 0 down given 0 taken 0
 0 client opening in 1 out 1
@@ -240,8 +313,7 @@ def bad_replays():
 SHOWN = [
     # CONN/A1 and CONN/B1
     (
-        "05001403100000004c0000000000000000000400060000000100000003000000000000000000000000000000"
-        "0000000103000000000000000000000000000000000000030000000000000100",
+        CONN_A1_OF_ROLES,
         "rts 0000 Version 1 Cookie 00000000-0000-0000-0000-000000000001 "
         "Cookie 00000000-0000-0000-0000-000000000003 ReceiveWindowSize 65536",
     ),
@@ -494,6 +566,7 @@ def bad_plays():
 ANSWERED = {
     "replay": REPLAYED,
     "story": TOLD,
+    "story hex": TOLD_IN_HEX,
     "show": list(shown()),
     "name": list(named()),
     "play": PLAYED,
@@ -503,6 +576,7 @@ ANSWERED = {
 REFUSED = {
     "replay": list(bad_replays()),
     "story": list(bad_replays()),
+    "story hex": list(bad_replays()),
     "show": list(bad_shows()),
     "name": list(bad_names()),
     "play": list(bad_plays()),

@@ -7,8 +7,12 @@ _guddrino() {
     rh_roles) words="--unproved client inproxy outproxy server --help --version" ;;
     replay) words="--unproved --help" ;;
     esac
-    if [ "$COMP_CWORD" -ge 2 ] && [ "${COMP_WORDS[1]}" != --unproved ]; then
-        words=
+    if [ "$COMP_CWORD" -ge 2 ]; then
+        case "${COMP_WORDS[COMP_CWORD-1]}" in
+        --unproved) ;;
+        story) words="--hex --chart --svg" ;;
+        *) words= ;;
+        esac
     fi
     mapfile -t COMPREPLY < <(compgen -W "$words" -- "$word")
     if [ "${COMP_WORDS[0]##*/}" = replay ]; then
