@@ -3,7 +3,8 @@
 
 The program is crates/rh_roles/out/rh_roles, as `./rh_roles --version` leaves it. It takes turns with
 a plain forwarder, bench/relays.rs, which is built here with `rustc -O`: a client, one proxy and a
-server over one connection, with the same reads and writes, and no virtual connection.
+server over one connection, with the same reads and writes, and no virtual connection; and, where
+nginx is installed with its stream module, with that in place of the one proxy.
 
 Told are, of each process, the seconds of the processor and the peak memory; the seconds from the
 client's start to the server's end; of one PDU at a time, how long it takes from a write to the
@@ -14,6 +15,7 @@ import argparse
 import contextlib
 import os
 import pathlib
+import shutil
 import socket
 import statistics
 import subprocess
@@ -22,9 +24,27 @@ import tempfile
 import time
 
 TOP = pathlib.Path(__file__).resolve().parent.parent
+sys.path.insert(0, str(TOP / "tools"))
+from nginx_front import Lacks, stream_module  # noqa: E402
+
 HOST = "127.0.0.1"
 SETTLE = 3
 WARM = 20
+NGINX = """\
+{module}daemon off;
+master_process off;
+pid {folder}/nginx.pid;
+error_log {folder}/error.log;
+events {{
+}}
+stream {{
+    proxy_half_close on;
+    server {{
+        listen {listen};
+        proxy_pass {to};
+    }}
+}}
+"""
 
 
 def pdu(length):
@@ -54,14 +74,18 @@ def wait_for(place):
 class Chain:
     """The processes of a run, the server first and the client last."""
 
-    def __init__(self, program, is_plain, stdin, stdout):
-        self.roles, self.names = [], []
+    def __init__(self, options, kind, stdin, stdout):
+        self.roles, self.names, self.front = [], [], None
+        program = options.programs[kind]
         at, ins, outs = places(3)
         start = lambda *words, **how: self.start(program, words, **how)
         start("server", at, stdin=subprocess.DEVNULL if stdin is not subprocess.PIPE else stdin, stdout=stdout)
         wait_for(at)
-        if is_plain:
+        if kind == "plain":
             start("proxy", ins, at)
+            wait_for(ins)
+        elif kind == "nginx":
+            self.start_nginx(options.folder, ins, at)
             wait_for(ins)
         else:
             start("inproxy", ins, "1")
@@ -69,11 +93,19 @@ class Chain:
             wait_for(ins)
             wait_for(outs)
         self.begun = time.monotonic()
-        start("client", *([ins] if is_plain else [at, ins, outs]), stdin=stdin, stdout=subprocess.DEVNULL)
+        start("client", *([at, ins, outs] if kind == "roles" else [ins]), stdin=stdin, stdout=subprocess.DEVNULL)
 
     def start(self, program, words, **how):
         self.names.append(words[0])
         self.roles.append(subprocess.Popen([program, *words], **how))
+
+    def start_nginx(self, folder, listen, to):
+        file = folder / "nginx.conf"
+        values = {"module": stream_module(), "folder": folder, "listen": listen, "to": to}
+        file.write_text(NGINX.format(**values), encoding="utf-8")
+        self.start("nginx", ["-p", folder, "-c", file, "-e", folder / "error.log"])
+        self.names[-1] = "nginx"
+        self.front = self.roles[-1]
 
     def end(self):
         """The seconds until the server's end, and of each its processor seconds and peak memory."""
@@ -82,6 +114,8 @@ class Chain:
                 role.stdin.close()
         figures = []
         for role in self.roles:
+            if role is self.front:  # it would go on: the server has all by now
+                role.terminate()
             _, status, usage = os.wait4(role.pid, 0)
             role.returncode = status
             if status:
@@ -115,18 +149,19 @@ def bulk(options, length, size):
         file.flush()
         best = {}
         for _ in range(options.runs):
-            for label, program in options.programs.items():
+            for label in options.programs:
                 file.seek(0)
-                chain = Chain(program, label == "plain", file, subprocess.DEVNULL)
+                chain = Chain(options, label, file, subprocess.DEVNULL)
                 total = tell(label, chain, *chain.end())
                 best[label] = min(total, best.get(label, total))
-    print(f"  processor, roles / plain: {best['roles'] / best['plain']:.1f}", flush=True)
+    for other in [label for label in best if label != "roles"]:
+        print(f"  processor, roles / {other}: {best['roles'] / best[other]:.1f}", flush=True)
 
 
 def latency(options, length):
     print(f"one PDU of {length:,} bytes, one way", flush=True)
-    for label, program in options.programs.items():
-        chain = Chain(program, label == "plain", subprocess.PIPE, subprocess.PIPE)
+    for label in options.programs:
+        chain = Chain(options, label, subprocess.PIPE, subprocess.PIPE)
         server, client = chain.roles[0], chain.roles[-1]
         times = []
         for _ in range(options.times + WARM):
@@ -144,13 +179,22 @@ def latency(options, length):
 
 def idle(options):
     print(f"idle for {options.idle} s", flush=True)
-    chain = Chain(options.programs["roles"], False, subprocess.PIPE, subprocess.PIPE)
+    chain = Chain(options, "roles", subprocess.PIPE, subprocess.PIPE)
     time.sleep(SETTLE)
     before = chain.seconds()
     time.sleep(options.idle)
     for name, one, two in zip(chain.names, before, chain.seconds()):
         print(f"  {name:<9} {1000 * (two - one):.1f} ms, {100 * (two - one) / options.idle:.3f} % of a processor", flush=True)
     chain.end()
+
+
+def has_nginx():
+    """Whether nginx is there with its stream module; what lacks is told."""
+    try:
+        return shutil.which("nginx") is not None and stream_module() is not None
+    except Lacks as why:
+        print(why)
+        return False
 
 
 def main():
@@ -165,7 +209,10 @@ def main():
     with tempfile.TemporaryDirectory() as folder:
         plain = pathlib.Path(folder) / "relays"
         subprocess.run(["rustc", "-O", "-o", plain, TOP / "bench/relays.rs"], check=True)
+        options.folder = pathlib.Path(folder)
         options.programs = {"roles": options.program.resolve(), "plain": plain}
+        if has_nginx():
+            options.programs["nginx"] = plain
         print(f"load {os.getloadavg()[0]:.1f} on {os.cpu_count()} processors", flush=True)
         bulk(options, 8000, options.large)
         bulk(options, 72, options.small)
