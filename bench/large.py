@@ -1,11 +1,13 @@
 #!/usr/bin/env python3
 """Tries ./rh_cli show and name on more than the program reads at once: 200 MB of lines, and a capture of
-170 MB. Each line that is told is compared with what its packet comes to. Outside the gate.
+170 MB, which tshark -V is tried on too. Each line that is told is compared with what its packet comes
+to. Outside the gate.
 
     bench/large.py [--text BYTES] [--capture BYTES] [--seconds MOST]
 
-Told are, of each case, the lines, the seconds, and the most memory of a process in it. Ends with status
-1 where a line isn't as it is to be, a status isn't, or a case takes more seconds.
+Told are, of each case, the lines, the seconds, those of a processor, and the most memory of a process so
+far. Ends with status 1 where a line isn't as it is to be, a status isn't, a case takes more seconds, or
+name takes more of a processor than tshark -V.
 """
 import argparse
 import contextlib
@@ -115,6 +117,21 @@ def name(size, folder):
         return told, wrong, status, child.stderr.read().decode()
 
 
+def by_tshark(folder):
+    """What tshark -V tells of the same capture: how many lines."""
+    path = pathlib.Path(folder) / "capture.pcap"
+    words = ["tshark", "-n", "-V", "-r", path]
+    with subprocess.Popen(words, stdout=subprocess.PIPE, stderr=subprocess.DEVNULL) as child:
+        count = sum(1 for _ in child.stdout)
+        return count, None, child.wait(), ""
+
+
+def of_processor():
+    """The seconds of a processor that this and its children took."""
+    used = [resource.getrusage(it) for it in (resource.RUSAGE_SELF, resource.RUSAGE_CHILDREN)]
+    return sum(it.ru_utime + it.ru_stime for it in used)
+
+
 def main():
     parser = argparse.ArgumentParser(description=__doc__, formatter_class=argparse.RawDescriptionHelpFormatter)
     parser.add_argument("--text", type=int, default=200_000_000, help="bytes of lines")
@@ -129,16 +146,22 @@ def main():
             "show": lambda: show(options.text),
             "refused": lambda: refused(options.text),
             "name": lambda: name(options.capture, folder),
+            "tshark": lambda: by_tshark(folder),
         }
+        spent = {}
         for label, case in cases.items():
-            begun = time.monotonic()
+            begun, before = time.monotonic(), of_processor()
             count, wrong, status, said = case()
-            took = time.monotonic() - begun
+            took, spent[label] = time.monotonic() - begun, of_processor() - before
             peak = resource.getrusage(resource.RUSAGE_CHILDREN).ru_maxrss / 1024
-            print(f"{label:<8}{count:>12,} lines{took:>8.1f} s{peak:>8.0f} MB", flush=True)
+            told = f"{took:>8.1f} s{spent[label]:>8.1f} s of a processor{peak:>8.0f} MB"
+            print(f"{label:<8}{count:>12,} lines{told}", flush=True)
             if wrong or status or took > options.seconds:
                 print(f"{label}: status {status}, {wrong}, {said[:200]!r}", file=sys.stderr)
                 is_wrong = True
+    if spent["name"] > spent["tshark"]:
+        print("name: takes more of a processor than tshark -V", file=sys.stderr)
+        is_wrong = True
     return int(is_wrong)
 
 
