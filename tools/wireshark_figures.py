@@ -1,6 +1,7 @@
 #!/usr/bin/env python3
 """Compares what README.md says of Wireshark with what tshark shows of captures: of those in examples/,
-and of a long one that is made here.
+and of a long one that is made here. And whether cookies that tshark shows of the examples stand in what
+./rh_cli name writes of them.
 
     tools/wireshark_figures.py            compares
     tools/wireshark_figures.py --list     tells of each capture how many packets each of the two shows
@@ -20,14 +21,17 @@ TOP = pathlib.Path(__file__).resolve().parent.parent
 PAGE = TOP / "README.md"
 SAID = re.compile(r"(\d+) of the ([\d,]+) packets of `(examples/\S+)`")
 SAID_OF_LONG = re.compile(r"(\d+) of the ([\d,]+) of a (long) one")
+# A cookie as tshark shows it, and as name does behind its own.
+COOKIE = re.compile(r"^ +Cookie: ([0-9a-f-]{36})$", re.MULTILINE)
+GUID = re.compile(r"\(([0-9a-f-]{36})\)")
 VERSION = re.compile(r"Wireshark (\d+\.\d+)")
 # How many PDUs of so many bytes go each way in the long capture, each in a segment of its own.
 EACH_WAY, UP_LEN, DOWN_LEN = 1_000, 96, 200
 
 
-def run(*words):
-    done = subprocess.run(words, capture_output=True, text=True, check=False, cwd=TOP)
-    return done.stdout
+def run(*words, text=""):
+    how = {"capture_output": True, "text": True, "check": False, "cwd": TOP}
+    return subprocess.run(words, input=text, **how).stdout
 
 
 def by_tshark(capture):
@@ -65,6 +69,20 @@ def amiss(text, captures):
             yield f"{name}: Wireshark shows {by_tshark(file)} packets, and not {theirs}"
 
 
+def cookies_amiss(captures):
+    """Cookies that tshark shows of captures, and name doesn't; or that there are none to be found."""
+    found = 0
+    for name, file in captures.items():
+        packets = run(sys.executable, "-B", "tools/pcap_packets.py", file)
+        ours = set(GUID.findall(run("./rh_cli", "name", text=packets)))
+        theirs = set(COOKIE.findall(run("tshark", "-n", "-V", "-r", file)))
+        found += len(theirs)
+        for cookie in sorted(theirs - ours):
+            yield f"{name}: Wireshark shows the cookie {cookie}, and name doesn't"
+    if not found:
+        yield "Wireshark shows no cookie of any capture"
+
+
 def main(words):
     with tempfile.TemporaryDirectory() as folder:
         captures = {f"examples/{it.name}": str(it) for it in TOP.glob("examples/*.pcap")}
@@ -74,9 +92,11 @@ def main(words):
             for name, file in sorted(captures.items()):
                 print(f"{name}: Wireshark {by_tshark(file)}, this {by_us(file)}")
             return 0
-        told = list(amiss(PAGE.read_text(), captures))
+        told = [f"{PAGE.name}: {it}" for it in amiss(PAGE.read_text(), captures)]
+    examples = {name: file for name, file in captures.items() if name != "long"}
+    told += cookies_amiss(examples)
     for text in told:
-        print(f"{PAGE.name}: {text}", file=sys.stderr)
+        print(text, file=sys.stderr)
     return int(bool(told))
 
 
