@@ -29,13 +29,13 @@ fn line(reader: &mut LineReader, line: &[u8], out: &mut String) -> Result<(), Al
 pub fn call(
     alloc: Global,
     reader: &mut LineReader,
-    call: &[u8],
+    call: &str,
     bytes: &[u8],
     out: &mut String,
 ) -> Result<(), AllocError> {
     match call {
-        b"packet" => packet(alloc, bytes, out),
-        b"line" => line(reader, bytes, out),
+        "packet" => packet(alloc, bytes, out),
+        "line" => line(reader, bytes, out),
         _ => out.push_str("?"),
     }
 }

@@ -2,7 +2,7 @@
 //! whole, by each front and with bytes behind; `judge`; `blank`, where the first blank line ends;
 //! `write`. Of hosts: `host`, the text of its fault.
 
-use crate::numbers::{long_of, word_of};
+use crate::numbers::{long_of, text_of};
 use crate::spelling::{Around, say, tell, tell_characters};
 use rh_http::{
     ClientConfig, Got, HeadEnd, Host, HttpFault, Refusal, Request, Response, judge_request,
@@ -30,10 +30,10 @@ enum Kind {
     Response,
 }
 
-fn kind_of(word: &[u8]) -> Kind {
+fn kind_of(word: &str) -> Kind {
     match word {
-        b"in" => Kind::In,
-        b"out" => Kind::Out,
+        "in" => Kind::In,
+        "out" => Kind::Out,
         _ => Kind::Response,
     }
 }
@@ -228,15 +228,15 @@ fn config() -> Result<ClientConfig, AllocError> {
 
 /// Writes the head that the text asks for.
 fn write(text: &[u8], room: &mut [u8]) -> Result<Result<usize, NoRoom>, AllocError> {
-    let (word, rest) = word_of(text);
+    let (word, rest) = text_of(text);
     let (length, _) = long_of(rest);
     match word {
-        b"in" => Ok(write_in_request(&config()?, room)),
-        b"out" => Ok(write_out_request(&config()?, length, room)),
-        b"response" => Ok(write_out_response(length, room)),
-        b"echo" => Ok(write_echo(room)),
-        b"bad" => Ok(write_refusal(Refusal::Bad, room)),
-        b"missing" => Ok(write_refusal(Refusal::Missing, room)),
+        "in" => Ok(write_in_request(&config()?, room)),
+        "out" => Ok(write_out_request(&config()?, length, room)),
+        "response" => Ok(write_out_response(length, room)),
+        "echo" => Ok(write_echo(room)),
+        "bad" => Ok(write_refusal(Refusal::Bad, room)),
+        "missing" => Ok(write_refusal(Refusal::Missing, room)),
         _ => Ok(write_refusal(Refusal::Unavailable, room)),
     }
 }
@@ -271,19 +271,19 @@ fn written(text: &[u8], out: &mut String) -> Result<(), AllocError> {
 pub fn call(
     alloc: Global,
     around: &Around,
-    call: &[u8],
+    call: &str,
     text: &[u8],
     out: &mut String,
 ) -> Result<(), AllocError> {
-    let (word, spelled) = word_of(text);
+    let (word, spelled) = text_of(text);
     match call {
-        b"read" => tell_got(read(kind_of(word), &around.bytes(alloc, spelled)?), out),
-        b"each" => tell_each(alloc, kind_of(word), &around.bytes(alloc, spelled)?, out),
-        b"say" => say_fault(read(kind_of(word), &around.bytes(alloc, spelled)?), out),
-        b"judge" => judged(alloc, kind_of(word), &around.bytes(alloc, spelled)?, out),
-        b"blank" => blank(&around.bytes(alloc, text)?, out),
-        b"host" => say_host(&around.bytes(alloc, text)?, out),
-        b"write" => written(text, out),
+        "read" => tell_got(read(kind_of(word), &around.bytes(alloc, spelled)?), out),
+        "each" => tell_each(alloc, kind_of(word), &around.bytes(alloc, spelled)?, out),
+        "say" => say_fault(read(kind_of(word), &around.bytes(alloc, spelled)?), out),
+        "judge" => judged(alloc, kind_of(word), &around.bytes(alloc, spelled)?, out),
+        "blank" => blank(&around.bytes(alloc, text)?, out),
+        "host" => say_host(&around.bytes(alloc, text)?, out),
+        "write" => written(text, out),
         _ => out.push_str("?"),
     }
 }

@@ -51,24 +51,24 @@ impl Keep {
     }
 
     /// Answers a call.
-    pub fn call(&mut self, call: &[u8], text: &[u8], out: &mut String) -> Result<(), AllocError> {
+    pub fn call(&mut self, call: &str, text: &[u8], out: &mut String) -> Result<(), AllocError> {
         match call {
-            b"meter" => {
+            "meter" => {
                 self.meter = meter_of(text);
                 Ok(())
             }
-            b"asked" => asked(&self.meter, short_of(text), out),
-            b"put" => tell(put(&mut self.meter, short_of(text)), out),
-            b"idle" => {
+            "asked" => asked(&self.meter, short_of(text), out),
+            "put" => tell(put(&mut self.meter, short_of(text)), out),
+            "idle" => {
                 self.idle = idle_of(text);
                 Ok(())
             }
-            b"touch" => {
+            "touch" => {
                 let (now, _) = number_of(text);
                 self.idle.touch(now);
                 Ok(())
             }
-            b"reached" => {
+            "reached" => {
                 let (now, _) = number_of(text);
                 tell(self.idle.reached(now), out)
             }

@@ -109,17 +109,17 @@ fn channel_of(word: &[u8]) -> Which {
 /// Calls that need no memory.
 fn call_within(
     line: &mut RecvLine,
-    call: &[u8],
+    call: &str,
     text: &[u8],
     out: &mut String,
 ) -> Result<(), AllocError> {
     match call {
-        b"end" => end(line, channel_of(text), out),
-        b"due" => due(line, channel_of(text), out),
-        b"told" => told(line, out),
-        b"next" => open(line, text, out),
-        b"finish" => finish(line, out),
-        b"has-next" => tell(line.has_next(), out),
+        "end" => end(line, channel_of(text), out),
+        "due" => due(line, channel_of(text), out),
+        "told" => told(line, out),
+        "next" => open(line, text, out),
+        "finish" => finish(line, out),
+        "has-next" => tell(line.has_next(), out),
         _ => out.push_str("?"),
     }
 }
@@ -129,14 +129,14 @@ pub fn call(
     alloc: Global,
     line: &mut RecvLine,
     around: &Around,
-    call: &[u8],
+    call: &str,
     text: &[u8],
     out: &mut String,
 ) -> Result<(), AllocError> {
     match call {
-        b"new" => begin(alloc, line, text),
-        b"take" => take(line, &around.bytes(alloc, text)?, out),
-        b"admit" => {
+        "new" => begin(alloc, line, text),
+        "take" => take(line, &around.bytes(alloc, text)?, out),
+        "admit" => {
             let (word, spelled) = word_of(text);
             admit(line, channel_of(word), &around.bytes(alloc, spelled)?, out)
         }

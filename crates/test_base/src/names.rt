@@ -170,12 +170,12 @@ fn cookie(bytes: &[u8], out: &mut String) -> Result<(), AllocError> {
 }
 
 /// Answers a call.
-pub fn call(alloc: Global, call: &[u8], bytes: &[u8], out: &mut String) -> Result<(), AllocError> {
+pub fn call(alloc: Global, call: &str, bytes: &[u8], out: &mut String) -> Result<(), AllocError> {
     match call {
-        b"pipes" => pipes(bytes, out),
-        b"writes" => writes(bytes, out),
-        b"padded" => padded(alloc, bytes, out),
-        b"cookie" => cookie(bytes, out),
+        "pipes" => pipes(bytes, out),
+        "writes" => writes(bytes, out),
+        "padded" => padded(alloc, bytes, out),
+        "cookie" => cookie(bytes, out),
         _ => out.push_str("?"),
     }
 }

@@ -11,6 +11,12 @@ pub fn word_of(text: &[u8]) -> (&[u8], &[u8]) {
     }
 }
 
+/// The first word as text, empty where it is none, and what stands behind its blank.
+pub fn text_of(text: &[u8]) -> (&str, &[u8]) {
+    let (word, rest) = word_of(text);
+    (str::from_utf8(word).unwrap_or(""), rest)
+}
+
 /// The number at the front, 0 where there is none, and what stands behind its blank.
 pub fn number_of(text: &[u8]) -> (u64, &[u8]) {
     let (word, rest) = word_of(text);

@@ -90,17 +90,19 @@ pub fn tell_written(
     Ok(())
 }
 
+/// Writes the packet by its flags and commands.
+fn encode_its_parts(packet: &Packet, room: &mut [u8]) -> Result<usize, NoRoom> {
+    encode_parts(packet.flags(), packet.commands(), room)
+}
+
 /// Appends what comes of writing into a room that is one byte too short.
 fn tell_short(packet: &Packet, len: usize, out: &mut String) -> Result<(), AllocError> {
     let mut room = [0xee; ROOM];
-    let short = len.min(ROOM);
+    let (short, _) = room.split_at_mut(len.min(ROOM));
     out.push_str("; short ")?;
-    tell(encode(packet, &mut room[..short]), out)?;
+    tell(encode(packet, short), out)?;
     out.push_str(" ")?;
-    tell(
-        encode_parts(packet.flags(), packet.commands(), &mut room[..short]),
-        out,
-    )?;
+    tell(encode_its_parts(packet, short), out)?;
     if room.iter().any(|byte| *byte != 0xee) {
         out.push_str(" and bytes")?;
     }
@@ -117,7 +119,7 @@ fn again(alloc: Global, bytes: &[u8], out: &mut String) -> Result<(), AllocError
     tell_written(written, &room, bytes, out)?;
     out.push_str("; parts ")?;
     let mut room = [0xee; ROOM];
-    let written = encode_parts(packet.flags(), packet.commands(), &mut room);
+    let written = encode_its_parts(&packet, &mut room);
     tell_written(written, &room, bytes, out)?;
     tell_short(&packet, bytes.len().saturating_sub(1), out)
 }
@@ -135,11 +137,11 @@ fn commands(bytes: &[u8], out: &mut String) -> Result<(), AllocError> {
 }
 
 /// Answers a call.
-pub fn call(alloc: Global, call: &[u8], bytes: &[u8], out: &mut String) -> Result<(), AllocError> {
+pub fn call(alloc: Global, call: &str, bytes: &[u8], out: &mut String) -> Result<(), AllocError> {
     match call {
-        b"read" => read(alloc, bytes, out),
-        b"again" => again(alloc, bytes, out),
-        b"commands" => commands(bytes, out),
+        "read" => read(alloc, bytes, out),
+        "again" => again(alloc, bytes, out),
+        "commands" => commands(bytes, out),
         _ => out.push_str("?"),
     }
 }

@@ -50,22 +50,22 @@ fn each(framer: &mut Framer, bytes: &[u8], out: &mut String) -> Result<(), Alloc
 /// Answers a call.
 pub fn call(
     framer: &mut Framer,
-    call: &[u8],
+    call: &str,
     bytes: &[u8],
     out: &mut String,
 ) -> Result<(), AllocError> {
     match call {
-        b"check" => checked(bytes, out),
-        b"say" => said(bytes, out),
-        b"header" => header(bytes, out),
-        b"framer" => {
+        "check" => checked(bytes, out),
+        "say" => said(bytes, out),
+        "header" => header(bytes, out),
+        "framer" => {
             *framer = Framer::new();
             Ok(())
         }
-        b"feed" => tell(framer.feed(bytes), out),
-        b"each" => each(framer, bytes, out),
-        b"frame" => write_hex(framer.frame(), out),
-        b"held" => tell(framer.held(), out),
+        "feed" => tell(framer.feed(bytes), out),
+        "each" => each(framer, bytes, out),
+        "frame" => write_hex(framer.frame(), out),
+        "held" => tell(framer.held(), out),
         _ => out.push_str("?"),
     }
 }

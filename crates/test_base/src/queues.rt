@@ -68,17 +68,12 @@ impl Queue {
     }
 
     /// Calls that need no memory.
-    fn call_within(
-        &mut self,
-        call: &[u8],
-        text: &[u8],
-        out: &mut String,
-    ) -> Result<(), AllocError> {
+    fn call_within(&mut self, call: &str, text: &[u8], out: &mut String) -> Result<(), AllocError> {
         match call {
-            b"front" => tell(self.line.front(), out),
-            b"held" => tell(self.line.held(), out),
-            b"begun" => tell(self.begun.len(), out),
-            b"draw" => self.drawn(short_of(text), out),
+            "front" => tell(self.line.front(), out),
+            "held" => tell(self.line.held(), out),
+            "begun" => tell(self.begun.len(), out),
+            "draw" => self.drawn(short_of(text), out),
             _ => out.push_str("?"),
         }
     }
@@ -88,18 +83,18 @@ impl Queue {
         &mut self,
         alloc: Global,
         around: &Around,
-        call: &[u8],
+        call: &str,
         text: &[u8],
         out: &mut String,
     ) -> Result<(), AllocError> {
         match call {
-            b"new" => {
+            "new" => {
                 *self = Queue::new(alloc)?;
                 Ok(())
             }
-            b"push" => push(&mut self.line, &around.bytes(alloc, text)?, out),
-            b"pop" => pop(&mut self.line, &around.bytes(alloc, text)?, out),
-            b"turn" => {
+            "push" => push(&mut self.line, &around.bytes(alloc, text)?, out),
+            "pop" => pop(&mut self.line, &around.bytes(alloc, text)?, out),
+            "turn" => {
                 let (times, spelled) = number_of(text);
                 tell(
                     turn(&mut self.line, times, &around.bytes(alloc, spelled)?),

@@ -13,11 +13,11 @@ fn read(alloc: Global, text: &[u8], kind: RecordKind, out: &mut String) -> Resul
 }
 
 /// Answers a call.
-pub fn call(alloc: Global, call: &[u8], bytes: &[u8], out: &mut String) -> Result<(), AllocError> {
+pub fn call(alloc: Global, call: &str, bytes: &[u8], out: &mut String) -> Result<(), AllocError> {
     match call {
-        b"header" => read(alloc, bytes, RecordKind::Header, out),
-        b"direct" => read(alloc, bytes, RecordKind::Direct, out),
-        b"roles" => read(alloc, bytes, RecordKind::Roles, out),
+        "header" => read(alloc, bytes, RecordKind::Header, out),
+        "direct" => read(alloc, bytes, RecordKind::Direct, out),
+        "roles" => read(alloc, bytes, RecordKind::Roles, out),
         _ => out.push_str("?"),
     }
 }

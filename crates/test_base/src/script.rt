@@ -1,7 +1,7 @@
 //! Calls, one on each line.
 
 use crate::keep::Keep;
-use crate::numbers::word_of;
+use crate::numbers::text_of;
 use crate::queues::Queue;
 use crate::spelling::{Around, tell_characters};
 use crate::windows::Windows;
@@ -39,14 +39,14 @@ fn nothing_left(alloc: Global) -> Result<Left, AllocError> {
 /// Calls that change nothing but what is theirs.
 fn on_values(
     left: &mut Left,
-    family: &[u8],
-    call: &[u8],
+    family: &str,
+    call: &str,
     text: &[u8],
     out: &mut String,
 ) -> Result<(), AllocError> {
     match family {
-        b"window" => left.windows.call(call, text, out),
-        b"keep" => left.keep.call(call, text, out),
+        "window" => left.windows.call(call, text, out),
+        "keep" => left.keep.call(call, text, out),
         _ => out.push_str("?"),
     }
 }
@@ -55,16 +55,16 @@ fn on_values(
 fn on_lines(
     alloc: Global,
     left: &mut Left,
-    family: &[u8],
-    call: &[u8],
+    family: &str,
+    call: &str,
     text: &[u8],
     out: &mut String,
 ) -> Result<(), AllocError> {
     match family {
-        b"line" => lines::call(alloc, &mut left.line, &left.around, call, text, out),
-        b"queue" => left.queue.call(alloc, &left.around, call, text, out),
-        b"bytes" => left.around.call(alloc, call, text),
-        b"text" => texts::call(alloc, &left.around, call, text, out),
+        "line" => lines::call(alloc, &mut left.line, &left.around, call, text, out),
+        "queue" => left.queue.call(alloc, &left.around, call, text, out),
+        "bytes" => left.around.call(alloc, call, text),
+        "text" => texts::call(alloc, &left.around, call, text, out),
         _ => on_values(left, family, call, text, out),
     }
 }
@@ -73,28 +73,28 @@ fn on_lines(
 fn on_bytes(
     alloc: Global,
     left: &mut Left,
-    family: &[u8],
-    call: &[u8],
+    family: &str,
+    call: &str,
     text: &[u8],
     out: &mut String,
 ) -> Result<(), AllocError> {
     match family {
-        b"pdu" => {
+        "pdu" => {
             let bytes = left.around.bytes(alloc, text)?;
             pdus::call(&mut left.framer, call, &bytes, out)
         }
-        b"packet" => packets::call(alloc, call, &left.around.bytes(alloc, text)?, out),
-        b"show" => {
+        "packet" => packets::call(alloc, call, &left.around.bytes(alloc, text)?, out),
+        "show" => {
             let bytes = left.around.bytes(alloc, text)?;
             shows::call(alloc, &mut left.reader, call, &bytes, out)
         }
-        b"record" => records::call(alloc, call, &left.around.bytes(alloc, text)?, out),
-        b"name" => names::call(alloc, call, &left.around.bytes(alloc, text)?, out),
-        b"called" => {
+        "record" => records::call(alloc, call, &left.around.bytes(alloc, text)?, out),
+        "name" => names::call(alloc, call, &left.around.bytes(alloc, text)?, out),
+        "called" => {
             let bytes = left.around.bytes(alloc, text)?;
             called::call(alloc, &mut left.reader, call, &bytes, out)
         }
-        b"head" => heads::call(alloc, &left.around, call, text, out),
+        "head" => heads::call(alloc, &left.around, call, text, out),
         _ => on_lines(alloc, left, family, call, text, out),
     }
 }
@@ -105,11 +105,11 @@ fn on_line(
     line: &[u8],
     out: &mut String,
 ) -> Result<(), AllocError> {
-    let (family, rest) = word_of(line);
-    if let [] | [b'#'] = family {
+    let (family, rest) = text_of(line);
+    if let "" | "#" = family {
         return tell_characters(line, out);
     }
-    let (call, text) = word_of(rest);
+    let (call, text) = text_of(rest);
     on_bytes(alloc, left, family, call, text, out)
 }
 

@@ -33,13 +33,13 @@ fn packet(alloc: Global, bytes: &[u8], out: &mut String) -> Result<(), AllocErro
 pub fn call(
     alloc: Global,
     reader: &mut LineReader,
-    call: &[u8],
+    call: &str,
     bytes: &[u8],
     out: &mut String,
 ) -> Result<(), AllocError> {
     match call {
-        b"packet" => packet(alloc, bytes, out),
-        b"reads" => reads(reader, bytes, out),
+        "packet" => packet(alloc, bytes, out),
+        "reads" => reads(reader, bytes, out),
         _ => out.push_str("?"),
     }
 }

@@ -110,16 +110,16 @@ impl Around {
     }
 
     /// What the call says of the bytes.
-    pub fn call(&mut self, alloc: Global, call: &[u8], text: &[u8]) -> Result<(), AllocError> {
+    pub fn call(&mut self, alloc: Global, call: &str, text: &[u8]) -> Result<(), AllocError> {
         match call {
-            b"before" => {
+            "before" => {
                 self.before = Vec::new(alloc);
                 self.behind = Vec::new(alloc);
                 spell(alloc, text, &mut self.before)
             }
-            b"more" => spell(alloc, text, &mut self.before),
-            b"times" => self.repeat(alloc, text),
-            b"behind" => spell(alloc, text, &mut self.behind),
+            "more" => spell(alloc, text, &mut self.before),
+            "times" => self.repeat(alloc, text),
+            "behind" => spell(alloc, text, &mut self.behind),
             _ => Ok(()),
         }
     }

@@ -1,7 +1,7 @@
 //! Texts: `hex`, `decode` and `write`; `number`; `split` and `bad-line`; the words of `side` and
 //! `dir`.
 
-use crate::numbers::{number_of, word_of};
+use crate::numbers::{number_of, text_of};
 use crate::spelling::{Around, tell};
 use rh_record::Recording;
 use rh_record::recording::{one_reading, one_recording};
@@ -53,15 +53,15 @@ impl Grammar for Crosses {
 }
 
 /// Appends the number of the first line that the grammar has no place for.
-fn bad_line(grammar: &[u8], bytes: &[u8], out: &mut String) -> Result<(), AllocError> {
+fn bad_line(grammar: &str, bytes: &[u8], out: &mut String) -> Result<(), AllocError> {
     one_text();
     one_word();
     one_reading();
     one_recording();
     match grammar {
-        b"crosses" => tell(first_bad_line::<Crosses>(bytes), out),
-        b"packets" => tell(first_bad_line::<Packets>(bytes), out),
-        b"recording" => tell(first_bad_line::<Recording>(bytes), out),
+        "crosses" => tell(first_bad_line::<Crosses>(bytes), out),
+        "packets" => tell(first_bad_line::<Packets>(bytes), out),
+        "recording" => tell(first_bad_line::<Recording>(bytes), out),
         _ => out.push_str("?"),
     }
 }
@@ -125,20 +125,20 @@ fn dir(word: &[u8], out: &mut String) -> Result<(), AllocError> {
 fn call_with_numbers(
     alloc: Global,
     around: &Around,
-    call: &[u8],
+    call: &str,
     text: &[u8],
     out: &mut String,
 ) -> Result<(), AllocError> {
     let (first, rest) = number_of(text);
     match call {
-        b"hex" => hex(
+        "hex" => hex(
             alloc,
             &around.bytes(alloc, rest)?,
             first.min(1000) as usize,
             out,
         ),
-        b"decode" => decoded(&around.bytes(alloc, rest)?, first.min(1000) as usize, out),
-        b"number" => {
+        "decode" => decoded(&around.bytes(alloc, rest)?, first.min(1000) as usize, out),
+        "number" => {
             let (most, spelled) = number_of(rest);
             tell(
                 read_number(&around.bytes(alloc, spelled)?, first, most),
@@ -153,19 +153,19 @@ fn call_with_numbers(
 pub fn call(
     alloc: Global,
     around: &Around,
-    call: &[u8],
+    call: &str,
     text: &[u8],
     out: &mut String,
 ) -> Result<(), AllocError> {
     match call {
-        b"bad-line" => {
-            let (grammar, spelled) = word_of(text);
+        "bad-line" => {
+            let (grammar, spelled) = text_of(text);
             bad_line(grammar, &around.bytes(alloc, spelled)?, out)
         }
-        b"split" => split(&around.bytes(alloc, text)?, out),
-        b"side" => side(&around.bytes(alloc, text)?, out),
-        b"dir" => dir(&around.bytes(alloc, text)?, out),
-        b"write" => {
+        "split" => split(&around.bytes(alloc, text)?, out),
+        "side" => side(&around.bytes(alloc, text)?, out),
+        "dir" => dir(&around.bytes(alloc, text)?, out),
+        "write" => {
             out.push_str("x")?;
             write_hex(&around.bytes(alloc, text)?, out)
         }

@@ -80,19 +80,19 @@ fn acked(window: &mut SendWindow, text: &[u8], out: &mut String) -> Result<(), A
 
 fn on_sender(
     window: &mut SendWindow,
-    call: &[u8],
+    call: &str,
     text: &[u8],
     out: &mut String,
 ) -> Result<(), AllocError> {
     match call {
-        b"sender" => {
+        "sender" => {
             let (edge, _) = long_of(text);
             *window = SendWindow::new(edge);
             Ok(())
         }
-        b"may" => tell(window.may_send(short_of(text)), out),
-        b"sent" => tell(send(window, short_of(text)), out),
-        b"acked" => acked(window, text, out),
+        "may" => tell(window.may_send(short_of(text)), out),
+        "sent" => tell(send(window, short_of(text)), out),
+        "acked" => acked(window, text, out),
         _ => out.push_str("?"),
     }
 }
@@ -120,22 +120,22 @@ impl Windows {
     }
 
     /// Answers a call.
-    pub fn call(&mut self, call: &[u8], text: &[u8], out: &mut String) -> Result<(), AllocError> {
+    pub fn call(&mut self, call: &str, text: &[u8], out: &mut String) -> Result<(), AllocError> {
         match call {
-            b"receiver" => {
+            "receiver" => {
                 self.begin(text);
                 Ok(())
             }
-            b"shut" => self.shut(text, out),
-            b"admit" => tell(self.receiver.admit(short_of(text)), out),
-            b"release" => tell(release(&mut self.receiver, short_of(text)), out),
-            b"held" => tell(self.receiver.held(), out),
-            b"due" => tell(self.receiver.due(), out),
-            b"told" => {
+            "shut" => self.shut(text, out),
+            "admit" => tell(self.receiver.admit(short_of(text)), out),
+            "release" => tell(release(&mut self.receiver, short_of(text)), out),
+            "held" => tell(self.receiver.held(), out),
+            "due" => tell(self.receiver.due(), out),
+            "told" => {
                 tell_due(&mut self.receiver);
                 Ok(())
             }
-            b"pass" => tell(pass(&mut self.receiver, text), out),
+            "pass" => tell(pass(&mut self.receiver, text), out),
             _ => on_sender(&mut self.sender, call, text, out),
         }
     }
