@@ -1,1 +1,3 @@
+mod EndRound
+mod Marked
 mod OverUpwards

@@ -1,13 +1,13 @@
 -- where the end nearer the client has finished a leg, the node that loses it goes on
 use Rattle.std.specs.List.{AllByRecursion}
-use Rattle.law_order.proofs.Vocabulary.{◌≡◌, ◌⊎◌, inl, inr, ◌<◌, ◌≤◌, ◌||◌, ◌&&◌, ◌∙◌, if◌then◌else◌, ℕ, Bool, true, false, true≢false, not, List, [], refl, sym, ap, subst, Option, cases_lt, lt-ltb, arith, IsPrefix, Item, IsRoute, Route, has_end, has_handover}
+use Rattle.law_order.proofs.Vocabulary.{◌≡◌, ◌⊎◌, inl, inr, ◌<◌, ◌≤◌, ◌&&◌, ◌∙◌, ℕ, Bool, true, false, true≢false, not, List, [], refl, sym, ap, subst, Option, cases_lt, lt-ltb, arith, IsPrefix, IsRoute, Route, has_end, has_handover}
 use Rattle.rh_inproxy.specs.Machine as in_proxy
 use Rattle.rh_inproxy.specs.State as in_state
 use Rattle.rh_outproxy.specs.Machine as out_proxy
 use Rattle.rh_server.specs.Servers as server
 use Rattle.rh_server.specs.States.{is_put}
 use Rattle.rh_window.specs.Sides.{IsWindow}
-use Rattle.law_moves.proofs.Vocabulary.{has_end-append, has_handover-append, nil_back, spelled, Going, Leg, Pipe, Shell, ended, begun, Passage, Move, AreAllowed, all_moved, started, of_leg, is_ended, is_in_use, Event, EndEvent, after_events, after_end_events}
+use Rattle.law_moves.proofs.Vocabulary.{nil_back, spelled, Going, Leg, Pipe, Shell, ended, begun, Passage, Move, AreAllowed, all_moved, started, of_leg, is_ended, is_in_use, Event, EndEvent, after_events, after_end_events}
 use Rattle.law_role_inproxy.proofs.Vocabulary.{InProxyConfig, InProxy}
 use Rattle.law_role_inproxy.specs.Order as in_order
 use Rattle.law_role_client.proofs.Vocabulary.{ClientRole, has_leg}
@@ -26,6 +26,7 @@ use Rattle.law_world_order.proofs.Vocabulary.{Numbers, down_route_of}
 use Rattle.law_world_ways.specs.OnPaths.Ways.{AreOnTheirWay, in_node, out_node, server_node}
 use Rattle.law_world_ways.specs.ExactPaths.GoingOn.{AllGoOn}
 use Rattle.law_world_ways.specs.ExactPaths.Over.{HavePassed, IsOverUpwards}
+use Rattle.law_world_marks.proofs.Marked.{either, end_more, handover_more, of_there, passed_more}
 use Rattle.law_world_marks.specs.GoingOn.{GoOnWhereOver}
 
 -- ---- the laws that this stands on
@@ -67,43 +68,6 @@ pub record MarksLaws : Type 0 where
       → (let node = after_end_events server.rules server.acts (server.new_server window) events in
       (server.rules.is_done node.role (is n) ≡ true → DrewAll node (is n))
       → (ended server.rules node (is n)).0.course ≡ node.course)
-
--- ---- lists
-
-either : (a b : Bool) → (a || b) ≡ true → (a ≡ true) ⊎ (b ≡ true)
-either true b e = inl refl
-either false b e = inr e
-
-or_more : (a b : Bool) → a ≡ true → (a || b) ≡ true
-or_more true b e = refl
-or_more false b e = absurd (true≢false (sym e))
-
-or_second : (a b : Bool) → b ≡ true → (a || b) ≡ true
-or_second true b e = refl
-or_second false b e = e
-
-handover_more : (a b : List Item) → IsPrefix a b → has_handover a ≡ true
-    → has_handover b ≡ true
-handover_more a b p e =
-    subst (λ (x : List Item). has_handover x ≡ true) p.1
-    (has_handover-append a p.0 ∙ or_more (has_handover a) (has_handover p.0) e)
-
-end_more : (a b : List Item) → IsPrefix a b → has_end a ≡ true → has_end b ≡ true
-end_more a b p e =
-    subst (λ (x : List Item). has_end x ≡ true) p.1
-    (has_end-append a p.0 ∙ or_more (has_end a) (has_end p.0) e)
-
-passed_more : (a b : List Item) → IsPrefix a b → has_passed a ≡ true → has_passed b ≡ true
-passed_more a b p e = by (either (has_handover a) (has_end a) e)
-  where
-    by : (has_handover a ≡ true) ⊎ (has_end a ≡ true) → has_passed b ≡ true
-    by (inl handed) = or_more (has_handover b) (has_end b) (handover_more a b p handed)
-    by (inr ended) = or_second (has_handover b) (has_end b) (end_more a b p ended)
-
-of_there : (b : Bool) (items : List Item) → has_passed (if b then items else []) ≡ true
-    → has_passed items ≡ true
-of_there true items e = e
-of_there false items e = absurd (true≢false (sym e))
 
 -- ---- at a moment
 

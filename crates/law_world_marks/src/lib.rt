@@ -2,6 +2,8 @@
 //! are the laws.
 #![tactic(auto)]
 
+pub mod done;
 pub mod upwards;
 
+pub use done::the_clean_end_went_round_where_a_client_is_done;
 pub use upwards::nodes_go_on_where_legs_are_over_upwards;
