@@ -1,4 +1,5 @@
 mod OutProxyOver
+mod OutProxyKept
 mod InProxyRows
 mod InProxyHeld
 mod InProxyOver

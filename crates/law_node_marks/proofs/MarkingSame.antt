@@ -165,7 +165,7 @@ module _ {S : Type 0} (rules : Rules S) (marks : S → Leg → Bool) where
 
   -- ---- events
 
-  event_same : (s : Shell S) (event : Event) → AgreeOn rules marks s.role event
+  pub event_same : (s : Shell S) (event : Event) → AgreeOn rules marks s.role event
       → after_event other s event ≡ after_event rules s event
   event_same s (ComesUp leg cookie) agree = up_same s leg cookie
   event_same s (Hears leg piece) agree = by s.course

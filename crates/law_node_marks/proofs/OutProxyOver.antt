@@ -1,5 +1,5 @@
 -- an out proxy that did not lose its leg to the server is over behind OUT_R1/A10
-use Rattle.law_order.proofs.Vocabulary.{◌≡◌, ◌&&◌, ◌||◌, ◌∙◌, ℕ, Bool, true, false, true≢false, not, List, Some, None, Ok, Err, nat_le, refl, rules, sym, ap, subst, and_parts, AllByRecursion, if◌then◌else◌, IfSome, Option, Result, has_handover}
+use Rattle.law_order.proofs.Vocabulary.{◌≡◌, ◌&&◌, ◌||◌, ◌∙◌, ℕ, Bool, true, false, true≢false, not, List, [], ◌∷◌, Some, None, Ok, Err, nat_le, refl, rules, sym, ap, subst, and_parts, AllByRecursion, if◌then◌else◌, IfSome, Option, Result, has_handover}
 use Rattle.rh_sig.specs.declared.named.Named.TheVariants as named
 use Rattle.rh_shell.specs.declared.answers.Phase.TheVariants as phases
 use Rattle.rh_outproxy.specs.declared.state.Answer.TheVariants as answers
@@ -12,59 +12,64 @@ use Rattle.law_role_outproxy.proofs.Vocabulary.{KeepsOrder, came_log, put_items}
 use Rattle.law_node_ends.specs.Passed.{AsksNoEcho, HeadsAre}
 use Rattle.law_node_marks.specs.Losing.{marking}
 use Rattle.law_role_marks.specs.Marks.{marks_client}
-use Rattle.law_node_marks.proofs.ByMoves.{all_moved_same, are_allowed, moves_keep, put_keeps, row_keeps}
+use Rattle.law_node_marks.proofs.ByMoves.{all_moved_same, are_allowed, put_keeps, row_keeps}
 
 -- what the fact is about
-record Seen : Type 0 where
-  number : ℕ
-  answer : Answer
-  server : ServerLeg
+pub record Seen : Type 0 where
+  pub number : ℕ
+  pub answer : Answer
+  pub server : ServerLeg
 
-abbrev seen : OutProxy → Seen
+abbrev pub seen : OutProxy → Seen
 seen s = record { number = s.config.number; answer = s.answer; server = s.server }
 
 abbrev Same : OutProxy → OutProxy → Type 0
 Same s t = seen t ≡ seen s
 
 -- no answer to an echo request is due, was put or was drawn
-abbrev is_echo : Answer → Bool
+abbrev pub is_echo : Answer → Bool
 is_echo answers.EchoDue = true
 is_echo answers.EchoPut = true
 is_echo answers.EchoDrawn = true
 is_echo answer = false
 
--- nor is the leg to the server lost
-record SeenFine (n : ℕ) (x : Seen) : Type 0 where
-  made : x.number ≡ n
-  answer : is_echo x.answer ≡ false
-  server : is_server_marked x.server ≡ false
+-- if this is asked for; nor is the leg to the server lost, if that is
+pub record SeenFine (A B : Type 0) (n : ℕ) (x : Seen) : Type 0 where
+  pub made : x.number ≡ n
+  pub answer : A → is_echo x.answer ≡ false
+  pub server : B → is_server_marked x.server ≡ false
 
 abbrev kept_rules : Rules OutProxy
 kept_rules = marking proxy_rules marks_client
 
-module _ (n : ℕ) where
-  abbrev Fine : OutProxy → Type 0
-  Fine s = SeenFine n (seen s)
+module _ (A B : Type 0) (n : ℕ) where
+  abbrev pub Fine : OutProxy → Type 0
+  Fine s = SeenFine A B n (seen s)
 
   same_fine : (s t : OutProxy) → Same s t → Fine s → Fine t
-  same_fine s t same h = subst (SeenFine n) (sym same) h
+  same_fine s t same h = subst (SeenFine A B n) (sym same) h
 
   -- ---- what comes
 
-  up_fine : (s : OutProxy) (leg : Leg) (cookie : Cookie) → Fine s → Fine (up s leg cookie)
+  pub up_fine : (s : OutProxy) (leg : Leg) (cookie : Cookie) → Fine s → Fine (up s leg cookie)
   up_fine s leg cookie h =
       by_test Fine (is_co s leg) _ _
       (λ t. record { made = h.made; answer = h.answer; server = h.server })
-      (λ t. record { made = h.made; answer = refl; server = refl })
+      (λ t. record { made = h.made; answer = λ a. refl; server = λ b. refl })
 
   head_fine : (s : OutProxy) (verdict : Result Asked HttpFault)
-      → ((request : Asked) → verdict ≡ Ok request → nat_le request.length greatest_echo ≡ false)
+      → (A → (request : Asked) → verdict ≡ Ok request
+      → nat_le request.length greatest_echo ≡ false)
       → Fine s → Fine (head_by s verdict).0
   head_fine s (Err fault) none h = h
   head_fine s (Ok request) none h =
       by_test (λ (x : OutProxy × Result HeadTaken HeadRefused). Fine x.0)
       (nat_le request.length greatest_echo) _ _
-      (λ t. absurd (true≢false (sym t ∙ none request refl)))
+      (λ t. record {
+        made = h.made;
+        answer = λ a. absurd (true≢false (sym t ∙ none a request refl));
+        server = h.server;
+      })
       (λ t. record { made = h.made; answer = h.answer; server = h.server })
 
   same_pdu : (s : OutProxy) (leg : Leg) (count : Count) (bytes : List ℕ)
@@ -130,21 +135,26 @@ module _ (n : ℕ) where
   or_fine None b h k = k
   or_fine (Some pick) b h k = h
 
-  answer_fine : (s : OutProxy) → (a : Answer) → is_echo a ≡ false → Fine s
+  answer_fine : (s : OutProxy) → (a : Answer) → (A → is_echo a ≡ false) → Fine s
       → PutFine (answer_by a s)
   answer_fine s answers.Awaited e h = tt
-  answer_fine s answers.EchoDue e h = absurd (true≢false e)
+  answer_fine s answers.EchoDue e h = record {
+    made = h.made;
+    answer = λ a. absurd (true≢false (e a));
+    server = h.server;
+  }
   answer_fine s answers.EchoPut e h = tt
   answer_fine s answers.EchoDrawn e h = tt
   answer_fine s answers.ResponseDue e h =
-      record { made = h.made; answer = behind s.channel; server = h.server }
+      record { made = h.made; answer = λ a. behind s.channel; server = h.server }
     where
       behind : (c : Channel) → is_echo (behind_response c) ≡ false
       behind channels.Unknown = refl
       behind (channels.New connection cookie) = refl
       behind (channels.Joined connection cookie) = refl
       behind (channels.Successor connection predecessor cookie) = refl
-  answer_fine s answers.TimeoutDue e h = record { made = h.made; answer = refl; server = h.server }
+  answer_fine s answers.TimeoutDue e h =
+      record { made = h.made; answer = λ a. refl; server = h.server }
   answer_fine s answers.Put e h = tt
 
   same_waiting : (s : OutProxy) (dues : List Due) → PutSame s (waiting_by s dues)
@@ -164,7 +174,8 @@ module _ (n : ℕ) where
 
   first_fine : (s : OutProxy) (o : Option Named) → Fine s → PutFine (first_by s o)
   first_fine s None h = tt
-  first_fine s (Some packet) h = record { made = h.made; answer = h.answer; server = refl }
+  first_fine s (Some packet) h =
+      record { made = h.made; answer = h.answer; server = λ b. refl }
 
   same_ack : (s : OutProxy) → PutSame s (put_ack s)
   same_ack s = search rules
@@ -195,7 +206,13 @@ module _ (n : ℕ) where
   drawn_fine : (s : OutProxy) (leg : Leg) → Fine s → Fine (drawn s leg)
   drawn_fine s leg h =
       by_test Fine (is_co s leg && is_echo_put s.answer) (record s { answer = answers.EchoDrawn }) s
-      (λ t. absurd (put_not s.answer h.answer (and_parts (is_co s leg) (is_echo_put s.answer) t).1))
+      (λ t. record {
+        made = h.made;
+        answer = λ a.
+            absurd (put_not s.answer (h.answer a)
+            (and_parts (is_co s leg) (is_echo_put s.answer) t).1);
+        server = h.server;
+      })
       (λ t. h)
     where
       put_not : (a : Answer) → is_echo a ≡ false → is_echo_put a ≡ true → ⊥
@@ -207,67 +224,89 @@ module _ (n : ℕ) where
       put_not answers.TimeoutDue e f = true≢false (sym f)
       put_not answers.Put e f = true≢false (sym f)
 
-  -- its leg to the client is lost
-  mark_fine : (s : OutProxy) (leg : Leg) → is_co s leg ≡ true → Fine s → Fine (mark s leg)
+  -- a leg is lost: that to the client, if it may be no other
+  pub mark_fine : (s : OutProxy) (leg : Leg) → (B → is_co s leg ≡ true) → Fine s
+      → Fine (mark s leg)
   mark_fine s leg is h =
       by_test Fine (is_co s leg) (record s { client = clients.Marked })
       (record s { server = servers.Marked })
       (λ t. record { made = h.made; answer = h.answer; server = h.server })
-      (λ t. absurd (true≢false (sym is ∙ t)))
+      (λ t. record {
+        made = h.made;
+        answer = h.answer;
+        server = λ b. absurd (true≢false (sym (is b) ∙ t));
+      })
 
-  -- ---- by moves
-
-  step_fine : (p : Passage OutProxy) (move : Move) → MayMove kept_rules p.role move
-      → HeadsAre (AsksNoEcho false) move → Fine p.role → Fine (moved kept_rules p move).role
-  step_fine p (Up leg cookie) may asks h = up_fine p.role leg cookie h
-  step_fine p (HeadCame leg text) may asks h = head_fine p.role (request_verdict false text) asks h
-  step_fine p (PduCame leg count bytes) may asks h =
-      row_keeps Fine p leg (Pdu bytes) (pdu p.role leg count bytes)
-      (same_fine p.role (pdu p.role leg count bytes).0 (same_pdu p.role leg count bytes) h)
-  step_fine p (PacketCame leg count named) may asks h =
-      row_keeps Fine p leg (Packet named) (packet p.role leg count named)
-      (packet_fine p.role leg count named h)
-  step_fine p (Puts leg) may asks h =
-      put_keeps Fine p leg (put_of p.role leg) h (puts_fine p.role leg h)
-  step_fine p (IsDrawn leg) may asks h = drawn_fine p.role leg h
-  step_fine p (Marks leg) may asks h =
-      mark_fine p.role leg
-      (and_parts (proxy_rules.only_marks p.role leg) (is_co p.role leg) may.1).1 h
-  step_fine p (Pings leg) may asks h = same_fine p.role (ping p.role leg) (pinged p.role leg) h
+  pub ping_fine : (s : OutProxy) (leg : Leg) → Fine s → Fine (ping s leg)
+  ping_fine s leg h = same_fine s (ping s leg) (pinged s leg) h
     where
       pinged : (s : OutProxy) (leg : Leg) → Same s (ping s leg)
       pinged s leg = search rules
 
-  -- its work is done behind the mark
-  over : (s : OutProxy) → Fine s → is_at_work proxy_rules s ≡ false → is_put s.handover ≡ true
-  over s h e = by (is_echo_drawn s.answer) (is_server_marked s.server) (is_put s.handover)
-      (drawn_not s.answer h.answer) h.server (is_over_now (is_over s) e)
-    where
-      drawn_not : (a : Answer) → is_echo a ≡ false → is_echo_drawn a ≡ false
-      drawn_not answers.EchoDrawn e = absurd (true≢false e)
-      drawn_not answers.Awaited e = refl
-      drawn_not answers.EchoDue e = refl
-      drawn_not answers.EchoPut e = refl
-      drawn_not answers.ResponseDue e = refl
-      drawn_not answers.TimeoutDue e = refl
-      drawn_not answers.Put e = refl
+  -- ---- by moves
 
-      by : (a b c : Bool) → a ≡ false → b ≡ false → (a || (b || c)) ≡ true → c ≡ true
-      by true b c e f g = absurd (true≢false e)
-      by false true c e f g = absurd (true≢false f)
-      by false false c e f g = g
+  module _ (marks : OutProxy → Leg → Bool)
+      (client : (s : OutProxy) (leg : Leg) → marks s leg ≡ true → B → is_co s leg ≡ true) where
+    pub step_fine : (p : Passage OutProxy) (move : Move)
+        → MayMove (marking proxy_rules marks) p.role move
+        → (A → HeadsAre (AsksNoEcho false) move) → Fine p.role
+        → Fine (moved (marking proxy_rules marks) p move).role
+    step_fine p (Up leg cookie) may asks h = up_fine p.role leg cookie h
+    step_fine p (HeadCame leg text) may asks h = head_fine p.role (request_verdict false text) asks h
+    step_fine p (PduCame leg count bytes) may asks h =
+        row_keeps Fine p leg (Pdu bytes) (pdu p.role leg count bytes)
+        (same_fine p.role (pdu p.role leg count bytes).0 (same_pdu p.role leg count bytes) h)
+    step_fine p (PacketCame leg count named) may asks h =
+        row_keeps Fine p leg (Packet named) (packet p.role leg count named)
+        (packet_fine p.role leg count named h)
+    step_fine p (Puts leg) may asks h =
+        put_keeps Fine p leg (put_of p.role leg) h (puts_fine p.role leg h)
+    step_fine p (IsDrawn leg) may asks h = drawn_fine p.role leg h
+    step_fine p (Marks leg) may asks h =
+        mark_fine p.role leg (client p.role leg may.1) h
+    step_fine p (Pings leg) may asks h = ping_fine p.role leg h
 
-      is_over_now : (b : Bool)
-          → not (is_ended (if b then phases.Ended
-          else (if is_server_down s.server then phases.Opening else phases.Open))) ≡ false
-          → b ≡ true
-      is_over_now true e = refl
-      is_over_now false e = other (is_server_down s.server) e
-        where
-          other : (d : Bool)
-              → not (is_ended (if d then phases.Opening else phases.Open)) ≡ false → false ≡ true
-          other true e = absurd (true≢false e)
-          other false e = absurd (true≢false e)
+    pub moves_fine : (p : Passage OutProxy) (moves : List Move)
+        → AreAllowed (marking proxy_rules marks) p moves
+        → (A → AllByRecursion (HeadsAre (AsksNoEcho false)) moves) → Fine p.role
+        → Fine (all_moved (marking proxy_rules marks) p moves).role
+    moves_fine p [] may asks h = h
+    moves_fine p (move ∷ moves) may asks h =
+        moves_fine (moved (marking proxy_rules marks) p move) moves may.1 (λ a. (asks a).1)
+        (step_fine p move may.0 (λ a. (asks a).0) h)
+
+-- its work is done behind the mark
+pub over : (s : OutProxy) → is_echo s.answer ≡ false → is_server_marked s.server ≡ false
+    → is_at_work proxy_rules s ≡ false → is_put s.handover ≡ true
+over s answer server e =
+    by (is_echo_drawn s.answer) (is_server_marked s.server) (is_put s.handover)
+    (drawn_not s.answer answer) server (is_over_now (is_over s) e)
+  where
+    drawn_not : (a : Answer) → is_echo a ≡ false → is_echo_drawn a ≡ false
+    drawn_not answers.EchoDrawn e = absurd (true≢false e)
+    drawn_not answers.Awaited e = refl
+    drawn_not answers.EchoDue e = refl
+    drawn_not answers.EchoPut e = refl
+    drawn_not answers.ResponseDue e = refl
+    drawn_not answers.TimeoutDue e = refl
+    drawn_not answers.Put e = refl
+
+    by : (a b c : Bool) → a ≡ false → b ≡ false → (a || (b || c)) ≡ true → c ≡ true
+    by true b c e f g = absurd (true≢false e)
+    by false true c e f g = absurd (true≢false f)
+    by false false c e f g = g
+
+    is_over_now : (b : Bool)
+        → not (is_ended (if b then phases.Ended
+        else (if is_server_down s.server then phases.Opening else phases.Open))) ≡ false
+        → b ≡ true
+    is_over_now true e = refl
+    is_over_now false e = other (is_server_down s.server) e
+      where
+        other : (d : Bool)
+            → not (is_ended (if d then phases.Opening else phases.Open)) ≡ false → false ≡ true
+        other true e = absurd (true≢false e)
+        other false e = absurd (true≢false e)
 
 module _ (config : OutProxyConfig) (moves : List Move)
     (may : AreAllowed kept_rules (started (new_proxy config)) moves)
@@ -285,17 +324,17 @@ module _ (config : OutProxyConfig) (moves : List Move)
       (λ s leg e. (and_parts (proxy_rules.only_marks s leg) (is_co s leg) e).0)
       (started (new_proxy config)) moves may))
 
-  start : Fine config.number (new_proxy config)
-  start = record { made = refl; answer = refl; server = refl }
+  start : Fine (Unit {0}) (Unit {0}) config.number (new_proxy config)
+  start = record { made = refl; answer = λ a. refl; server = λ b. refl }
 
-  fine : Fine config.number p.role
+  fine : Fine (Unit {0}) (Unit {0}) config.number p.role
   fine =
-      moves_keep kept_rules (HeadsAre (AsksNoEcho false))
-      (λ (q : Passage OutProxy). Fine config.number q.role) (step_fine config.number)
-      (started (new_proxy config)) moves may asks start
+      moves_fine (Unit {0}) (Unit {0}) config.number marks_client
+      (λ s leg e b. (and_parts (proxy_rules.only_marks s leg) (is_co s leg) e).1)
+      (started (new_proxy config)) moves may (λ a. asks) start
 
   put_over : is_at_work proxy_rules p.role ≡ false → is_put p.role.handover ≡ true
-  put_over done = over config.number p.role fine done
+  put_over done = over p.role (fine.answer tt) (fine.server tt) done
 
   pub over_behind_mark : is_at_work proxy_rules p.role ≡ false
       → (has_handover (put_items config.number p.put) ≡ true)

@@ -1,9 +1,9 @@
 -- nodes that lose legs, and rules that differ in the legs that are only marked (profile)
-use Rattle.std.specs.Prelude.{◌≡◌, ◌⊎◌, List, [], ◌∷◌, Bool, true, Some}
+use Rattle.std.specs.Prelude.{◌≡◌, ◌⊎◌, List, [], ◌∷◌, Bool, true, false, Some}
 use Rattle.rh_line.specs.declared.leg.Leg.{Leg}
 use Rattle.rh_shell.specs.NearEnds.{NearEnd}
 use Rattle.rh_shell.specs.Rules.{Rules}
-use Rattle.rh_shell.specs.Shells.{Shell, end_at}
+use Rattle.rh_shell.specs.Shells.{Shell, end_at, same_leg}
 use Rattle.law_moves.specs.Moves.{is_at_work}
 use Rattle.law_moves.specs.Moving.{Event, Ends, Breaks, after_event}
 
@@ -21,6 +21,12 @@ MayLose rules node leg =
 -- the same rules, by which these legs are only marked
 abbrev pub marking : {S : Type 0} → Rules S → (S → Leg → Bool) → Rules S
 marking rules marks = record rules { only_marks = marks }
+
+-- the event doesn't lose the leg
+abbrev pub KeepsLeg : Leg → Event → Type 0
+KeepsLeg leg (Ends other) = same_leg other leg ≡ false
+KeepsLeg leg (Breaks other) = same_leg other leg ≡ false
+KeepsLeg leg event = Unit {0}
 
 -- where the event loses a leg, both say the same of it
 abbrev pub AgreeOn : {S : Type 0} → Rules S → (S → Leg → Bool) → S → Event → Type 0

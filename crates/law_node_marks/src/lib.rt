@@ -14,7 +14,9 @@ pub use in_proxy::{
 };
 pub use losing::{a_node_goes_by_rules_that_mark_the_same, a_node_goes_on_where_it_may_lose_a_leg};
 pub use out_proxy::{
-    an_out_proxy_is_over_behind_its_mark, no_end_closes_an_out_proxy_behind_its_mark,
+    an_out_proxy_is_over_behind_its_mark,
+    an_out_proxy_that_kept_its_server_is_over_behind_its_mark,
+    no_end_closes_an_out_proxy_behind_its_mark,
 };
 pub use server::{
     no_end_of_a_leg_that_is_over_closes_a_server,

@@ -14,15 +14,17 @@ ghost use Rattle.rh_outproxy.specs.Machine.{rules};
 ghost use Rattle.rh_outproxy.specs.OutProxy.{new_proxy};
 ghost use Rattle.law_moves.specs.Moves.{AreAllowed, Move, all_moved, is_at_work, started};
 ghost use Rattle.law_moves.specs.Moving.{Event, after_events};
-ghost use Rattle.law_role_outproxy.specs.Order.{came_log, put_items};
+ghost use Rattle.law_role_outproxy.specs.Order.{came_log, put_items, server_leg};
 ghost use Rattle.law_role_marks.specs.Marking.{has_passed};
 ghost use Rattle.law_role_marks.specs.Marks.{marks_client};
 ghost use Rattle.law_node_streams.specs.Streams.{Stream};
 ghost use Rattle.law_node_ends.specs.Passed.{AsksNoEcho, HeadsAre};
-ghost use Rattle.law_node_marks.specs.Losing.{marking};
+ghost use Rattle.law_node_marks.specs.Losing.{KeepsLeg, marking};
 
+use law_moves::roles_move_by_their_rules;
 use law_role_marks::an_out_proxy_only_marks_behind_a_mark;
 use law_role_outproxy::an_out_proxy_keeps_order;
+use rh_outproxy::OutProxyRole;
 
 /// An out proxy that loses no leg but that to its client, and is asked for no echo, is done only
 /// once it put OUT_R1/A10, for OUT_R1/A9 that came.
@@ -36,6 +38,21 @@ pub fn an_out_proxy_is_over_behind_its_mark()
         × (has_handover (came_log p.came config.number) ≡ true)) }
 {
     an_out_proxy_keeps_order();
+}
+
+/// Whatever happens at the node of an out proxy that is asked for no echo, but that it is told that
+/// its leg to the server is lost: it is done only once it put OUT_R1/A10, for OUT_R1/A9 that came.
+pub fn an_out_proxy_that_kept_its_server_is_over_behind_its_mark()
+    ensures { (config : OutProxyConfig) (pipe : Leg → Option Pipe) (events : List Event)
+        (stream : Stream rules (new_proxy config) ROOMS pipe events)
+        → AllByRecursion (HeadsAre (AsksNoEcho false)) stream.leads.moves
+        → AllByRecursion (KeepsLeg (server_leg config.number)) events
+        → is_at_work rules (after_events rules (begun (new_proxy config) ROOMS) events).role ≡ false
+        → (has_handover (put_items config.number stream.passage.put) ≡ true)
+        × (has_handover (came_log stream.passage.came config.number) ≡ true) }
+{
+    an_out_proxy_keeps_order();
+    roles_move_by_their_rules::<OutProxyRole>();
 }
 
 /// Whatever happens at the node of an out proxy: once it put OUT_R1/A10 or END/B2, no end of a leg
