@@ -2,6 +2,7 @@
 use Rattle.rh_text.specs.declared.ends.Side.TheVariants as side
 use Rattle.law_order.proofs.Vocabulary.{◌≡◌, ◌≢◌, ◌⊎◌, inl, inr, ◌<◌, ℕ, zero, suc, List, Bool, true, false, true≢false, arith, refl, sym, ap, ◌∙◌, subst, list_all, IsPrefix, lt-ltb, reader}
 use Rattle.rh_inproxy.specs.Machine as in_proxy
+use Rattle.rh_outproxy.specs.Machine as out_proxy
 use Rattle.law_moves.proofs.Vocabulary.{U, prefix_self, Leg, is_in_use}
 use Rattle.law_role_inproxy.proofs.Vocabulary.{InProxy}
 use Rattle.law_role_inproxy.specs.Order as in_order
@@ -20,7 +21,7 @@ use Rattle.law_world_ways.proofs.ExactPaths.AtFronts as worlds
 use Rattle.law_world_ways.proofs.ExactPaths.UpLegs.{far_came, near_came}
 use Rattle.law_world_ways.specs.EndsInTime.InTime.{AllEndInTime}
 use Rattle.law_world_ways.specs.OnPaths.Legs.{has_passed, was_up}
-use Rattle.law_world_ways.specs.OnPaths.Ways.{AreOnTheirWay, in_node}
+use Rattle.law_world_ways.specs.OnPaths.Ways.{AreOnTheirWay, in_node, out_node}
 use Rattle.law_world_ways.specs.ExactPaths.GoingOn.{AllGoOn}
 use Rattle.law_world_ways.specs.ExactPaths.Over.{IsOverUpwards, PassesWhereOver}
 
@@ -95,6 +96,12 @@ module _ {K : Type 0} (m : Makers K InProxy OutProxy) (w : OurWorld K) (new : Is
           came)
       by (inr unused) = inr unused
 
+  unused : (n : ℕ) → IsOverUpwards rules v h (os n)
+      → is_in_use out_proxy.rules (out_node (numbers_of ours) h n).role (os n) ≡ false
+  unused n over =
+      worlds.out_unused m w new ours node law changes allowed works going changes all n (os n)
+      (over_parts rules v h (os n) over).0 (rose (os n) over) (over.untold side.Client)
+
   pub passes_where_over : PassesWhereOver (numbers_of ours) v h
   passes_where_over = record {
     ways = ways;
@@ -114,9 +121,8 @@ module _ {K : Type 0} (m : Makers K InProxy OutProxy) (w : OurWorld K) (new : Is
           (law.out_echoes v
           (worlds.by_front m w new ours node law changes allowed works going changes all) n
           (ways.directions.down.proxies n))
-          (worlds.out_unused m w new ours node law changes allowed works going changes all n
-          (os n) (over_parts rules v h (os n) over).0 (rose (os n) over)
-          (over.untold side.Client));
+          (unused n over);
+      out_done = unused;
       ins = ins;
       in_servers = λ n over.
           let is_there = made n (rose (is n) over) in
