@@ -1,13 +1,16 @@
 -- where the end nearer the client has finished a leg, the node that loses it goes on
 use Rattle.std.specs.List.{AllByRecursion}
-use Rattle.law_order.proofs.Vocabulary.{◌≡◌, ◌⊎◌, inl, inr, ◌<◌, ◌≤◌, ◌&&◌, ◌∙◌, ℕ, Bool, true, false, true≢false, not, List, [], refl, sym, ap, subst, Option, cases_lt, lt-ltb, arith, IsPrefix, IsRoute, Route, has_end, has_handover}
+use Rattle.rh_text.specs.declared.ends.Side.TheVariants as side
+use Rattle.law_order.proofs.Vocabulary.{◌≡◌, ◌⊎◌, inl, inr, ◌<◌, ◌&&◌, ◌∙◌, if◌then◌else◌, ℕ, Bool, true, false, true≢false, not, List, [], ◌∷◌, refl, sym, ap, subst, Option, lt-ltb, IsRoute, Route, has_end, has_handover}
+use Rattle.rh_shell.specs.declared.answers.Phase.TheVariants as phases
 use Rattle.rh_inproxy.specs.Machine as in_proxy
 use Rattle.rh_inproxy.specs.State as in_state
 use Rattle.rh_outproxy.specs.Machine as out_proxy
+use Rattle.rh_outproxy.specs.OutProxy.{is_over, is_server_down}
 use Rattle.rh_server.specs.Servers as server
 use Rattle.rh_server.specs.States.{is_put}
 use Rattle.rh_window.specs.Sides.{IsWindow}
-use Rattle.law_moves.proofs.Vocabulary.{nil_back, spelled, Going, Leg, Pipe, Shell, ended, begun, Passage, Move, AreAllowed, all_moved, started, of_leg, is_ended, is_in_use, Event, EndEvent, after_events, after_end_events}
+use Rattle.law_moves.proofs.Vocabulary.{neither, nil_back, spelled, Going, Leg, Pipe, Shell, ended, begun, Passage, Move, AreAllowed, all_moved, started, of_leg, is_at_work, is_ended, is_in_use, Event, ComesUp, Hears, Ends, Breaks, Draws, Ticks, EndEvent, after_events, after_end_events}
 use Rattle.law_role_inproxy.proofs.Vocabulary.{InProxyConfig, InProxy}
 use Rattle.law_role_inproxy.specs.Order as in_order
 use Rattle.law_role_client.proofs.Vocabulary.{ClientRole, has_leg}
@@ -21,12 +24,13 @@ use Rattle.law_node_ends.specs.Passed.{AsksNoEcho, HeadsAre}
 use Rattle.law_node_begins.specs.ProxiesBegin.Pipes.{ci, co, in_pipe, is, os}
 use Rattle.law_node_traces.proofs.Vocabulary.{rules}
 use Rattle.law_peers_routes.specs.Downwards.{proxy_reads, server_reads}
-use Rattle.law_node_marks.specs.Losing.{DrewAll, MayLose}
+use Rattle.law_node_marks.specs.Losing.{DrewAll, KeepsLeg, MayLose}
 use Rattle.law_world_order.proofs.Vocabulary.{Numbers, down_route_of}
+use Rattle.law_world_ways.specs.OnPaths.Lost.{is_loss_of, was_lost}
 use Rattle.law_world_ways.specs.OnPaths.Ways.{AreOnTheirWay, in_node, out_node, server_node}
 use Rattle.law_world_ways.specs.ExactPaths.GoingOn.{AllGoOn}
 use Rattle.law_world_ways.specs.ExactPaths.Over.{HavePassed, IsOverUpwards}
-use Rattle.law_world_marks.proofs.Marked.{either, end_more, handover_more, of_there, passed_more}
+use Rattle.law_world_marks.proofs.Marked.{either, handover_more, of_there, passed_more}
 use Rattle.law_world_marks.specs.GoingOn.{GoOnWhereOver}
 
 -- ---- the laws that this stands on
@@ -49,6 +53,14 @@ pub record MarksLaws : Type 0 where
       → of_leg (ci n) (all_moved in_proxy.rules (started (in_state.first config)) moves).put ≡ []
   pub may_lose : (node : Shell InProxy) (leg : Leg) → MayLose in_proxy.rules node leg
       → (ended in_proxy.rules node leg).0.course ≡ node.course
+  pub kept : (config : OutProxyConfig) (pipe : Leg → Option Pipe) (events : List Event)
+      (stream : Stream out_proxy.rules (new_proxy config) ROOMS pipe events)
+      → AllByRecursion (HeadsAre (AsksNoEcho false)) stream.leads.moves
+      → AllByRecursion (KeepsLeg (os config.number)) events
+      → is_at_work out_proxy.rules
+      (after_events out_proxy.rules (begun (new_proxy config) ROOMS) events).role ≡ false
+      → (has_handover (out_order.put_items config.number stream.passage.put) ≡ true)
+      × (has_handover (out_order.came_log stream.passage.came config.number) ≡ true)
   pub handed : (window : ℕ) (pipe : Leg → Option Pipe) (events : List EndEvent)
       (stream : EndStream server.rules server.acts (server.first window) server.rooms pipe events)
       (n : ℕ) → has_handover (sent stream.passage n) ≡ true
@@ -69,6 +81,41 @@ pub record MarksLaws : Type 0 where
       (server.rules.is_done node.role (is n) ≡ true → DrewAll node (is n))
       → (ended server.rules node (is n)).0.course ≡ node.course)
 
+-- ---- legs that are not lost
+
+one_keeps : (leg : Leg) (event : Event) → is_loss_of leg event ≡ false → KeepsLeg leg event
+one_keeps leg (Ends other) e = e
+one_keeps leg (Breaks other) e = e
+one_keeps leg (ComesUp other cookie) e = tt
+one_keeps leg (Hears other piece) e = tt
+one_keeps leg (Draws other room) e = tt
+one_keeps leg (Ticks now) e = tt
+
+all_keep : (leg : Leg) (events : List Event) → was_lost leg events ≡ false
+    → AllByRecursion (KeepsLeg leg) events
+all_keep leg [] e = tt
+all_keep leg (event ∷ events) e =
+    let both = neither (is_loss_of leg event) (was_lost leg events) e in
+    (one_keeps leg event both.0, all_keep leg events both.1)
+
+-- an out proxy that has no use for a leg is done
+out_rests : (s : OutProxy) (leg : Leg) → is_in_use out_proxy.rules s leg ≡ false
+    → is_at_work out_proxy.rules s ≡ false
+out_rests s leg = by (is_over s)
+  where
+    alone : (a : Bool) → (a && true) ≡ false → a ≡ false
+    alone true e = absurd (true≢false e)
+    alone false e = refl
+
+    by : (b : Bool)
+        → (not (is_ended (if b then phases.Ended
+        else (if is_server_down s.server then phases.Opening else phases.Open))) && not b) ≡ false
+        → not (is_ended (if b then phases.Ended
+        else (if is_server_down s.server then phases.Opening else phases.Open))) ≡ false
+    by true e = refl
+    by false e =
+        alone (not (is_ended (if is_server_down s.server then phases.Opening else phases.Open))) e
+
 -- ---- at a moment
 
 module _ (law : MarksLaws) {K : Type 0} (numbers : Numbers)
@@ -77,6 +124,8 @@ module _ (law : MarksLaws) {K : Type 0} (numbers : Numbers)
     (route : IsRoute (down_route_of ways.directions)) (window : IsWindow numbers.window)
     (heads : (n : ℕ)
     → AllByRecursion (HeadsAre (AsksNoEcho true)) (ways.directions.up.proxies n).leads.moves)
+    (out_heads : (n : ℕ)
+    → AllByRecursion (HeadsAre (AsksNoEcho false)) (ways.directions.down.proxies n).leads.moves)
   where
     abbrev r : Route
     r = down_route_of ways.directions
@@ -147,44 +196,24 @@ module _ (law : MarksLaws) {K : Type 0} (numbers : Numbers)
     -- ---- legs of the server
 
     out_servers : (n : ℕ) → 0 < n → IsOverUpwards rules v h (os n)
-        → is_put (server_node numbers h).role.end_mark ≡ false
         → (ended server.rules (server_node numbers h) (os n)).0.course ≡ Going
-    out_servers n some over unput =
-        by (either (has_handover (r.came n n)) (has_end (r.came n n)) (passed.out_servers n over))
+    out_servers n some over =
+        law.handed numbers.window server_reads h.server ways.directions.down.giver n
+        (handover_more (r.came n n) (r.sent n) (route.near n n (lt-ltb 0 n some)) came)
+        ∙ going.server
       where
-        near : IsPrefix (r.came n n) (r.sent n)
-        near = route.near n n (lt-ltb 0 n some)
+        keeps : AllByRecursion (KeepsLeg (os (numbers.outs n).number)) (h.outs n)
+        keeps =
+            subst (λ (k : ℕ). AllByRecursion (KeepsLeg (os k)) (h.outs n))
+            (sym (ways.directions.down.numbered n))
+            (all_keep (os n) (h.outs n) (over.untold side.Client))
 
-        gave : has_handover (r.sent n) ≡ true
-            → (ended server.rules (server_node numbers h) (os n)).0.course ≡ Going
-        gave handed =
-            law.handed numbers.window server_reads h.server ways.directions.down.giver n handed
-            ∙ going.server
-
-        not_put : has_end (r.sent r.giver.writing) ≡ true → ⊥
-        not_put ended =
-            true≢false (sym (route.giver.end_put ∙ ended)
-            ∙ ap (λ (s : Server). is_put s.end_mark) ways.directions.down.giver.role ∙ unput)
-
-        on : has_end (r.sent n) ≡ true → (n < r.giver.writing) ⊎ (r.giver.writing ≤ n)
-            → (r.giver.writing < n) ⊎ (n ≤ r.giver.writing)
-            → (ended server.rules (server_node numbers h) (os n)).0.course ≡ Going
-        on ended (inl less) other = gave (route.giver.handed n some less)
-        on ended (inr from) (inl above) =
-            absurd (true≢false (sym ended ∙ ap has_end (route.giver.later n above)))
-        on ended (inr from) (inr upto) =
-            absurd (not_put (subst (λ (k : ℕ). has_end (r.sent k) ≡ true)
-            (same n r.giver.writing from upto) ended))
-          where
-            same : (a b : ℕ) → b ≤ a → a ≤ b → a ≡ b
-            same a b p q = omega (arith, p, q)
-
-        by : (has_handover (r.came n n) ≡ true) ⊎ (has_end (r.came n n) ≡ true)
-            → (ended server.rules (server_node numbers h) (os n)).0.course ≡ Going
-        by (inl handed) = gave (handover_more (r.came n n) (r.sent n) near handed)
-        by (inr ended) =
-            on (end_more (r.came n n) (r.sent n) near ended) (cases_lt n r.giver.writing)
-            (cases_lt r.giver.writing n)
+        came : has_handover (r.came n n) ≡ true
+        came =
+            subst (λ (k : ℕ). has_handover (r.came n k) ≡ true) (ways.directions.down.numbered n)
+            (law.kept (numbers.outs n) (proxy_reads (numbers.outs n)) (h.outs n)
+            (ways.directions.down.proxies n) (out_heads n) keeps
+            (out_rests (out_node numbers h n).role (os n) (passed.out_done n over))).1
 
     abbrev stream : EndStream server.rules server.acts (server.first numbers.window) server.rooms
         server_reads h.server

@@ -1,5 +1,5 @@
 -- nodes that go on though a leg ends that the end nearer the client has finished (profile)
-use Rattle.std.specs.Prelude.{◌≡◌, ◌<◌, ℕ, true, false}
+use Rattle.std.specs.Prelude.{◌≡◌, ◌<◌, ℕ, true}
 use Rattle.rh_line.specs.declared.leg.Leg.{Leg}
 use Rattle.rh_shell.specs.declared.course.Course.TheVariants.{Going}
 use Rattle.rh_shell.specs.Shells.{ended}
@@ -29,11 +29,10 @@ pub record GoOnWhereOver {K : Type 0} (numbers : Numbers)
   pub ins : (n : ℕ) → 0 < n → IsOverUpwards rules v h (ci n)
       → (ended in_proxy.rules (in_node numbers h (reader_of v.readers n)) (ci n)).0.course
       ≡ Going
-  -- the server, unless it put END/B1
+  -- the server, where an os leg ends
   pub out_servers : (n : ℕ) → 0 < n → IsOverUpwards rules v h (os n)
-      → is_put (server_node numbers h).role.end_mark ≡ false
       → (ended server.rules (server_node numbers h) (os n)).0.course ≡ Going
-  -- and once it did, where it drew all of a leg that it is done with
+  -- and where an is leg does, once it put END/B1, and drew all of a leg that it is done with
   pub in_servers : (n : ℕ) → IsOverUpwards rules v h (is n)
       → (let node = server_node numbers h in is_put node.role.end_mark ≡ true
       → (server.rules.is_done node.role (is n) ≡ true → DrewAll node (is n))

@@ -17,6 +17,7 @@ ghost use Rattle.law_world_marks.specs.GoingOn.{GoOnWhereOver};
 
 use law_node_marks::{
     a_node_goes_on_where_it_may_lose_a_leg, an_in_proxy_puts_nothing_to_its_client,
+    an_out_proxy_that_kept_its_server_is_over_behind_its_mark,
     no_end_closes_an_out_proxy_behind_its_mark,
     no_end_of_a_ci_leg_closes_an_in_proxy_behind_a_mark,
     no_end_of_a_leg_that_is_over_closes_a_server,
@@ -47,6 +48,7 @@ pub fn nodes_go_on_where_legs_are_over_upwards<K>()
     no_end_of_a_ci_leg_closes_an_in_proxy_behind_a_mark();
     an_in_proxy_puts_nothing_to_its_client();
     a_node_goes_on_where_it_may_lose_a_leg::<InProxyRole>();
+    an_out_proxy_that_kept_its_server_is_over_behind_its_mark();
     no_end_of_a_leg_that_it_handed_over_closes_a_server();
     no_end_of_a_leg_that_was_handed_over_closes_a_server();
     no_end_of_a_leg_that_is_over_closes_a_server();

@@ -17,6 +17,8 @@ returns g c = λ m w new ours ranges port v ends going.
     h.server h.outs directions.down) ranges.window
     (λ n. c.no_head_that_comes_asks_for_an_echo.ensures.ins m w new ours ranges port v
     (lines_by_changes rules m deeds w v ends.lines) n (directions.up.proxies n))
+    (λ n. c.no_head_that_comes_asks_for_an_echo.ensures.outs m w new ours ranges port v
+    (lines_by_changes rules m deeds w v ends.lines) n (directions.down.proxies n))
   where
     law : MarksLaws
     law = record {
@@ -24,6 +26,7 @@ returns g c = λ m w new ours ranges port v ends going.
       in_goes = c.no_end_of_a_ci_leg_closes_an_in_proxy_behind_a_mark.ensures;
       unput = c.an_in_proxy_puts_nothing_to_its_client.ensures;
       may_lose = c.a_node_goes_on_where_it_may_lose_a_leg.ensures;
+      kept = c.an_out_proxy_that_kept_its_server_is_over_behind_its_mark.ensures;
       handed = c.no_end_of_a_leg_that_it_handed_over_closes_a_server.ensures;
       was_handed = c.no_end_of_a_leg_that_was_handed_over_closes_a_server.ensures;
       was_ended = c.no_end_of_a_leg_that_is_over_closes_a_server.ensures;
