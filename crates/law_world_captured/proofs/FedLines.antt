@@ -10,7 +10,8 @@ use Rattle.rh_company.specs.Company as company
 use Rattle.rh_nodes.specs.Time.{at_moment}
 use Rattle.rh_nodes.specs.World.{tell}
 use Rattle.law_moves.proofs.Vocabulary.{Dir, Side, Leg}
-use Rattle.law_node_history.proofs.Connecting.{connects_open_leg, connects_open_same}
+use Rattle.law_node_history.proofs.Connecting.{joins_open_leg, joins_open_same}
+use Rattle.law_node_history.proofs.Drawing.{stands}
 use Rattle.law_node_history.proofs.Vocabulary.{Answer, Who, Line, sender, receiver, Event, Ends, Breaks, Passes, Rulebook, is_up, lost, lose, refuse, break_leg, end_leg, send, sent, draw_into, feed, fed, Deeds, Makers, open_leg, open_same, reported, ending_answer, leg_answer, answer_of, tick, tick_all, tick_ins, tick_outs, World, at, IsTold, IsFed, IsDrawn, GoesDown, MovesTo, Gives, Takes, Closes, RecyclesIn, RecyclesOut, HasUp, MayBeTold}
 use Rattle.law_node_history.proofs.Working.{works_one}
 use Rattle.law_world_captured.specs.Moved.{moved_by}
@@ -102,6 +103,7 @@ module _ {K C S I O : Type 0} (r : Rulebook C S I O) (m : Makers K I O) (d : Dee
           else (w, None))
       by true e = record {
         by = works_one r m d w (IsFed leg dir count) e refl;
+        drawn = stands r m d w;
         fed = λ other way.
             sym (append-nil (moved_by other way
             (answer.Move (Some leg) dir (Some (legs.take_out leg dir count w.legs).1))));
@@ -158,9 +160,9 @@ module _ {K C S I O : Type 0} (r : Rulebook C S I O) (m : Makers K I O) (d : Dee
   leg_tells w (line.Send (Some leg) dir count) = send_dry w leg dir count
   leg_tells w (line.Move (Some leg) dir count) = feed_feeds w leg dir count
   leg_tells w (line.OpenLeg leg) =
-      dry_connecting r m d w (open_leg r m w leg).0 (connects_open_leg r m d w leg)
+      dry_connecting r m d w (open_leg r m w leg).0 (joins_open_leg r m d w leg)
   leg_tells w (line.OpenSame leg) =
-      dry_connecting r m d w (open_same r w leg).0 (connects_open_same r m d w leg)
+      dry_connecting r m d w (open_same r w leg).0 (joins_open_same r m d w leg)
   leg_tells w one = ending_tells w one
 
   answer_tells : (w : World K C S I O) (one : Line) → Answers w (answer_of r m d w one)

@@ -7,7 +7,7 @@ use Rattle.rh_record.specs.declared.answer.TakeAnswer.TheVariants as takes
 use Rattle.rh_record.specs.declared.line.Line.TheVariants as line
 use Rattle.rh_shell.specs.Shells.{same_leg}
 use Rattle.law_moves.proofs.Vocabulary.{Dir, Side, Leg}
-use Rattle.law_node_history.proofs.Connecting.{connects_open_leg, connects_open_same}
+use Rattle.law_node_history.proofs.Connecting.{joins_open_leg, joins_open_same}
 use Rattle.law_node_history.proofs.Rounds.{carries_go, ends_go, opens_go, rounds_go}
 use Rattle.law_node_history.proofs.Vocabulary.{Line, Closing, lines, Rulebook, Deeds, Makers, end_leg, send, feed, take, has_ended, open_leg, open_same, opened, opened_same, open_all, most_bytes, carry_bytes, carried, carry_all, took, take_one, end_all, settle, step, step_line, tell_closed, World, Takes, Reports}
 use Rattle.law_world_captured.specs.Moved.{moved_by, moved_on, same_dir}
@@ -29,9 +29,9 @@ module _ {K C S I O : Type 0} (r : Rulebook C S I O) (m : Makers K I O) (d : Dee
   opens =
       opens_go r m d (Goes r m d) (goes_none r m d) (goes_behind r m d)
       (λ w leg. opened_goes w leg (open_leg r m w leg)
-      (dry_connecting r m d w (open_leg r m w leg).0 (connects_open_leg r m d w leg)))
+      (dry_connecting r m d w (open_leg r m w leg).0 (joins_open_leg r m d w leg)))
       (λ w leg. opened_same_goes w leg (open_same r w leg)
-      (dry_connecting r m d w (open_same r w leg).0 (connects_open_same r m d w leg)))
+      (dry_connecting r m d w (open_same r w leg).0 (joins_open_same r m d w leg)))
 
   carried_goes : (w : World K C S I O) (leg : Leg) (dir : Dir)
       (did : World K C S I O × Option (List ℕ)) → FeedsOn r m d w leg dir did
@@ -39,6 +39,7 @@ module _ {K C S I O : Type 0} (r : Rulebook C S I O) (m : Makers K I O) (d : Dee
   carried_goes w leg dir (v, None) a = a
   carried_goes w leg dir (v, Some []) a = record {
     by = a.by;
+    drawn = a.drawn;
     fed = λ other way.
         by_test (λ (l : List ℕ). [] ≡ l) (same_leg leg other && same_dir dir way) [] []
         (λ e. refl) (λ e. refl)
@@ -99,7 +100,11 @@ module _ {K C S I O : Type 0} (r : Rulebook C S I O) (m : Makers K I O) (d : Dee
   tell_goes : (w : World K C S I O) → Goes r m d w (tell_closed w)
   tell_goes w =
       let a = dry_one r m d w Reports tt refl (λ leg dir. refl) in
-      record { by = a.by; fed = λ leg dir. closings_move leg dir w.closed ∙ a.fed leg dir }
+      record {
+        by = a.by;
+        drawn = a.drawn;
+        fed = λ leg dir. closings_move leg dir w.closed ∙ a.fed leg dir;
+      }
 
   pub step_goes : (one : Line) (w : World K C S I O) → Goes r m d w (step r m d one w)
   step_goes one w =

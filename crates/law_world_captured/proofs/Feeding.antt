@@ -1,8 +1,9 @@
 -- changes of lines, and the bytes that they feed
-use Rattle.law_order.proofs.Vocabulary.{◌≡◌, ◌++◌, ℕ, zero, suc, List, [], ◌∷◌, true, refl, sym, ap, ap₂, ◌∙◌, append_assoc, append-nil, and_parts, list_all}
+use Rattle.law_order.proofs.Vocabulary.{◌≡◌, ◌++◌, ℕ, zero, suc, List, [], ◌∷◌, true, refl, sym, ap, ap₂, ◌&&◌, ◌∙◌, append_assoc, append-nil, and_parts, list_all}
 use Rattle.law_moves.proofs.Vocabulary.{Dir, Leg}
 use Rattle.law_node_history.proofs.Connecting.{connects, quiet_connects}
-use Rattle.law_node_history.proofs.Vocabulary.{Answer, Rulebook, Deeds, Makers, and_then, for_each, World, Change, GoesUp, OpensIn, OpensOut, OpensSame, Draws, MayChange, WorksBy, ByLines, all_changed, changed, of_line}
+use Rattle.law_node_history.proofs.Drawing.{draws_then, is_steady, stands, steady_is_still}
+use Rattle.law_node_history.proofs.Vocabulary.{Answer, Rulebook, Deeds, Makers, and_then, for_each, World, Change, GoesUp, OpensIn, OpensOut, OpensSame, Draws, MayChange, AreDrawnFor, DrawsBy, ByLines, all_changed, all_risen, changed, of_line}
 use Rattle.law_node_history.proofs.Working.{all_wider, quiet_work, work_of_line, works_none, works_one, works_then}
 use Rattle.law_world_captured.specs.Fed.{all_fed, fed_there}
 use Rattle.law_world_captured.specs.Moved.{moved_by, moved_on}
@@ -40,6 +41,7 @@ module _ {K C S I O : Type 0} (r : Rulebook C S I O) (m : Makers K I O) (d : Dee
   -- changes of lines feed what is told
   pub record Feeds (told : Leg → Dir → List ℕ) (w v : World K C S I O) : Type 0 where
     pub by : ByLines r m d w v
+    pub drawn : AreDrawnFor (all_risen by.leads.changes) w.cookies v.cookies
     pub fed : (leg : Leg) (dir : Dir)
         → told leg dir ≡ all_fed r m d w leg dir by.leads.changes
 
@@ -47,6 +49,8 @@ module _ {K C S I O : Type 0} (r : Rulebook C S I O) (m : Makers K I O) (d : Dee
       → Feeds more v u → Feeds (λ leg dir. told leg dir ++ more leg dir) w u
   feeds_then told more w v u a b = record {
     by = works_then r m d w v u a.by b.by;
+    drawn = (draws_then r m d w v u (record { works = a.by; drawn = a.drawn })
+        (record { works = b.by; drawn = b.drawn })).drawn;
     fed = λ leg dir.
         ap₂ (λ (front rest : List ℕ). front ++ rest) (a.fed leg dir) (b.fed leg dir)
         ∙ ap (λ (x : World K C S I O). all_fed r m d w leg dir a.by.leads.changes
@@ -60,13 +64,15 @@ module _ {K C S I O : Type 0} (r : Rulebook C S I O) (m : Makers K I O) (d : Dee
   Dry w v = Feeds (λ leg dir. []) w v
 
   pub dry_none : (w : World K C S I O) → Dry w w
-  dry_none w = record { by = works_none r m d w; fed = λ leg dir. refl }
+  dry_none w =
+      record { by = works_none r m d w; drawn = stands r m d w; fed = λ leg dir. refl }
 
   pub dry_one : (w : World K C S I O) (change : Change) → MayChange r w change
-      → of_line change ≡ true → ((leg : Leg) (dir : Dir) → fed_there w leg dir change ≡ [])
+      → (is_steady change && of_line change) ≡ true → ((leg : Leg) (dir : Dir) → fed_there w leg dir change ≡ [])
       → Dry w (changed r m d w change)
   dry_one w change may is none = record {
-    by = works_one r m d w change may is;
+    by = works_one r m d w change may (and_parts (is_steady change) (of_line change) is).1;
+    drawn = steady_is_still r m d w change (and_parts (is_steady change) (of_line change) is).0;
     fed = λ leg dir. ap (λ (bytes : List ℕ). bytes ++ []) (sym (none leg dir));
   }
 
@@ -90,14 +96,16 @@ module _ {K C S I O : Type 0} (r : Rulebook C S I O) (m : Makers K I O) (d : Dee
       ∙ ap (λ (bytes : List ℕ). bytes ++ all_fed r m d v leg dir cs)
       (sym (connects_feed w leg dir c parts.0))
 
-  pub dry_connecting : (w v : World K C S I O) → WorksBy connects r m d w v → Dry w v
+  pub dry_connecting : (w v : World K C S I O) → DrawsBy connects r m d w v → Dry w v
   dry_connecting w v a = record {
     by = record {
-      leads = a.leads;
+      leads = a.works.leads;
       work = all_wider connects of_line
-          (λ c is. work_of_line c (quiet_work c (quiet_connects c is))) a.leads.changes a.work;
+          (λ c is. work_of_line c (quiet_work c (quiet_connects c is))) a.works.leads.changes
+          a.works.work;
     };
-    fed = λ leg dir. all_connect w leg dir a.leads.changes a.work;
+    drawn = a.drawn;
+    fed = λ leg dir. all_connect w leg dir a.works.leads.changes a.works.work;
   }
 
   -- ---- what was done is answered
@@ -117,6 +125,7 @@ module _ {K C S I O : Type 0} (r : Rulebook C S I O) (m : Makers K I O) (d : Dee
       (λ leg dir. moved_on leg dir next.1) w did.0 next.0 a (b did.0) in
       record {
         by = all.by;
+        drawn = all.drawn;
         fed = λ leg dir. moved_append leg dir did.1 next.1 ∙ all.fed leg dir;
       }
 
@@ -125,5 +134,6 @@ module _ {K C S I O : Type 0} (r : Rulebook C S I O) (m : Makers K I O) (d : Dee
       → Feeds (λ leg dir. moved_by leg dir one) w v → Goes w (v, one ∷ [])
   goes_one w v one a = record {
     by = a.by;
+    drawn = a.drawn;
     fed = λ leg dir. append-nil (moved_by leg dir one) ∙ a.fed leg dir;
   }

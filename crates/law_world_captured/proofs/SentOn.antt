@@ -1,9 +1,8 @@
 -- what moved on each leg is of what was put there
-use Rattle.law_order.proofs.Vocabulary.{◌≡◌, ℕ, Bool, true, false, List, [], ◌∷◌, inl, inr, ◌⊎◌, refl, sym, ap, ◌∙◌, subst, AllByRecursion, Some, None, Option, IsPrefix}
+use Rattle.law_order.proofs.Vocabulary.{◌≡◌, ℕ, false, List, inl, inr, refl, sym, ap, subst, AllByRecursion, Some, Option, IsPrefix}
 use Rattle.law_order.proofs.Prefixes.{prefix_trans}
 use Rattle.rh_record.specs.declared.answer.Who.TheVariants as who
 use Rattle.rh_inproxy.specs.Machine as in_proxy
-use Rattle.rh_inproxy.specs.State as in_state
 use Rattle.rh_outproxy.specs.Machine as out_proxy
 use Rattle.rh_client.specs.Client as client
 use Rattle.rh_server.specs.Servers as server

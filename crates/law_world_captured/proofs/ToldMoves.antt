@@ -39,6 +39,7 @@ is_behind (one ∷ lines) w =
       is = rest.is;
       feeds = record {
         by = both.by;
+        drawn = both.drawn;
         fed = λ leg dir. moved_append leg dir did.1 more ∙ both.fed leg dir;
       };
     }
@@ -57,6 +58,7 @@ module _ (known : (config : WorldConfig) (world : roles.World)
     config = config;
     ranges = ranges;
     by = a.by;
+    drawn = a.drawn;
     moved = λ leg dir.
         a.fed leg dir
         ∙ fed_is roles.rules roles.makers roles.deeds (roles.begun config) a.by.leads.changes _

@@ -12,6 +12,7 @@ use Rattle.rh_world.specs.Any.{after, answers}
 use Rattle.rh_world.specs.Config.{AreInRange}
 use Rattle.rh_world.specs.Roles as roles
 use Rattle.law_node_history.specs.Carried.{end_node}
+use Rattle.law_node_history.specs.Drawn.{AreDrawnFor, all_risen}
 use Rattle.law_world_reports.specs.ToldHistories.{IsLedTo, history_of}
 use Rattle.law_world_captured.specs.Moved.{moved_on}
 
@@ -21,6 +22,9 @@ pub record TellsMoves (answered : List Answer) (world : roles.World) : Type 0 wh
   pub config : WorldConfig
   pub ranges : AreInRange config
   pub by : IsLedTo config world
+  -- each leg of the client came up with a cookie that was drawn for it
+  pub drawn : AreDrawnFor (all_risen by.leads.changes) (roles.begun config).cookies
+      world.cookies
   pub moved : (leg : Leg) (dir : Dir)
       → moved_on leg dir answered
       ≡ (history_of config world by).fed (end_node world.readers leg (receiver dir)) leg
