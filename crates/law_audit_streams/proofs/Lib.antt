@@ -3,3 +3,4 @@ pub mod HeadFronts
 pub mod FrameFronts
 pub mod FineTexts
 pub mod Messages
+pub mod NoBytes

@@ -8,6 +8,7 @@ ghost use Rattle.rh_http.specs.declared.refusal.Refusal.{Refusal};
 ghost use Rattle.rh_http.specs.Texts.{refusal_text};
 ghost use Rattle.rh_sig.specs.declared.name.Pipe.{Pipe};
 ghost use Rattle.rh_sig.specs.declared.name.Pipe.TheVariants.{CoD};
+ghost use Rattle.rh_audit.specs.Streams.{stream, stream_is};
 ghost use Rattle.law_audit_streams.specs.Texts.{IsFineText};
 ghost use Rattle.law_audit_streams.specs.Whole.{AllStand, IsFrontOf};
 
@@ -23,4 +24,9 @@ pub fn no_front_is_broken()
 pub fn refusals_are_no_frames()
     ensures { (refusal : Refusal) (bytes : List ℕ) → IsPrefix bytes (refusal_text refusal)
         → IsFrontOf CoD [] bytes }
+{}
+
+/// And where no bytes are, there is no frame.
+pub fn no_bytes_are_no_frames()
+    ensures { (pipe : Pipe) → stream pipe [] ≡ stream_is [] None }
 {}
