@@ -7,3 +7,6 @@ pub mod FedAtEnds
 pub mod ToldMoves
 pub mod SentOn
 pub mod SentRecorded
+pub mod Beginnings
+pub mod Streamed
+pub mod StreamsRecorded

@@ -3,3 +3,4 @@ pub mod Tagged
 pub mod Fed
 pub mod ToldMoves
 pub mod Sent
+pub mod Streams

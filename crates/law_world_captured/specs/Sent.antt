@@ -23,12 +23,13 @@ use Rattle.rh_world.specs.declared.any_world.AnyWorld.TheVariants.{Before, Direc
 use Rattle.rh_world.specs.Any.{after, answers}
 use Rattle.rh_world.specs.Roles as roles
 use Rattle.law_node_streams.specs.Streams.{IsDrawn}
-use Rattle.law_peers_moments.specs.Moments.{AreJoined, IsMoment, Passages, passages, put_by}
+use Rattle.law_peers_moments.specs.Moments.{AreJoined, AreMade, IsMoment, Passages, passages, put_by}
 use Rattle.law_node_traces.specs.Traced.Ours.{AreOurs}
 use Rattle.law_world_reports.specs.ToldHistories.{history_of}
+use Rattle.law_world_order.specs.FirstTexts.{IsPort}
 use Rattle.law_world_order.specs.Flows.{IsFlowing, numbers_of}
 use Rattle.law_world_order.specs.Pasts.{moves_of, numbers}
-use Rattle.law_world_order.specs.Premises.{AreDistinct}
+use Rattle.law_world_order.specs.Premises.{AreDistinct, AreInRange}
 use Rattle.law_world_captured.specs.Moved.{moved_on}
 use Rattle.law_world_captured.specs.ToldMoves.{TellsMoves}
 
@@ -62,8 +63,11 @@ sent_on all readers leg dir = of_leg leg (put_by all (end_node readers leg (send
 pub record TellsSent (answered : List Answer) (world : roles.World) : Type 0 where
   pub told : TellsMoves answered world
   pub ours : AreOurs roles.makers (roles.begun told.config).company told.config
+  pub ranges : AreInRange (numbers_of ours)
+  pub port : IsPort ours.config.port
   pub flowing : IsFlowing (numbers_of ours) (roles.begun told.config) world
       (history_of told.config world told.by)
+  pub made : AreMade (numbers ours) (moves_of flowing)
   pub joined : AreJoined (reader_of world.readers) (passages (numbers ours) (moves_of flowing))
   pub moment : AreDistinct (happened (history_of told.config world told.by).client)
       → IsMoment (numbers ours) (reader_of world.readers) (moves_of flowing)
