@@ -53,12 +53,13 @@ module _ (streams : StreamLaws) (role : RoleLaws) (texts : TextLaws)
         down = λ n. let range = told.ranges.outs n in
             texts.response _ (omega (arith, range.lifetime.1));
       } in
+      let begins = may_begin role (numbers told.ours) (moves_of told.flowing) told.made fine
+      (heads answered world told) world.readers in
       record {
         told = told;
+        begins = begins;
         streams = λ leg dir pipe is.
-            streamed streams pipe _ _ (told.sent leg dir pipe is)
-            (may_begin role (numbers told.ours) (moves_of told.flowing) told.made fine
-            (heads answered world told) world.readers leg dir pipe is);
+            streamed streams pipe _ _ (told.sent leg dir pipe is) (begins leg dir pipe is);
       }
 
   streams_in : (answered : List Answer) (world : AnyWorld) → TellsSentIn answered world

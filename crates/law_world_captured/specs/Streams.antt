@@ -32,6 +32,9 @@ MayBegin pipe put = (put ≡ []) ⊎ BeginsFine pipe put
 -- were put there behind a text
 pub record TellsStreams (answered : List Answer) (world : roles.World) : Type 0 where
   pub told : TellsSent answered world
+  pub begins : (leg : Leg) (dir : Dir) (pipe : Pipe) → pipe_of leg.kind dir ≡ Some pipe
+      → MayBegin pipe
+      (sent_on (passages (numbers told.ours) (moves_of told.flowing)) world.readers leg dir)
   pub streams : (leg : Leg) (dir : Dir) (pipe : Pipe) → pipe_of leg.kind dir ≡ Some pipe
       → IsStreamOf pipe
       (behind_text (sent_on (passages (numbers told.ours) (moves_of told.flowing)) world.readers leg
