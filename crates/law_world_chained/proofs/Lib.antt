@@ -1,0 +1,4 @@
+pub mod AllWhole
+pub mod Seen
+pub mod Tagging
+pub mod Recorded
