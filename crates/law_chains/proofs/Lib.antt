@@ -1,3 +1,4 @@
 pub mod Lines
 pub mod Among
 pub mod InOrder
+pub mod NoneLeft

@@ -3,4 +3,4 @@
 
 pub mod chained;
 
-pub use chained::successors_stand_in_a_chain;
+pub use chained::{successors_stand_in_a_chain, where_no_tag_is_left_none_is_told};

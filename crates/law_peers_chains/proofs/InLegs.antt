@@ -8,7 +8,7 @@ use Rattle.law_role_inproxy.proofs.Vocabulary.{is_leg, IsStream}
 use Rattle.law_role_client.proofs.Vocabulary.{ci}
 use Rattle.law_role_client_rows.specs.Putting.{OpenedBefore}
 use Rattle.law_role_server.proofs.Vocabulary.{is_conn_b2, is_in_r1_a2, is_in_r2_a2}
-use Rattle.law_chains.specs.Successors.{AreSuccessors, newest}
+use Rattle.law_chains.specs.Successors.{newest}
 use Rattle.law_peers_moments.proofs.Joining.{in_front, in_reads, is_front}
 use Rattle.law_peers_moments.proofs.Read.{front_count, front_one}
 use Rattle.law_peers_moments.specs.Moments.{IsMoment, Moves, Numbers, Passages, passages}
@@ -22,7 +22,7 @@ use Rattle.law_peers_chains.proofs.Channels.{IsOne, in_asks, in_begins, in_none_
 use Rattle.law_peers_chains.proofs.Fronts.{Begins, IsAny, came_met}
 use Rattle.law_peers_chains.proofs.InStreams.{IsFrontOf, front_is, stream_framed, stream_starts}
 use Rattle.law_peers_chains.proofs.Known.{Knows, announced_below}
-use Rattle.law_peers_chains.proofs.Numbered.{IsBehind, Tells, each_own, successors}
+use Rattle.law_peers_chains.proofs.Numbered.{AreFollowing, IsBehind, Tells, each_own, following}
 use Rattle.law_peers_chains.proofs.OutLegs.{any_one}
 use Rattle.law_peers_chains.proofs.OwnLegs.{read}
 
@@ -57,7 +57,7 @@ module _ (numbers : Numbers) (reader : ℕ → ℕ) (moves : Moves)
   abbrev came : ℕ → List Message
   came m = of_leg (is_leg m) all.server.came
 
-  abbrev In : ℕ → Cookie → Type 0
+  abbrev pub In : ℕ → Cookie → Type 0
   In n cookie = HasComeUp moves.client (ci n) cookie
 
   number : (m : ℕ) → (numbers.ins m).number ≡ m
@@ -135,9 +135,10 @@ module _ (numbers : Numbers) (reader : ℕ → ℕ) (moves : Moves)
       (sym (know.announced.read on.0 (suc below) on.1))
       (announced_came on.0 (suc below) on.1)
 
-  pub client_in : AreShown numbers reader moves ClientIn mets → AreSuccessors mets
+  pub client_in : AreShown numbers reader moves ClientIn mets
+      → AreFollowing In (λ k. k) mets (λ k. k)
   client_in shown =
-      successors In (λ k. k) mets (λ k. k) each_own
+      following In (λ k. k) mets (λ k. k) each_own
       (λ n. moment.now.cookies.one (ci n)) (moment.now.cookies.own ClientIn)
       (read In put (λ n. asked (reader n) n) mets shown
       (λ n.
@@ -151,11 +152,11 @@ module _ (numbers : Numbers) (reader : ℕ → ℕ) (moves : Moves)
   -- ---- of in proxies
 
   module _ (shown : AreShown numbers reader moves InServer mets) where
-    abbrev front : ℕ → List Message
+    abbrev pub front : ℕ → List Message
     front m = (shown m).front
 
     -- the channel of which the server was told last
-    abbrev last : ℕ → ℕ
+    abbrev pub last : ℕ → ℕ
     last m = m + count_of is_in_r2_a2 (front m)
 
     front_of : (m : ℕ) (begun : First) → first_among (mets m) ≡ Some begun
@@ -240,9 +241,9 @@ module _ (numbers : Numbers) (reader : ℕ → ℕ) (moves : Moves)
               least = subst (λ (k : ℕ). one ≤ last k) reads_at (announced_last on.0 one on.1);
             }
 
-    pub in_server : AreSuccessors mets
+    pub in_server : AreFollowing In reader mets last
     in_server =
-        successors In reader mets last moment.now.read
+        following In reader mets last moment.now.read
         (λ n. moment.now.cookies.one (ci n)) (moment.now.cookies.own ClientIn)
         (record {
           tells = tells;

@@ -49,6 +49,21 @@ module _ (Comes : ℕ → Cookie → Type 0) (reader : ℕ → ℕ) (mets : ℕ 
     pub behind : (n : ℕ) (begun : First) (cookie : Cookie) → first_among (mets n) ≡ Some begun
         → begun.predecessor ≡ Some cookie → IsBehind n cookie
 
+  -- they are successors, and each but the first has one before it
+  pub record AreFollowing : Type 0 where
+    pub successors : AreSuccessors mets
+    pub turns : (n : ℕ) (begun : First) → first_among (mets n) ≡ Some begun
+        → (n ≡ 1) ⊎ ((cookie : Cookie) × IsBehind n cookie)
+
+  in_turn : AreRead → (n : ℕ) (begun : First) → first_among (mets n) ≡ Some begun
+      → (n ≡ 1) ⊎ ((cookie : Cookie) × IsBehind n cookie)
+  in_turn read n begun met = by begun.predecessor refl
+    where
+      by : (o : Option Cookie) → begun.predecessor ≡ o
+          → (n ≡ 1) ⊎ ((cookie : Cookie) × IsBehind n cookie)
+      by None e = inl (read.first n begun met e)
+      by (Some cookie) e = inr (cookie, read.behind n begun cookie met e)
+
   module _ (turn : ReadInTurn reader)
       (one : (n : ℕ) (a b : Cookie) → Comes n a → Comes n b → a ≡ b)
       (own : (l n : ℕ) (cookie : Cookie) → Comes l cookie → Comes n cookie → l ≡ n)
@@ -144,9 +159,12 @@ module _ (Comes : ℕ → Cookie → Type 0) (reader : ℕ → ℕ) (mets : ℕ 
         (subst (Comes (last l)) same tells_a.names) tells_b.names in
         sym tells_a.reads ∙ ap reader lasts ∙ tells_b.reads
 
-    pub successors : AreSuccessors mets
-    successors = record {
-      first = first_is;
-      behind = λ n begun cookie met is. precedes n begun met cookie is;
-      apart = apart;
+    pub following : AreFollowing
+    following = record {
+      successors = record {
+        first = first_is;
+        behind = λ n begun cookie met is. precedes n begun met cookie is;
+        apart = apart;
+      };
+      turns = in_turn read;
     }

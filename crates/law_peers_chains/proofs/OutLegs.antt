@@ -7,7 +7,6 @@ use Rattle.law_moves.proofs.Lemmas.{one_so}
 use Rattle.law_role_client.proofs.Vocabulary.{co}
 use Rattle.law_role_client_rows.specs.Putting.{OpenedBefore}
 use Rattle.law_role_outproxy.proofs.Vocabulary.{co_leg, os_leg}
-use Rattle.law_chains.specs.Successors.{AreSuccessors}
 use Rattle.law_peers_moments.proofs.Joining.{os_front}
 use Rattle.law_peers_moments.proofs.Read.{front_one}
 use Rattle.law_peers_moments.specs.Moments.{IsMoment, Moves, Numbers, Passages, passages}
@@ -15,7 +14,7 @@ use Rattle.law_peers_chains.specs.Shown.{AreShown}
 use Rattle.law_peers_chains.proofs.Channels.{IsOpening, opening_asked, out_asks, out_none_anew, out_starts, to_server_begins, to_server_none_anew, to_server_starts}
 use Rattle.law_peers_chains.proofs.Fronts.{Begins, IsAny}
 use Rattle.law_peers_chains.proofs.Known.{Knows, Out, asked_out, begun_below, out_is, to_server}
-use Rattle.law_peers_chains.proofs.Numbered.{each_own, successors}
+use Rattle.law_peers_chains.proofs.Numbered.{AreFollowing, each_own, following}
 use Rattle.law_peers_chains.proofs.OwnLegs.{read}
 
 pub any_one : (P : Named → Type 0) (ms : List Message) → HasOne P ms → HasOne IsAny ms
@@ -66,9 +65,10 @@ module _ (numbers : Numbers) (reader : ℕ → ℕ) (moves : Moves)
       (to_server_begins (numbers.outs n) (asked n) begun (opened n)
       (to_server numbers reader moves moment know n) has)
 
-  pub client_out : AreShown numbers reader moves ClientOut mets → AreSuccessors mets
+  pub client_out : AreShown numbers reader moves ClientOut mets
+      → AreFollowing (Out numbers reader moves moment know) (λ k. k) mets (λ k. k)
   client_out shown =
-      successors (Out numbers reader moves moment know) (λ k. k) mets (λ k. k) each_own
+      following (Out numbers reader moves moment know) (λ k. k) mets (λ k. k) each_own
       (λ n. moment.now.cookies.one (co n)) (moment.now.cookies.own ClientOut)
       (read (Out numbers reader moves moment know) put asked mets shown
       (λ n.
@@ -80,9 +80,10 @@ module _ (numbers : Numbers) (reader : ℕ → ℕ) (moves : Moves)
       (OpenedBefore numbers.client moves.client) know.late_out n (put n) (know.out_channels n))
       below_asked)
 
-  pub out_server : AreShown numbers reader moves OutServer mets → AreSuccessors mets
+  pub out_server : AreShown numbers reader moves OutServer mets
+      → AreFollowing (Out numbers reader moves moment know) (λ k. k) mets (λ k. k)
   out_server shown =
-      successors (Out numbers reader moves moment know) (λ k. k) mets (λ k. k) each_own
+      following (Out numbers reader moves moment know) (λ k. k) mets (λ k. k) each_own
       (λ n. moment.now.cookies.one (co n)) (moment.now.cookies.own ClientOut)
       (read (Out numbers reader moves moment know) opened came mets shown
       (λ n.

@@ -7,6 +7,7 @@ ghost use Rattle.rh_audit.specs.declared.packet.Met.{Met};
 ghost use Rattle.law_chains.specs.Successors.{AreSuccessors};
 ghost use Rattle.law_peers_moments.specs.Moments.{IsMoment, Moves, Numbers};
 ghost use Rattle.law_peers_chains.specs.Shown.{AreShown};
+ghost use Rattle.law_peers_chains.specs.Turns.{BeginInTurn};
 
 use law_peers_expects::no_client_is_opened_early;
 use law_peers_in_channels::{
@@ -26,13 +27,16 @@ use law_role_server::{a_server_opens_once, a_server_replaces_out_channels_one_by
 /// At each moment of a virtual connection, where on each leg of a kind a front was seen of what was
 /// put there towards the server, which has all that came at the other end: the first of these legs
 /// whose first packet was seen connects, each other one replaces the last one before it, by the
-/// newest cookie that was seen of that one, and no two had one cookie last. So a leg has a first
-/// packet only where the one that it replaces has one (MS-RPCH 2.2.4; successors are this
-/// profile's).
+/// newest cookie that was seen of that one, and no two had one cookie last. So a leg of a number
+/// above 1 has a first packet only where the leg of the channel before has one (MS-RPCH 2.2.4;
+/// successors are this profile's).
 pub fn each_leg_replaces_the_one_before_it()
-    ensures { (numbers : Numbers) (reader : ℕ → ℕ) (moves : Moves)
+    ensures successors { (numbers : Numbers) (reader : ℕ → ℕ) (moves : Moves)
         → IsMoment numbers reader moves → (kind : LegKind) (mets : ℕ → List Met)
         → AreShown numbers reader moves kind mets → AreSuccessors mets }
+    ensures turns { (numbers : Numbers) (reader : ℕ → ℕ) (moves : Moves)
+        → IsMoment numbers reader moves → (kind : LegKind) (mets : ℕ → List Met)
+        → AreShown numbers reader moves kind mets → BeginInTurn kind reader mets }
 {
     a_client_names_its_in_channels();
     a_client_opens_in_channels_in_order();
