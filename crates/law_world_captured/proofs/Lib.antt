@@ -10,3 +10,4 @@ pub mod SentRecorded
 pub mod Beginnings
 pub mod Streamed
 pub mod StreamsRecorded
+pub mod NoFaults

@@ -13,14 +13,14 @@ use Rattle.law_world_captured.specs.Tagged.{is_met}
 abbrev leg_of : LegKind → ℕ → Leg
 leg_of kind number = record { kind = kind; number = number }
 
-same_kinds : (a b : LegKind) → same_kind a b ≡ true → a ≡ b
+pub same_kinds : (a b : LegKind) → same_kind a b ≡ true → a ≡ b
 same_kinds ClientIn ClientIn h = refl
 same_kinds InServer InServer h = refl
 same_kinds ClientOut ClientOut h = refl
 same_kinds OutServer OutServer h = refl
 same_kinds a b h = absurd cc
 
-kind_itself : (kind : LegKind) → same_kind kind kind ≡ true
+pub kind_itself : (kind : LegKind) → same_kind kind kind ≡ true
 kind_itself ClientIn = refl
 kind_itself InServer = refl
 kind_itself ClientOut = refl
