@@ -1,12 +1,11 @@
 -- what each role puts first on its legs is fine
-use Rattle.law_order.proofs.Vocabulary.{◌≡◌, ◌≤◌, ◌+◌, ◌⊎◌, ℕ, zero, suc, Bool, true, false, List, [], ◌∷◌, refl, sym, ap, ◌∙◌, subst, inl, inr, is_some, IsTrue, arith, nat_tests, AllByRecursion, Some, None}
+use Rattle.law_order.proofs.Vocabulary.{◌≡◌, ◌+◌, ℕ, zero, suc, true, false, List, [], ◌∷◌, refl, sym, subst, inl, inr, is_some}
 use Rattle.rh_rts.specs.declared.command.Cookie.{Cookie}
 use Rattle.rh_sig.specs.declared.named.Named.{Named}
 use Rattle.rh_sig.specs.declared.named.Named.TheVariants.{ConnA2, ConnB2, InR1A2, OutR1A4}
 use Rattle.rh_sig.specs.declared.name.Pipe.{Pipe}
 use Rattle.rh_sig.specs.declared.name.Pipe.TheVariants.{CiU, IsU, CoU, CoD, OsU, OsD}
 use Rattle.rh_http.specs.declared.config.ClientConfig.{ClientConfig}
-use Rattle.rh_http.specs.Lengths.{may_ask}
 use Rattle.rh_http.specs.Texts.{in_request, out_request, response_text}
 use Rattle.rh_line.specs.declared.leg.Leg.{Leg}
 use Rattle.rh_shell.specs.Rules.{Message, Text, Pdu, Packet}
@@ -16,14 +15,13 @@ use Rattle.rh_outproxy.specs.Putting.{ping_room}
 use Rattle.rh_audit.specs.Packets.{first_of}
 use Rattle.law_moves.specs.Moves.{OnLeg}
 use Rattle.law_role_client_rows.specs.Putting.{Begins, Direction, IsBegun, IsChannel, IsPacket, in_way, out_length, out_way}
-use Rattle.law_role_inproxy.specs.Putting.Puts as puts
 use Rattle.law_role_inproxy.specs.Putting.Puts.{IsFirst, IsStream}
-use Rattle.law_role_outproxy.specs.Putting.{IsNew, IsSuccessor, IsToServer, OpensServer, response}
+use Rattle.law_role_outproxy.specs.Putting.{IsNew, IsSuccessor, IsToServer, OpensServer}
 use Rattle.law_role_server_rows.specs.Putting.Greeting.{MayGreet}
 use Rattle.law_peers_expects.specs.Asked.Asking.{IsServed}
-use Rattle.law_audit_streams.specs.Put.{BeginsFrames, IsFirst as BeginsLeg, behind_text, packet_of, text_of}
+use Rattle.law_audit_streams.specs.Put.{BeginsFrames, IsFirst as BeginsLeg, packet_of}
 use Rattle.law_audit_streams.specs.Texts.{IsFineText}
-use Rattle.law_world_captured.specs.Streams.{BeginsFine, MayBegin}
+use Rattle.law_world_captured.specs.Streams.{MayBegin}
 
 -- a packet with which a leg begins
 abbrev Opens : Named → Type 0

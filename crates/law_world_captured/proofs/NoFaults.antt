@@ -1,14 +1,13 @@
 -- no stream of the capture of a recording is broken
-use Rattle.law_order.proofs.Vocabulary.{◌≡◌, ◌==◌, ◌++◌, ◌⊎◌, ◌&&◌, ℕ, zero, suc, Bool, true, false, List, [], ◌∷◌, refl, sym, ap, ap₂, ◌∙◌, subst, inl, inr, cond, if◌then◌else◌, Some, None, Option, IsTrue, AllByRecursion, append_assoc, append-nil, and_from, and_parts, eqb-true, list_any}
+use Rattle.law_order.proofs.Vocabulary.{◌≡◌, ◌==◌, ◌++◌, ◌⊎◌, ◌&&◌, ℕ, zero, suc, Bool, true, false, List, [], ◌∷◌, refl, sym, ap, ap₂, ◌∙◌, subst, inl, inr, cond, Some, None, AllByRecursion, append_assoc, append-nil, and_from, and_parts, eqb-true}
 use Rattle.law_order.proofs.ByNumber.{by_test}
 use Rattle.std.specs.List.{flat_map}
 use Rattle.rh_sig.specs.declared.name.Pipe.{Pipe}
 use Rattle.rh_sig.specs.declared.name.Pipe.TheVariants.{CiU, IsU, IsD, CoU, CoD, OsU, OsD}
 use Rattle.rh_sig.specs.Looking.{place}
-use Rattle.rh_audit.specs.declared.fault.AuditFault.{AuditFault}
 use Rattle.rh_audit.specs.declared.seen.Seen.{Seen}
 use Rattle.rh_audit.specs.Audits.{broken_by, broken_in}
-use Rattle.rh_audit.specs.Captures.{IsOfKind, bytes_on, carried, has_tag, of_tag, same_pipe}
+use Rattle.rh_audit.specs.Captures.{IsOfKind, carried, of_tag, same_pipe}
 use Rattle.rh_audit.specs.Chains.{stream_in}
 use Rattle.rh_audit.specs.Links.{same_kind}
 use Rattle.rh_audit.specs.Pipes.{is_seen, kind_of, pipes}
@@ -18,7 +17,7 @@ use Rattle.rh_capture.specs.Legs.{tag_of}
 use Rattle.rh_capture.specs.Moves.{pipe_of}
 use Rattle.rh_world.specs.Config.{roles_config, with_number}
 use Rattle.rh_world.specs.Roles as roles
-use Rattle.law_moves.proofs.Vocabulary.{Dir, U, D, Leg, LegKind, ClientOut, OutServer, ClientIn, InServer}
+use Rattle.law_moves.proofs.Vocabulary.{Dir, U, D, Leg, LegKind}
 use Rattle.law_node_history.proofs.Vocabulary.{Answer, Line, First, Set}
 use Rattle.law_world_reports.proofs.Vocabulary.{AnyWorld, Before, Direct, Settings, Roles, WorldConfig, after, answers, run, told}
 use Rattle.rh_world.specs.Any.{last, step}

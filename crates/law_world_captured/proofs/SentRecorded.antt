@@ -1,14 +1,12 @@
 -- what the answers of a recording tell moved is of what was put
-use Rattle.law_order.proofs.Vocabulary.{◌≡◌, List, ◌∷◌, true, Some, sym, subst, IsPrefix}
+use Rattle.law_order.proofs.Vocabulary.{List, ◌∷◌, true, sym, subst, IsPrefix}
 use Rattle.rh_world.specs.Config.{AreInRange}
 use Rattle.rh_world.specs.Roles as roles
-use Rattle.law_moves.proofs.Vocabulary.{Dir, Pipe, Leg}
-use Rattle.law_node_history.proofs.Vocabulary.{Answer, Line, First, receiver, sender, Leads, IsTraced, drawn_by, end_node}
+use Rattle.law_node_history.proofs.Vocabulary.{Answer, Line, First, sender, Leads, drawn_by, end_node}
 use Rattle.law_node_traces.proofs.Traced.ByChanges.{lines_by_changes}
 use Rattle.law_node_traces.specs.Traced.Recordings.{IsKnown}
 use Rattle.law_world_reports.proofs.Vocabulary.{AnyWorld, Before, Direct, Settings, Roles, WorldConfig, after, answers}
 use Rattle.law_world_reports.specs.ToldHistories.{IsLedTo, history_of}
-use Rattle.rh_capture.specs.Moves.{pipe_of}
 use Rattle.law_world_order.proofs.FirstTexts.Taken.{recorded_port}
 use Rattle.law_world_order.proofs.Heard.{as_first}
 use Rattle.law_world_order.proofs.Recorded.{in_range, ours}

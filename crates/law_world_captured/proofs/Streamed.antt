@@ -1,47 +1,40 @@
 -- what moved on each leg is a stream of what was put there
-use Rattle.law_order.proofs.Vocabulary.{◌≡◌, ◌≤◌, ◌+◌, ◌++◌, ◌⊎◌, ℕ, zero, suc, Bool, true, false, List, [], ◌∷◌, refl, sym, ap, ◌∙◌, subst, inl, inr, AllByRecursion, Some, None, Option, IsTrue, IsPrefix, arith, nat_tests}
-use Rattle.rh_record.specs.declared.answer.Who.TheVariants as who
+use Rattle.law_order.proofs.Vocabulary.{◌≡◌, ◌+◌, ◌++◌, ℕ, Bool, false, List, [], ◌∷◌, refl, sym, ap, ◌∙◌, subst, inl, inr, AllByRecursion, Some, None, Option, IsPrefix}
 use Rattle.rh_inproxy.specs.Machine as in_proxy
 use Rattle.rh_inproxy.specs.State as in_state
 use Rattle.rh_outproxy.specs.Machine as out_proxy
 use Rattle.rh_outproxy.specs.Putting.{ping_room}
-use Rattle.rh_client.specs.Client as client
-use Rattle.rh_client.specs.State as client_state
 use Rattle.rh_server.specs.Servers as server
 use Rattle.rh_http.specs.declared.config.ClientConfig.{ClientConfig}
-use Rattle.rh_http.specs.declared.numbers.TheConstants.{LEAST_PORT, GREATEST_PORT}
 use Rattle.rh_http.specs.declared.refusal.Refusal.{Refusal}
-use Rattle.rh_http.specs.Lengths.{may_ask}
 use Rattle.rh_http.specs.Texts.{in_request, out_request, refusal_text, response_text}
 use Rattle.rh_sig.specs.declared.name.Pipe.{Pipe}
 use Rattle.rh_sig.specs.declared.name.Pipe.TheVariants.{CiU, IsU, IsD, CoU, CoD, OsU, OsD}
-use Rattle.rh_shell.specs.declared.stage.Stage.TheVariants as stage
-use Rattle.rh_shell.specs.NearEnds.{first_stage}
 use Rattle.rh_audit.specs.Streams.{stream, stream_is}
 use Rattle.rh_capture.specs.Moves.{pipe_of}
 use Rattle.law_moves.proofs.Legible.Each.{each_so}
-use Rattle.law_moves.proofs.Vocabulary.{Dir, U, D, Leg, LegKind, ClientOut, OutServer, ClientIn, InServer, Message, Text, Pdu, Packet, Move, HeadCame, EndMove, AreAllowed, AreAllowedAtEnd, all_moved, all_end_moved, started, end_started, of_leg, spelled, MayGoOn, Begins, BeginsWith, AreNoTexts}
+use Rattle.law_moves.proofs.Vocabulary.{Dir, U, D, Leg, LegKind, ClientOut, OutServer, ClientIn, InServer, Message, Text, Pdu, Packet, Move, HeadCame, EndMove, AreAllowed, all_moved, all_end_moved, started, end_started, of_leg, spelled, MayGoOn, Begins, BeginsWith, AreNoTexts}
 use Rattle.law_moves.specs.Passages.Counted.{AreCounted}
 use Rattle.law_moves.specs.Passages.Rising.{HasComeUp}
 use Rattle.law_moves.specs.Turns.{AreInTurn}
 use Rattle.law_role_inproxy.proofs.Vocabulary.{InProxyConfig}
-use Rattle.law_role_inproxy.specs.Putting.Puts.{IsStream, PutsInOrder, is_leg}
+use Rattle.law_role_inproxy.specs.Putting.Puts.{PutsInOrder, is_leg}
 use Rattle.law_role_client.specs.Order.{AreAllowedMoves}
 use Rattle.law_role_client_rows.specs.Putting.{OpenedBefore, OpensInChannels, OpensOutChannels, out_length}
 use Rattle.law_role_outproxy.proofs.Vocabulary.{OutProxyConfig, new_proxy}
 use Rattle.law_role_outproxy.specs.Counted.{co_leg, os_leg}
-use Rattle.law_role_outproxy.specs.Putting.{IsToServer, PutsToServer}
+use Rattle.law_role_outproxy.specs.Putting.{PutsToServer}
 use Rattle.law_role_server_rows.specs.Putting.Greeting.{GreetsFirst}
-use Rattle.law_node_history.proofs.Vocabulary.{sender, leg_at, end_node}
+use Rattle.law_node_history.proofs.Vocabulary.{leg_at}
 use Rattle.law_node_ends.specs.Passed as ends
 use Rattle.law_node_ends.specs.Passed.{HeadsAre}
-use Rattle.law_peers_expects.specs.Asked.Asking.{AsksNoEcho, IsServed, ServesClient}
-use Rattle.law_peers_moments.specs.Moments.{AreMade, Moves, Numbers, in_behind, out_behind, passages, put_by}
+use Rattle.law_peers_expects.specs.Asked.Asking.{AsksNoEcho, ServesClient}
+use Rattle.law_peers_moments.specs.Moments.{AreMade, Moves, Numbers, in_behind, out_behind, passages}
 use Rattle.law_audit_streams.specs.Put.{IsStreamOf, IsStreamed, behind_text}
 use Rattle.law_audit_streams.specs.Texts.{IsFineText}
 use Rattle.law_audit_streams.specs.Whole.{IsFrontOf}
 use Rattle.law_world_captured.specs.Sent.{IsOf, IsSent, sent_on}
-use Rattle.law_world_captured.specs.Streams.{BeginsFine, MayBegin}
+use Rattle.law_world_captured.specs.Streams.{MayBegin}
 use Rattle.law_world_captured.proofs.Beginnings.{greets, in_channel, in_stream, out_channel, to_client, to_server}
 
 -- ---- a pipe
