@@ -1,12 +1,12 @@
 //! Who acts on the machine of a node.
 
-ghost use Rattle.std.specs.Prelude.{◌≡◌, ◌⊎◌, ◌-◌, ◌≤◌, [], false, IfOk, OnOk};
+ghost use Rattle.std.specs.Prelude.{◌≡◌, ◌-◌, ◌≤◌, [], true, IfOk, OnOk};
 ghost use Rattle.std.specs.Arc.{arc_value};
 ghost use Rattle.rh_turn.specs.Calls.{Acts};
 ghost use Rattle.rh_machines.specs.declared.event.NodeEvent.TheVariants as event;
 ghost use Rattle.rh_machines.specs.declared.event.NodeReply.{NodeReply as Reply};
 ghost use Rattle.rh_legs.specs.Legs.{Calls, IsRead, IsWritten};
-ghost use Rattle.rh_actors.specs.Living.{IsOver, says_live};
+ghost use Rattle.rh_actors.specs.Living.{says_live};
 
 use rh_io::{NoMemory, Sink, Source};
 use rh_legs::{Bell, Call, Gate, LegEnd, NodeEnd, Pen, read_leg, write_leg};
@@ -92,20 +92,16 @@ where
         self.bell.act(rt, &self.turn, &mut self.seat, event, call)
     }
 
-    /// Whether the node may still take and give PDUs, and connect legs.
+    /// Whether the node may still take and give PDUs, and connect legs: its machine says so, and it
+    /// is not stopped.
     pub fn is_live<R: Wait>(&mut self, rt: &R, call: Call) -> bool
-        ensures asked { (self.new.seat ≡ self.old.seat)
-            ⊎ ((answer : Reply) × Acts M.next M.reply (arc_value self.old.turn).first
-            event.State answer self.old.seat self.new.seat) }
-        ensures over { result ≡ false → IsOver M.next M.reply (arc_value self.old.turn).first
-            self.old.seat self.new.seat }
+        ensures asked { (answer : Reply) × Acts M.next M.reply (arc_value self.old.turn).first
+            event.State answer self.old.seat self.new.seat
+            × (result ≡ true → says_live answer ≡ true) }
         ensures turn { self.new.turn ≡ self.old.turn }
     {
-        if self.bell.is_stopped(rt) {
-            return false;
-        }
         let (state, _) = self.act(rt, NodeEvent::State, call);
-        says_live(&state)
+        says_live(&state) && !self.bell.is_stopped(rt)
     }
 
     /// How the machine ended: with a cause where it closed.

@@ -5,7 +5,6 @@ ghost use Rattle.rh_turn.specs.Calls.{Acts};
 ghost use Rattle.rh_machines.specs.declared.event.NodeEvent.TheVariants as event;
 ghost use Rattle.rh_machines.specs.declared.event.NodeReply.{NodeReply as Reply};
 ghost use Rattle.rh_machines.specs.declared.event.NodeReply.TheVariants as reply;
-ghost use Rattle.rh_legs.specs.Stopping.{WasStopped};
 
 use rh_line::{Leg, Take};
 use rh_machines::{Node, NodeEvent, NodeReply};
@@ -201,9 +200,7 @@ impl Bell {
     }
 
     /// Whether the node is stopped.
-    pub fn is_stopped<R: Wait>(&self, rt: &R) -> bool
-        ensures { result ≡ true → WasStopped }
-    {
+    pub fn is_stopped<R: Wait>(&self, rt: &R) -> bool {
         self.counts.lock(rt).is_stopped
     }
 

@@ -2,6 +2,7 @@
 
 ghost use Rattle.std.specs.Prelude.{◌≡◌, ℕ, IfOk};
 ghost use Rattle.rh_machines.specs.HandingBack.{HandsBack};
+ghost use Rattle.rh_machines.specs.declared.node.Role.{Role as Played};
 
 use crate::event::{NodeEvent, NodeReply};
 use rh_turn::Machine;
@@ -22,6 +23,9 @@ pub trait Node: Machine<Event = NodeEvent, Reply = NodeReply> {
     type Config;
 
     const ROLE: Role;
+
+    /// Its role.
+    ghost ROLE: { Played };
 
     /// The configurations with which it can be made.
     ghost can_make: { Self.Config → Type 0 };

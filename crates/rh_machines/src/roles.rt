@@ -5,6 +5,7 @@ ghost use Rattle.rh_shell.specs.Ends as ends;
 ghost use Rattle.rh_client.specs.Client.{acts as client_acts};
 ghost use Rattle.rh_server.specs.Servers.{acts as server_acts};
 ghost use Rattle.rh_machines.specs.declared.event.NodeReply.TheVariants as reply;
+ghost use Rattle.rh_machines.specs.declared.node.Role.TheVariants as played;
 ghost use Rattle.rh_machines.specs.Machines.{taken_len, taken_of};
 ghost use Rattle.rh_outproxy.specs.OutProxy.{server_told};
 
@@ -162,6 +163,8 @@ impl Node for ClientNode {
 
     const ROLE: Role = Role::Client;
 
+    ghost ROLE = { played.Client };
+
     ghost can_make = { λ config. IsWindow config.window };
 
     ghost first = { first_client };
@@ -213,6 +216,8 @@ impl Node for ServerNode {
     type Config = ServerConfig;
 
     const ROLE: Role = Role::Server;
+
+    ghost ROLE = { played.Server };
 
     ghost can_make = { λ config. IsWindow config.window };
 
@@ -266,6 +271,8 @@ impl Node for InProxyNode {
     type Config = InProxyConfig;
 
     const ROLE: Role = Role::InProxy;
+
+    ghost ROLE = { played.InProxy };
 
     ghost can_make = { IsConfig };
 
@@ -323,6 +330,8 @@ impl Node for OutProxyNode {
     type Config = OutProxyConfig;
 
     const ROLE: Role = Role::OutProxy;
+
+    ghost ROLE = { played.OutProxy };
 
     ghost can_make = { λ config. (1 ≤ config.number) × IsWindow config.window
         × IsLifetime config.lifetime × IsTimeout config.timeout };
