@@ -1,7 +1,9 @@
 //! What the keepers of all nodes share.
 
-ghost use Rattle.std.specs.Prelude.{◌≡◌};
+ghost use Rattle.std.specs.Prelude.{◌≡◌, IfOk, OnErr};
 ghost use Rattle.std.specs.Arc.{arc_value};
+ghost use Rattle.rh_net.specs.Calls.{IsUnused};
+ghost use Rattle.rh_keepers.specs.Faults.{CookiesFail, NetFails, WasAnswered, WasTold};
 
 use rh_io::NoMemory;
 use rh_net::{Clock, CookieFailed, Cookies, Net, NetFailed};
@@ -41,18 +43,27 @@ impl<N: Net + Drop, C: Clock + Drop, K: Cookies + Drop> Desk<N, C, K> {
     }
 
     /// The moment, in milliseconds.
-    pub(crate) fn now<R: Wait>(&self, rt: &R) -> u64 {
+    pub(crate) fn now<R: Wait>(&self, rt: &R) -> u64
+        ensures { WasTold C.moment result }
+    {
         self.books.lock(rt).clock.now()
     }
 
     /// The next cookie.
-    pub(crate) fn cookie<R: Wait>(&self, rt: &R) -> Result<Cookie, CookieFailed> {
+    pub(crate) fn cookie<R: Wait>(&self, rt: &R) -> Result<Cookie, CookieFailed>
+        ensures answered { IfOk result (λ cookie. WasAnswered K.answered cookie.0) }
+        ensures failed { OnErr result (CookiesFail K.faults) }
+    {
         let bytes = self.books.lock(rt).cookies.next()?;
         Ok(Cookie(bytes))
     }
 
     /// Books what came by a way, and gives its leg.
-    pub(crate) fn leg<R: Wait>(&self, rt: &R, came: N::Came) -> Result<(N::In, N::Out), NetFailed> {
+    pub(crate) fn leg<R: Wait>(&self, rt: &R, came: N::Came) -> Result<(N::In, N::Out), NetFailed>
+        ensures new { IfOk result
+            (IsUnused N.In.taken N.In.faults N.In.ends N.Out.written N.Out.faults) }
+        ensures failed { OnErr result (NetFails N.counts) }
+    {
         self.books.lock(rt).net.gives(came)
     }
 
@@ -64,7 +75,7 @@ impl<N: Net + Drop, C: Clock + Drop, K: Cookies + Drop> Desk<N, C, K> {
 }
 
 /// The value, once nobody else has it.
-pub(crate) fn alone<T, R: Wait>(rt: &R, shared: Arc<T, Global>) -> T
+pub fn alone<T, R: Wait>(rt: &R, shared: Arc<T, Global>) -> T
     ensures { result ≡ arc_value shared }
 {
     let mut shared = shared;

@@ -1,14 +1,18 @@
 //! The keeper of a node: it has the node's legs connected or accepts them, and tells the moment.
 
 ghost use Rattle.std.specs.Prelude.{◌≡◌};
+ghost use Rattle.std.specs.Arc.{arc_value};
+ghost use Rattle.rh_keepers.specs.Faults.{CookiesFail, NetFails};
+ghost use Rattle.rh_keepers.specs.Keepers.{BringsUp, Connects, HasAsked, IsKeepersEnd, KeptOn, moments, of_role};
 
 use crate::desk::Desk;
 use crate::plan::Plan;
 use crate::queue::Queue;
+use crate::telling::{tell_broken, tell_moment, tell_up};
 use rh_actors::Actor;
 use rh_legs::{Call, NodeEnd};
 use rh_line::Leg;
-use rh_machines::{Node, NodeEvent, NodeReply, Role};
+use rh_machines::{Node, Role};
 use rh_net::{Address, Clock, Cookies, Net, Ready, ShutSink, ShutSource, Way};
 use rh_rts::Cookie;
 use rh_slots::{First, Slot, ToRead, ToWrite};
@@ -71,6 +75,16 @@ pub(crate) fn shut<I: ShutSource, O: ShutSink>(source: &mut I, sink: &mut O) {
     source.shut();
 }
 
+/// How the node ends where the net failed at this address. The first such one is kept.
+pub(crate) fn net_failed(unreached: &mut Option<Address>, at: Option<Address>) -> NodeEnd
+    ensures { result ≡ NodeEnd.NetFault }
+{
+    if unreached.is_none() {
+        *unreached = at;
+    }
+    NodeEnd::NetFault
+}
+
 impl<M: Node, N: Net + Drop, C: Clock + Drop, K: Cookies + Drop> Keeper<M, N, C, K>
 where
     M::State: Drop,
@@ -78,45 +92,26 @@ where
     N::Out: Drop,
     N::Way: Drop,
 {
-    pub(crate) fn act<R: Wait>(&mut self, rt: &R, event: NodeEvent) -> NodeReply {
-        self.actor.act(rt, event, Call::Keeps).0
-    }
-
-    /// How often the keeper was called.
-    pub(crate) fn heard<R: Wait>(&mut self, rt: &R) -> u64 {
-        self.actor.act(rt, NodeEvent::State, Call::Keeps).1
-    }
-
     /// Tells the moment.
-    pub(crate) fn tick<R: Wait>(&mut self, rt: &R) {
+    pub(crate) fn tick<R: Wait>(&mut self, rt: &R)
+        ensures { KeptOn M.next M.reply (moments C.moment) self.old.actor.turn self.new.actor.turn
+            self.old.actor.seat self.new.actor.seat }
+    {
         let now = self.desk.now(rt);
         self.told = now;
-        self.act(rt, NodeEvent::Tick(now));
+        tell_moment(rt, &mut self.actor, now);
     }
 
     /// Tells the moment, where it was told a second ago or more.
-    pub(crate) fn tick_in_time<R: Wait>(&mut self, rt: &R) {
+    pub(crate) fn tick_in_time<R: Wait>(&mut self, rt: &R)
+        ensures { KeptOn M.next M.reply (moments C.moment) self.old.actor.turn self.new.actor.turn
+            self.old.actor.seat self.new.actor.seat }
+    {
         let now = self.desk.now(rt);
         if TICK_AFTER <= now.saturating_sub(self.told) {
             self.told = now;
-            self.act(rt, NodeEvent::Tick(now));
+            tell_moment(rt, &mut self.actor, now);
         }
-    }
-
-    pub(crate) fn wants<R: Wait>(&mut self, rt: &R, leg: Leg) -> bool {
-        matches!(self.act(rt, NodeEvent::Wants(leg)), NodeReply::Told(true))
-    }
-
-    pub(crate) fn is_live<R: Wait>(&mut self, rt: &R) -> bool {
-        self.actor.is_live(rt, Call::Keeps)
-    }
-
-    /// How the node ends where the net failed at this address, and the first such one is kept.
-    pub(crate) fn net_failed(&mut self, at: Option<Address>) -> NodeEnd {
-        if self.unreached.is_none() {
-            self.unreached = at;
-        }
-        NodeEnd::NetFault
     }
 
     /// Waits until the keeper was called more often than `heard`, a second at most.
@@ -144,6 +139,20 @@ where
         None
     }
 
+    // Hands a leg that is up to its slot, and shuts one that is not.
+    fn hand<R: Wait>(&self, rt: &R, leg: Leg, is_up: bool, came: Came<N::In, N::Out>) {
+        let Came {
+            first,
+            mut source,
+            mut sink,
+        } = came;
+        if !is_up {
+            shut(&mut source, &mut sink);
+        } else if let Some(slot) = self.slot(leg) {
+            slot.hand(rt, ToRead { leg, first, source }, ToWrite { leg, sink });
+        }
+    }
+
     /// Tells that a leg is up, and hands it to its slot. Answers false, with the leg shut, where it
     /// may not be up.
     pub(crate) fn bring_up<R: Wait>(
@@ -152,22 +161,15 @@ where
         leg: Leg,
         cookie: Cookie,
         came: Came<N::In, N::Out>,
-    ) -> bool {
-        let Came {
-            first,
-            mut source,
-            mut sink,
-        } = came;
-        self.tick(rt);
-        let up = self.act(rt, NodeEvent::Up { leg, cookie });
-        if !matches!(up, NodeReply::Told(true)) {
-            shut(&mut source, &mut sink);
-            return false;
-        }
-        if let Some(slot) = self.slot(leg) {
-            slot.hand(rt, ToRead { leg, first, source }, ToWrite { leg, sink });
-        }
-        true
+    ) -> bool
+        ensures { BringsUp M.next M.reply C.moment leg cookie result
+            self.old.actor.turn self.new.actor.turn self.old.actor.seat self.new.actor.seat }
+    {
+        let now = self.desk.now(rt);
+        self.told = now;
+        let is_up = tell_up(rt, &mut self.actor, now, leg, cookie);
+        self.hand(rt, leg, is_up, came);
+        is_up
     }
 
     /// Connects a leg that is wanted, and brings it up; or tells that it can't be connected.
@@ -177,32 +179,51 @@ where
         leg: Leg,
         cookie: Cookie,
         to: &Address,
-    ) -> NodeEnd {
+    ) -> NodeEnd
+        ensures { Connects M.next M.reply C.moment (NetFails N.counts) leg cookie result
+            self.old.actor.turn self.new.actor.turn self.old.actor.seat self.new.actor.seat }
+    {
         let came = self.way.connect(to);
-        match self.desk.leg(rt, came) {
-            Ok((source, sink)) => {
-                let came = Came {
-                    first: First::new(),
-                    source,
-                    sink,
-                };
-                self.bring_up(rt, leg, cookie, came);
-                NodeEnd::Ended
-            }
-            Err(_) => {
-                self.act(rt, NodeEvent::Broken(leg));
-                self.net_failed(Some(*to))
-            }
+        let Ok((source, sink)) = self.desk.leg(rt, came) else {
+            tell_broken(rt, &mut self.actor, leg);
+            return net_failed(&mut self.unreached, Some(*to));
+        };
+        let came = Came {
+            first: First::new(),
+            source,
+            sink,
+        };
+        self.bring_up(rt, leg, cookie, came);
+        NodeEnd::Ended
+    }
+
+    // Keeps the node as its role is kept.
+    fn keep<R: Wait + time::Clock>(&mut self, alloc: Global, rt: &R) -> NodeEnd
+        ensures kept { KeptOn M.next M.reply
+            (of_role M.ROLE M.reply C.moment N.counts K.answered N.In.faults)
+            self.old.actor.turn self.new.actor.turn self.old.actor.seat self.new.actor.seat }
+        ensures end { IsKeepersEnd (NetFails N.counts) (CookiesFail K.faults) result }
+        ensures left { result ≡ NodeEnd.Ended → HasAsked M.next M.reply
+            (arc_value self.old.actor.turn).first self.new.actor.seat }
+    {
+        match M::ROLE {
+            Role::Client => return self.keep_client(rt),
+            Role::InProxy => return self.keep_proxy(rt),
+            Role::OutProxy => return self.keep_proxy(rt),
+            Role::Server => return self.keep_server(alloc, rt),
         }
     }
 
     /// Keeps the node until it ended, closed or was stopped. Answers why it was left.
-    pub fn run<R: Wait + time::Clock>(&mut self, alloc: Global, rt: &R) -> NodeEnd {
-        let end = match M::ROLE {
-            Role::Client => self.keep_client(rt),
-            Role::InProxy | Role::OutProxy => self.keep_proxy(rt),
-            Role::Server => self.keep_server(alloc, rt),
-        };
+    pub fn run<R: Wait + time::Clock>(&mut self, alloc: Global, rt: &R) -> NodeEnd
+        ensures kept { KeptOn M.next M.reply
+            (of_role M.ROLE M.reply C.moment N.counts K.answered N.In.faults)
+            self.old.actor.turn self.new.actor.turn self.old.actor.seat self.new.actor.seat }
+        ensures end { IsKeepersEnd (NetFails N.counts) (CookiesFail K.faults) result }
+        ensures left { result ≡ NodeEnd.Ended → HasAsked M.next M.reply
+            (arc_value self.old.actor.turn).first self.new.actor.seat }
+    {
+        let end = self.keep(alloc, rt);
         for slot in self.slots.iter() {
             slot.end(rt);
         }

@@ -9,8 +9,9 @@ pub mod plan;
 pub mod proxy;
 pub mod queue;
 pub mod server;
+pub mod telling;
 
-pub use desk::{Books, Desk};
+pub use desk::{Books, Desk, alone};
 pub use keeper::Keeper;
 pub use plan::Plan;
 pub use queue::Queue;

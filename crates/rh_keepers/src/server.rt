@@ -1,6 +1,12 @@
 //! How a server is kept: callers are accepted, and each is known by its first frame.
 
-use crate::keeper::{Came, Keeper, shut};
+ghost use Rattle.std.specs.Prelude.{◌≡◌, ◌≢◌, IfErr};
+ghost use Rattle.std.specs.Arc.{arc_value};
+ghost use Rattle.rh_keepers.specs.Faults.{CookiesFail, NetFails};
+ghost use Rattle.rh_keepers.specs.Keepers.{HasAsked, IsKeepersEnd, KeptOn, no_causes, of_others};
+
+use crate::keeper::{Came, Keeper, net_failed, shut};
+use crate::telling::is_live;
 use rh_legs::NodeEnd;
 use rh_line::{Leg, LegKind};
 use rh_machines::Node;
@@ -101,7 +107,12 @@ where
         &mut self,
         rt: &R,
         strangers: &mut Vec<Stranger<N::In, N::Out>>,
-    ) -> Result<(), NodeEnd> {
+    ) -> Result<(), NodeEnd>
+        ensures end { IfErr result (IsKeepersEnd (NetFails N.counts) (CookiesFail K.faults)) }
+        ensures failed { IfErr result (λ end. end ≢ NodeEnd.Ended) }
+        ensures still { KeptOn M.next M.reply no_causes self.old.actor.turn self.new.actor.turn
+            self.old.actor.seat self.new.actor.seat }
+    {
         if STRANGERS <= strangers.len() {
             return Ok(());
         }
@@ -109,8 +120,7 @@ where
             return Ok(());
         };
         let Ok((source, sink)) = self.desk.leg(rt, came) else {
-            let at = self.plan.at;
-            return Err(self.net_failed(at));
+            return Err(net_failed(&mut self.unreached, self.plan.at));
         };
         let first = First::new();
         let since = self.desk.now(rt);
@@ -132,7 +142,10 @@ where
         kind: LegKind,
         numbers: &mut Numbers,
         came: Came<N::In, N::Out>,
-    ) {
+    )
+        ensures { KeptOn M.next M.reply (of_others M.reply C.moment N.counts N.In.faults)
+            self.old.actor.turn self.new.actor.turn self.old.actor.seat self.new.actor.seat }
+    {
         let number = numbers.next(kind);
         if self.bring_up(rt, Leg { kind, number }, NO_COOKIE, came) {
             numbers.count(kind);
@@ -146,7 +159,10 @@ where
         stranger: Stranger<N::In, N::Out>,
         strangers: &mut Vec<Stranger<N::In, N::Out>>,
         numbers: &mut Numbers,
-    ) {
+    )
+        ensures { KeptOn M.next M.reply (of_others M.reply C.moment N.counts N.In.faults)
+            self.old.actor.turn self.new.actor.turn self.old.actor.seat self.new.actor.seat }
+    {
         let mut stranger = stranger;
         let met = stranger.look(self.told);
         if matches!(met, Met::Unknown) {
@@ -159,17 +175,16 @@ where
             mut sink,
             ..
         } = stranger;
-        match met {
-            Met::Leg(kind) => {
-                let came = Came {
-                    first,
-                    source,
-                    sink,
-                };
-                self.admit(rt, kind, numbers, came);
-            }
-            _ => shut(&mut source, &mut sink),
-        }
+        let Met::Leg(kind) = met else {
+            shut(&mut source, &mut sink);
+            return;
+        };
+        let came = Came {
+            first,
+            source,
+            sink,
+        };
+        self.admit(rt, kind, numbers, came);
     }
 
     // Looks at each caller once.
@@ -178,8 +193,11 @@ where
         rt: &R,
         strangers: &mut Vec<Stranger<N::In, N::Out>>,
         numbers: &mut Numbers,
-    ) {
-        for _ in 0..strangers.len() {
+    )
+        ensures { KeptOn M.next M.reply (of_others M.reply C.moment N.counts N.In.faults)
+            self.old.actor.turn self.new.actor.turn self.old.actor.seat self.new.actor.seat }
+    {
+        'callers: for _ in 0..strangers.len() {
             if strangers.is_empty() {
                 return;
             }
@@ -189,17 +207,26 @@ where
     }
 
     /// Keeps a server until it ended, closed or was stopped.
-    pub(crate) fn keep_server<R: Wait + time::Clock>(&mut self, alloc: Global, rt: &R) -> NodeEnd {
+    pub(crate) fn keep_server<R: Wait + time::Clock>(&mut self, alloc: Global, rt: &R) -> NodeEnd
+        ensures kept { KeptOn M.next M.reply (of_others M.reply C.moment N.counts N.In.faults)
+            self.old.actor.turn self.new.actor.turn self.old.actor.seat self.new.actor.seat }
+        ensures end { IsKeepersEnd (NetFails N.counts) (CookiesFail K.faults) result }
+        ensures left { result ≡ NodeEnd.Ended → HasAsked M.next M.reply
+            (arc_value self.old.actor.turn).first self.new.actor.seat }
+    {
         let mut strangers = Vec::new(alloc);
         let mut numbers = Numbers { ins: 1, outs: 1 };
-        for _ in rt.forever() {
+        'rounds: for _ in rt.forever() {
             self.tick_in_time(rt);
-            if !self.is_live(rt) {
+            if !is_live(rt, &mut self.actor) {
                 return NodeEnd::Ended;
             }
-            if let Err(end) = self.accept_stranger(rt, &mut strangers) {
-                self.actor.stop_at(rt, end);
-                return end;
+            match self.accept_stranger(rt, &mut strangers) {
+                Ok(()) => {}
+                Err(end) => {
+                    self.actor.stop_at(rt, end);
+                    return end;
+                }
             }
             self.meet_all(rt, &mut strangers, &mut numbers);
         }

@@ -1,0 +1,8 @@
+-- what it did so far
+use Rattle.rh_keepers.specs.Keepers.{KeptOn, of_others}
+use Rattle.rh_keepers.proofs.keeper.Keeper.keep_server.Given as goal
+
+abbrev pub invariant-rounds : goal.invariant-rounds
+invariant-rounds g l = KeptOn g.M.Machine.next g.M.Machine.reply
+    (of_others g.M.Machine.reply g.C.Clock.moment g.N.Net.counts g.N.In.Source.faults)
+    l.fn.self.actor.turn l.self.actor.turn l.fn.self.actor.seat l.self.actor.seat
