@@ -1,5 +1,5 @@
 -- what a giver did, call by call
-use Rattle.std.proofs.Common.{◌≡◌, ◌⊎◌, ℕ, List, [], ◌∷◌, ◌++◌, append-nil, ap, refl, sym, subst, inl, inr, take, drop, length, arith, Some, None, Ok, Err, ◌∙◌}
+use Rattle.std.proofs.Common.{◌≡◌, ℕ, List, [], ◌∷◌, ◌++◌, append-nil, ap, refl, sym, subst, inl, inr, take, drop, length, arith, Some, None, Ok, Err, ◌∙◌}
 use Rattle.std.proofs.lemmas.List.{append_assoc, take-append-drop}
 use Rattle.std.specs.Prelude.{MatchOption}
 use Rattle.std.specs.declared.option.Option.{Option}
@@ -87,13 +87,12 @@ module _ {S : Type 0} (next : S → NodeEvent → S) (reply_to : S → NodeEvent
           },
         )
 
-    -- it asked for the state, or did nothing
+    -- it asked for the state
     pub gives-asked : (here : S) (old mid now : SeatValue NodeEvent)
         → here ≡ first → On old mid []
-        → (now ≡ mid) ⊎ ((answer : NodeReply) × Acts next reply_to here event.State answer mid now)
+        → (answer : NodeReply) × Acts next reply_to here event.State answer mid now
         → On old now []
-    gives-asked here old mid now same done (inl still) = subst (λ s. On old s []) (sym still) done
-    gives-asked here old mid now same done (inr asked) =
+    gives-asked here old mid now same done asked =
         gives-more old mid now [] [] event.State asked.0 done
         (acts-at next reply_to here first event.State asked.0 mid now same asked.1) tt refl refl
 
