@@ -82,7 +82,7 @@ where
     }
 
     /// Acts an event, and calls whom it may concern. Answers the reply, and how often `call` was
-    /// called before.
+    /// called up to this event.
     pub fn act<R: Wait>(&mut self, rt: &R, event: NodeEvent, call: Call) -> (NodeReply, u64)
         ensures acts { Acts M.next M.reply (arc_value self.old.turn).first event result.0
             self.old.seat self.new.seat }
@@ -90,6 +90,17 @@ where
         ensures turn { self.new.turn ≡ self.old.turn }
     {
         self.bell.act(rt, &self.turn, &mut self.seat, event, call)
+    }
+
+    /// Acts an event as `act` does, and calls nobody until the bell's `ring_owed`.
+    pub fn act_quietly<R: Wait>(&mut self, rt: &R, event: NodeEvent, call: Call) -> (NodeReply, u64)
+        ensures acts { Acts M.next M.reply (arc_value self.old.turn).first event result.0
+            self.old.seat self.new.seat }
+        ensures replied { (s : M.State) × (result.0 ≡ M.reply s event) }
+        ensures turn { self.new.turn ≡ self.old.turn }
+    {
+        self.bell
+            .act_quietly(rt, &self.turn, &mut self.seat, event, call)
     }
 
     /// Whether the node may still take and give PDUs, and connect legs: its machine says so, and it

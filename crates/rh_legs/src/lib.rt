@@ -2,6 +2,7 @@
 #![tactic(auto)]
 
 pub mod bell;
+mod called;
 pub mod end;
 pub mod gate;
 pub mod numerals;

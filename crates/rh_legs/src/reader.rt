@@ -82,7 +82,8 @@ fn tell_failure<M: Node, R: Wait>(
     ensures turn { seat.new.turn ≡ seat.old.turn }
     ensures failed { result ≡ LegEnd.Failed }
 {
-    bell.act(rt, turn, seat, NodeEvent::Broken(leg), Call::Draws);
+    let lost = NodeEvent::Broken(leg);
+    bell.act(rt, turn, seat, lost, Call::Draws(leg.kind));
     LegEnd::Failed
 }
 
@@ -101,7 +102,8 @@ fn tell_end<M: Node, R: Wait>(
     if bell.is_finished(rt, turn, seat, leg) {
         return LegEnd::Finished;
     }
-    bell.act(rt, turn, seat, NodeEvent::Ended(leg), Call::Draws);
+    let lost = NodeEvent::Ended(leg);
+    bell.act(rt, turn, seat, lost, Call::Draws(leg.kind));
     LegEnd::Ended
 }
 
@@ -128,7 +130,7 @@ fn feed<M: Node, R: Wait>(
     ensures turn { seat.new.turn ≡ seat.old.turn }
 {
     let event = NodeEvent::Bytes { leg, piece };
-    let (reply, _) = bell.act(rt, turn, seat, event, Call::Draws);
+    let (reply, _) = bell.act(rt, turn, seat, event, Call::Draws(leg.kind));
     let NodeReply::Fed {
         verdict,
         finished,

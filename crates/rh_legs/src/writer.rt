@@ -61,19 +61,21 @@ pub fn write_leg<M: Node, R: Wait, W: Sink, G: Gate>(
         let (piece, heard) = draw(rt, turn, seat, leg, room, bell);
         gate.pass(Place::WriterAfter(leg));
         let Ok(()) = write_whole(sink, piece.bytes()) else {
-            bell.act(rt, turn, seat, NodeEvent::Broken(leg), Call::Draws);
+            let lost = NodeEvent::Broken(leg);
+            bell.act(rt, turn, seat, lost, Call::Draws(leg.kind));
             return (LegEnd::Failed, piece.into_room());
         };
-        let is_empty = piece.bytes().is_empty();
+        // A draw fills its room, where it can.
+        let is_all = piece.bytes().len() < PIECE_ROOM;
         room = piece.into_room();
-        if is_empty {
+        if is_all {
             if bell.is_finished(rt, turn, seat, leg) {
                 return (LegEnd::Finished, room);
             }
             if bell.is_stopped(rt) {
                 return (LegEnd::Stopped, room);
             }
-            bell.wait(rt, Call::Draws, heard);
+            bell.wait(rt, Call::Draws(leg.kind), heard);
         }
     }
     unreachable!()
@@ -95,7 +97,7 @@ fn draw<M: Node, R: Wait>(
 {
     let room = DrawRoom::new(PIECE_ROOM as u16, room);
     let event = NodeEvent::Draw { leg, room };
-    let (reply, heard) = bell.act(rt, turn, seat, event, Call::Draws);
+    let (reply, heard) = bell.act(rt, turn, seat, event, Call::Draws(leg.kind));
     let NodeReply::Drawn(piece) = reply else {
         unreachable!()
     };

@@ -137,7 +137,7 @@ where
     let (front, _) = room.split_at_mut(bytes.len());
     front.copy_from_slice(bytes);
     let piece = Piece::new(bytes.len(), room);
-    let (told, _) = actor.act(rt, NodeEvent::Bytes { leg, piece }, Call::Draws);
+    let (told, _) = actor.act(rt, NodeEvent::Bytes { leg, piece }, Call::Draws(leg.kind));
     room_of(told)
 }
 

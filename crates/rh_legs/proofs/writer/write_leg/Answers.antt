@@ -28,8 +28,8 @@ returns-then-is_stopped-clause-written g c =
     written-stopped _ _ _ _ _ _ _ _
     (writes-asked _ _ _ _ _ _ _ _ _ _ drew c.is_finished.ensures.acts.1)
 
-pub writes-preserved-then-is_empty : goal.writes-preserved-then-is_empty
-writes-preserved-then-is_empty g c =
+pub writes-preserved-then-is_all : goal.writes-preserved-then-is_all
+writes-preserved-then-is_all g c =
     let drew = writes-drawn _ _ _ _ _ _ _ _ _ _ _ _ c.writes.invariant.writing
     c.draw-piece.ensures.acts (subst (Appends _ _) c.bytes.ensures.bytes c.in-Ok.ensures.ok) in
     record {
