@@ -64,6 +64,7 @@ impl Block {
     /// Its bytes.
     pub fn bytes(&self) -> &[u8]
         ensures bytes { result.now ≡ self.now }
+        ensures fits { length result.now ≤ 8192 }
     {
         &self.room[..usize::from(self.len)]
     }

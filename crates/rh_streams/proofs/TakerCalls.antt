@@ -1,6 +1,6 @@
 -- what a taker did, call by call
-use Rattle.std.proofs.Common.{◌≡◌, ℕ, ◌+◌, ◌≤◌, List, [], ◌∷◌, ◌++◌, length, arith, sym, refl, ap, subst, take, Some, None}
-use Rattle.std.proofs.lemmas.List.{length-append}
+use Rattle.std.proofs.Common.{◌≡◌, ℕ, ◌+◌, ◌≤◌, List, [], ◌∷◌, ◌++◌, length, append-nil, arith, sym, refl, ap, subst, take, Some, None, ◌∙◌}
+use Rattle.std.proofs.lemmas.List.{append_assoc, length-append}
 use Rattle.std.proofs.Math.Seq.{take-append-add, take-length}
 use Rattle.std.proofs.KnownBytes.{Appends-nil, Appends-trans}
 use Rattle.std.specs.Prelude.{MatchOption}
@@ -14,12 +14,12 @@ use Rattle.rh_line.specs.declared.state.Take.{Take}
 use Rattle.rh_machines.specs.declared.event.NodeReply.{NodeReply}
 use Rattle.rh_machines.specs.declared.event.NodeReply.TheVariants as reply
 use Rattle.rh_runs.specs.Runs.{Ran}
-use Rattle.rh_runs.proofs.Running.{ran-more}
+use Rattle.rh_runs.proofs.Running.{ran-more, ran-on}
 use Rattle.rh_legs.specs.Legs.{Calls, AllAre}
 use Rattle.rh_legs.specs.declared.end.NodeEnd.{NodeEnd}
 use Rattle.rh_legs.specs.declared.end.NodeEnd.TheVariants.{WriteFault}
-use Rattle.rh_streams.specs.Takers.{IsTakers, taken_at, all_taken, Takes}
-use Rattle.rh_actors.proofs.Calling.{acts-at, joined-more, all-are-more}
+use Rattle.rh_streams.specs.Takers.{IsTakers, taken_at, all_taken, Takes, TookInto}
+use Rattle.rh_actors.proofs.Calling.{acts-at, joined-more, joined-on, all-are-more, all-are-on}
 
 -- how a take was answered, and its PDU
 abbrev pub IsTold : Option (Take × List ℕ) → NodeReply → Type 0
@@ -50,21 +50,28 @@ module _ {S : Type 0} (next : S → NodeEvent → S) (reply_to : S → NodeEvent
     pub takes-none : (s : SeatValue NodeEvent) (x : Option (List ℕ)) → TakesOn s s x x
     takes-none s x = ([], refl, tt, Appends-nil x)
 
-    -- a take, of which all was written
-    pub takes-more : (old mid now : SeatValue NodeEvent) (x y z : Option (List ℕ)) (room : Unit {0})
-        (r : NodeReply)
-        → TakesOn old mid x y
-        → Acts next reply_to first (event.Take room) r mid now
-        → Appends y z (taken_at (event.Take room) r)
-        → TakesOn old now x z
-    takes-more old mid now x y z room r done acts wrote =
+    -- the same, by another name of the machine's first state
+    pub took-at : (here : S) (old now : SeatValue NodeEvent) (before held : List ℕ) → here ≡ first
+        → TookInto next reply_to here old now before held
+        → TookInto next reply_to first old now before held
+    took-at here old now before held same done =
+        subst (λ s. TookInto next reply_to s old now before held) same done
+
+    -- a batch of takes, of which all was written
+    pub takes-batch : (old mid now : SeatValue NodeEvent) (x y z : Option (List ℕ))
+        (before held : List ℕ)
+        → TakesOn old mid x y → TookInto next reply_to first mid now before held
+        → before ≡ [] → Appends y z held → TakesOn old now x z
+    takes-batch old mid now x y z before held done then none wrote =
         let calls = done.0 in
-        let e = event.Take room in (
-          calls ++ (e, r) ∷ [],
-          ran-more next reply_to first old mid now calls (e, r) done.1 acts,
-          all-are-more IsTakers calls e r done.2 tt,
-          subst (Appends x z) (sym (joined-more taken_at calls e r))
-              (Appends-trans x y z (all_taken calls) (taken_at e r) done.3 wrote),
+        let more = then.0 in
+        let same : held ≡ all_taken more = then.3 ∙ ap (λ bs. bs ++ all_taken more) none in (
+          calls ++ more,
+          ran-on next reply_to first old mid now calls more done.1 then.1,
+          all-are-on IsTakers calls more done.2 then.2,
+          subst (Appends x z) (sym (joined-on taken_at calls more))
+              (Appends-trans x y z (all_taken calls) (all_taken more) done.3
+              (subst (Appends y z) same wrote)),
         )
 
     pub taken-whole : (old now : SeatValue NodeEvent) (x y : Option (List ℕ)) (end : NodeEnd)
@@ -83,74 +90,81 @@ module _ {S : Type 0} (next : S → NodeEvent → S) (reply_to : S → NodeEvent
       },
     )
 
-    -- a take, of which a front was written
-    pub taken-front : (old mid now : SeatValue NodeEvent) (x y z : Option (List ℕ)) (room : Unit {0})
-        (r : NodeReply) (k : ℕ)
-        → TakesOn old mid x y
-        → Acts next reply_to first (event.Take room) r mid now
-        → k ≤ length (taken_at (event.Take room) r)
-        → Appends y z (take k (taken_at (event.Take room) r))
+    -- a batch of takes, of which a front was written
+    pub taken-front : (old mid now : SeatValue NodeEvent) (x y z : Option (List ℕ))
+        (before held : List ℕ)
+        → TakesOn old mid x y → TookInto next reply_to first mid now before held
+        → before ≡ [] → (k : ℕ) × (k ≤ length held) × Appends y z (take k held)
         → TakenTo old now x z WriteFault
-    taken-front old mid now x y z room r k done acts within wrote =
+    taken-front old mid now x y z before held done then none wrote =
         let calls = done.0 in
-        let e = event.Take room in
-        let before = all_taken calls in
-        let piece = taken_at e r in
-        let same : all_taken (calls ++ (e, r) ∷ []) ≡ before ++ piece = joined-more taken_at calls e r in
-        let long : length (before ++ piece) ≡ length before + length piece =
-        length-append before piece in
-        let front : take (length before + k) (before ++ piece) ≡ before ++ take k piece =
-        take-append-add before piece k in (
-          calls ++ (e, r) ∷ [],
+        let more = then.0 in
+        let k = wrote.0 in
+        let was = all_taken calls in
+        let same : held ≡ all_taken more = then.3 ∙ ap (λ bs. bs ++ all_taken more) none in
+        let all : all_taken (calls ++ more) ≡ was ++ held =
+        joined-on taken_at calls more ∙ ap (λ bs. was ++ bs) (sym same) in
+        let long : length (was ++ held) ≡ length was + length held = length-append was held in
+        let within = wrote.1 in
+        let front : take (length was + k) (was ++ held) ≡ was ++ take k held =
+        take-append-add was held k in (
+          calls ++ more,
           record {
-            ran = ran-more next reply_to first old mid now calls (e, r) done.1 acts;
-            own = all-are-more IsTakers calls e r done.2 tt;
+            ran = ran-on next reply_to first old mid now calls more done.1 then.1;
+            own = all-are-on IsTakers calls more done.2 then.2;
             front = (
-              length before + k,
-              subst (λ bs. length before + k ≤ length bs) (sym same) (omega (arith, long, within)),
-              subst (λ bs. Appends x z (take (length before + k) bs)) (sym same)
+              length was + k,
+              subst (λ bs. length was + k ≤ length bs) (sym all) (omega (arith, long, within)),
+              subst (λ bs. Appends x z (take (length was + k) bs)) (sym all)
                   (subst (Appends x z) (sym front)
-                  (Appends-trans x y z before (take k piece) done.3 wrote)),
+                  (Appends-trans x y z was (take k held) done.3 wrote.2)),
             );
             whole = λ not. absurd (not refl);
           },
         )
 
+    pub took-nothing : (s : SeatValue NodeEvent) (held : List ℕ)
+        → TookInto next reply_to first s s held held
+    took-nothing s held = ([], refl, tt, sym (append-nil held))
+
+    -- a take more, whose PDU stands behind the others
+    took-more : (old mid now : SeatValue NodeEvent) (before held after : List ℕ) (room : Unit {0})
+        (r : NodeReply)
+        → TookInto next reply_to first old mid before held
+        → Acts next reply_to first (event.Take room) r mid now
+        → after ≡ held ++ taken_at (event.Take room) r
+        → TookInto next reply_to first old now before after
+    took-more old mid now before held after room r done acts behind =
+        let calls = done.0 in
+        let e = event.Take room in (
+          calls ++ (e, r) ∷ [],
+          ran-more next reply_to first old mid now calls (e, r) done.1 acts,
+          all-are-more IsTakers calls e r done.2 tt,
+          behind ∙ ap (λ bs. bs ++ taken_at e r) done.3
+              ∙ append_assoc before (all_taken calls) (taken_at e r)
+              ∙ ap (λ bs. before ++ bs) (sym (joined-more taken_at calls e r)),
+        )
+
     -- a take at a role that gives no PDUs out
-    pub took-none : (here : S) (old mid now : SeatValue NodeEvent) (x y : Option (List ℕ))
+    pub took-none : (here : S) (old mid now : SeatValue NodeEvent) (before held : List ℕ)
         (r : NodeReply) (parts : Option (Take × List ℕ))
-        → here ≡ first → TakesOn old mid x y
+        → here ≡ first → TookInto next reply_to first old mid before held
         → Acts next reply_to here (event.Take tt) r mid now
         → parts ≡ None → IsTold parts r
-        → TakesOn old now x y
-    took-none here old mid now x y r parts same done acts is told =
-        takes-more old mid now x y y tt r done
+        → TookInto next reply_to first old now before held
+    took-none here old mid now before held r parts same done acts is told =
+        took-more old mid now before held held tt r done
         (acts-at next reply_to here first (event.Take tt) r mid now same acts)
-        (subst (Appends y y) (sym (none-taken parts r is told)) (Appends-nil y))
+        (sym (append-nil held) ∙ ap (λ bs. held ++ bs) (sym (none-taken parts r is told)))
 
-    -- a take, of whose PDU all was written
-    pub took-pdu : (here : S) (old mid now : SeatValue NodeEvent) (x y z : Option (List ℕ))
-        (r : NodeReply) (parts : Option (Take × List ℕ)) (answer : Take) (pdu : List ℕ)
-        → here ≡ first → TakesOn old mid x y
+    -- a take, whose PDU is put behind the others
+    pub took-pdu : (here : S) (old mid now : SeatValue NodeEvent) (before held after pdu : List ℕ)
+        (r : NodeReply) (parts : Option (Take × List ℕ)) (answer : Take)
+        → here ≡ first → TookInto next reply_to first old mid before held
         → Acts next reply_to here (event.Take tt) r mid now
-        → parts ≡ Some (answer, pdu) → IsTold parts r → Appends y z pdu
-        → TakesOn old now x z
-    took-pdu here old mid now x y z r parts answer pdu same done acts is told wrote =
-        takes-more old mid now x y z tt r done
+        → parts ≡ Some (answer, pdu) → IsTold parts r → after ≡ held ++ pdu
+        → TookInto next reply_to first old now before after
+    took-pdu here old mid now before held after pdu r parts answer same done acts is told behind =
+        took-more old mid now before held after tt r done
         (acts-at next reply_to here first (event.Take tt) r mid now same acts)
-        (subst (Appends y z) (sym (pdu-taken parts r answer pdu is told)) wrote)
-
-    -- a take, of whose PDU a front was written
-    pub took-front : (here : S) (old mid now : SeatValue NodeEvent) (x y z : Option (List ℕ))
-        (r : NodeReply) (parts : Option (Take × List ℕ)) (answer : Take) (pdu : List ℕ)
-        → here ≡ first → TakesOn old mid x y
-        → Acts next reply_to here (event.Take tt) r mid now
-        → parts ≡ Some (answer, pdu) → IsTold parts r
-        → (k : ℕ) × (k ≤ length pdu) × Appends y z (take k pdu)
-        → TakenTo old now x z WriteFault
-    took-front here old mid now x y z r parts answer pdu same done acts is told wrote =
-        let whole = sym (pdu-taken parts r answer pdu is told) in
-        taken-front old mid now x y z tt r wrote.0 done
-        (acts-at next reply_to here first (event.Take tt) r mid now same acts)
-        (subst (λ bs. wrote.0 ≤ length bs) whole wrote.1)
-        (subst (λ bs. Appends y z (take wrote.0 bs)) whole wrote.2)
+        (behind ∙ ap (λ bs. held ++ bs) (sym (pdu-taken parts r answer pdu is told)))

@@ -1,5 +1,5 @@
 -- what the taker of an end does (profile)
-use Rattle.std.specs.Prelude.{◌≢◌, ℕ, ◌≤◌, List, [], take, length}
+use Rattle.std.specs.Prelude.{◌≡◌, ◌≢◌, ℕ, ◌≤◌, ◌++◌, List, [], take, length}
 use Rattle.std.specs.declared.option.Option.{Option}
 use Rattle.std.specs.Io.KnownBytes.{Appends}
 use Rattle.rh_turn.specs.Values.{SeatValue}
@@ -32,6 +32,14 @@ IsTakersEnd Ended = Unit {0}
 IsTakersEnd (Closed cause) = Unit {0}
 IsTakersEnd WriteFault = Unit {0}
 IsTakersEnd other = ⊥
+
+-- some takes, whose PDUs stand behind the bytes that were held before
+abbrev pub TookInto : {S : Type 0} → (S → NodeEvent → S) → (S → NodeEvent → NodeReply) → S
+    → SeatValue NodeEvent → SeatValue NodeEvent → List ℕ → List ℕ → Type 0
+TookInto next reply_to first old now before held = (calls : Calls)
+    × Ran next reply_to first old now calls
+    × AllAre IsTakers calls
+    × (held ≡ before ++ all_taken calls)
 
 -- The PDUs of the takes, joined, are what was written to the output. Where the output failed they
 -- begin with it.

@@ -53,7 +53,7 @@ fn given_of(told: NodeReply) -> Option<(Result<(), GiveFault>, Block)>
     }
 }
 
-// Gives a PDU once. Answers how often givers were called before, too.
+// Gives a PDU once, and calls nobody yet. Answers how often givers were called up to then, too.
 fn give_once<M: Node, R: Wait>(
     rt: &R,
     actor: &mut Actor<M>,
@@ -70,7 +70,7 @@ where
     ensures turn { actor.new.turn ≡ actor.old.turn }
 {
     let event = NodeEvent::Give(Block::of(pdu, room));
-    let (told, heard) = actor.act(rt, event, Call::Gives);
+    let (told, heard) = actor.act_quietly(rt, event, Call::Gives);
     (given_of(told), heard)
 }
 
@@ -104,6 +104,7 @@ where
             Err(GiveFault::BadPdu(_)) => return Err(NodeEnd::BadInput(count)),
             Err(GiveFault::Closing | GiveFault::Closed(_)) => return Err(NodeEnd::Ended),
             Err(GiveFault::Full { .. }) => {
+                actor.bell.ring_owed(rt);
                 if actor.bell.is_stopped(rt) {
                     return Err(NodeEnd::Ended);
                 }
@@ -228,7 +229,9 @@ where
             actor.act(rt, NodeEvent::Close, Call::Gives);
             return NodeEnd::Ended;
         }
-        match give_piece(rt, actor, &mut reader, &read[..count], give) {
+        let given = give_piece(rt, actor, &mut reader, &read[..count], give);
+        actor.bell.ring_owed(rt);
+        match given {
             Ok(room) => give = room,
             Err(end) => return end,
         }

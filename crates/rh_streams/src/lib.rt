@@ -1,6 +1,7 @@
 //! The giver and the taker of a running end: PDUs come from an input, and those taken go to an output.
 #![tactic(auto)]
 
+mod batch;
 pub mod giving;
 pub mod taking;
 

@@ -105,7 +105,7 @@ reads-preserved g c =
             (of-at _ _ _ _ _ _ _ _
             (ap (λ t. (arc_value {X = TurnValue _} t).first)
             (c.awaits_input.ensures.turn ∙ c.reads.invariant.turn))
-            c.in-Ok-give_piece.ensures.gave),
+            c.in-Ok-given.ensures.gave),
       );
       faults = search rules;
       turn = search rules;

@@ -4,8 +4,8 @@ use Rattle.std.specs.Arc.{arc_value}
 use Rattle.rh_streams.proofs.TakerCalls.{TakesOn}
 use Rattle.rh_streams.proofs.taking.take_all.Given as goal
 
-abbrev pub invariant-takes : goal.invariant-takes
-invariant-takes g l =
+abbrev pub invariant-batches : goal.invariant-batches
+invariant-batches g l =
     let w = g.W.Sink in
     record {
       taking : TakesOn g.M.Machine.next g.M.Machine.reply (arc_value l.fn.actor.turn).first
