@@ -1,3 +1,5 @@
 mod EndRound
 mod Marked
 mod OverUpwards
+mod GoneQuietly
+mod Unclosing
