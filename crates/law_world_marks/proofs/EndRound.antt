@@ -8,7 +8,7 @@ use Rattle.rh_client.specs.State as client_state
 use Rattle.rh_outproxy.specs.Machine as out_proxy
 use Rattle.rh_server.specs.Servers as server
 use Rattle.rh_server.specs.States.{is_put}
-use Rattle.law_moves.proofs.Vocabulary.{ClientConfig, Leg, Pipe, Phase, ended, begun, is_ended, is_in_use, EndPassage, EndMove, all_end_moved, end_started, Event, EndEvent, after_events, after_end_events}
+use Rattle.law_moves.proofs.Vocabulary.{ClientConfig, Leg, Pipe, Phase, Shell, ended, begun, is_ended, is_in_use, EndPassage, EndMove, all_end_moved, end_started, Event, EndEvent, after_events, after_end_events}
 use Rattle.law_role_client.proofs.Vocabulary.{ClientRole, Replacement, NoneUnderWay, In, Out, AreAllowedMoves, TakesInOrder, client_moved, has_leg, is_none, is_over}
 use Rattle.law_role_client.specs.Order as client_order
 use Rattle.law_role_client.specs.Counted.Replacing.{OutIsAt, OutStands, ReplacesOuts, out_finished, out_switched}
@@ -24,6 +24,7 @@ use Rattle.law_node_streams.specs.Streams.{EndStream, Stream}
 use Rattle.law_node_begins.specs.ProxiesBegin.Pipes.{co}
 use Rattle.law_peers_moments.specs.GoingRound.{GoRound}
 use Rattle.law_peers_routes.specs.Downwards.{client_reads, proxy_reads}
+use Rattle.law_node_marks.specs.Losing.{MayLose}
 use Rattle.law_world_order.proofs.Vocabulary.{Directions, Flows, Numbers, down_route_of}
 use Rattle.law_world_ways.proofs.ExactWays.ClientOver.{over_done, parts}
 use Rattle.law_world_ways.proofs.ExactWays.Passing.{client_passes}
@@ -42,6 +43,8 @@ pub record RoundLaws : Type 0 where
   pub replaced : (window : ℕ) (moves : List EndMove)
       → AreReplaced (all_end_moved server.rules server.acts (end_started (server.first window))
       moves).passage
+  pub may_lose : (node : Shell ClientRole) (leg : Leg) → MayLose client.rules node leg
+      → (ended client.rules node leg).0.course ≡ node.course
   pub out_goes : (config : OutProxyConfig) (pipe : Leg → Option Pipe) (events : List Event)
       (stream : Stream out_proxy.rules (new_proxy config) ROOMS pipe events)
       → has_passed (out_order.put_items config.number stream.passage.put) ≡ true → (leg : Leg)
@@ -249,4 +252,12 @@ module _ (law : RoundLaws) {K : Type 0} (numbers : Numbers)
       (sym (d.down.numbered n)) put) leg
 
   pub went_round : WentRound numbers h
-  went_round = record { writing = same; end_put = put_end; outs = outs }
+  went_round = record {
+    writing = same;
+    end_put = put_end;
+    client = λ leg.
+        law.may_lose (client_node numbers h) leg
+        (λ work. absurd (true≢false (sym work
+        ∙ ap (λ (f : Phase). not (is_ended f)) done)));
+    outs = outs;
+  }

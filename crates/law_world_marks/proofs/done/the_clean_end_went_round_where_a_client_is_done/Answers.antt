@@ -27,5 +27,6 @@ returns g c = λ m w new ours ranges v by done.
       order = c.a_client_takes_in_order.ensures;
       replaces = c.a_client_replaces_out_channels_one_by_one.ensures;
       replaced = c.a_server_replaces_out_channels_one_by_one.ensures.counts;
+      may_lose = c.a_node_goes_on_where_it_may_lose_a_leg.ensures;
       out_goes = c.no_end_closes_an_out_proxy_behind_its_mark.ensures;
     }
