@@ -3,7 +3,6 @@
 #![tactic(auto)]
 
 mod connection;
-mod made;
 
 use crate::connection::Connection;
 use rh_line::{State, Take};
@@ -19,107 +18,91 @@ const RESPONSE: [u8; 24] = [
     5, 0, 2, 3, 16, 0, 0, 0, 24, 0, 0, 0, 1, 0, 0, 0, 0, 0, 0, 0, 0, 0, 0, 0,
 ];
 
-/// A state in a word.
-fn state_word(state: State) -> &'static str {
+fn is(state: State) -> &'static str {
     match state {
-        State::Opening => "opening",
-        State::Open => "open",
-        State::Ended => "ended",
-        State::Closed(_) => "closed",
+        State::Opening => "is opening",
+        State::Open => "is open",
+        State::Ended => "has ended",
+        State::Closed(_) => "has closed",
     }
 }
 
-/// What a take answers, in a few words.
-fn take_words(taken: Take) -> &'static str {
+fn takes(taken: Take) -> &'static str {
     match taken {
-        Take::Pdu(_) => "a PDU",
-        Take::Empty => "none yet",
-        Take::Ended => "that no more comes",
-        Take::Closed(_) => "that it closed",
+        Take::Pdu(_) => "takes a PDU",
+        Take::Empty => "takes none yet",
+        Take::Ended => "takes no more",
+        Take::Closed(_) => "has closed",
     }
 }
 
-/// The client gives a request; what the server takes.
+fn writes_on(channel: u32) -> &'static str {
+    match channel {
+        1 => "writes on ci1",
+        2 => "writes on ci2",
+        _ => "writes on a later channel",
+    }
+}
+
+/// The client gives a request; what the server does.
 fn pass_up(all: &mut Connection) -> &'static str {
-    let mut room = [0; 8192];
     let _ = all.client.give(&REQUEST);
     all.settle();
-    take_words(all.server.take(&mut room))
+    takes(all.server.take(&mut [0; 8192]))
 }
 
-/// The server gives a response; what the client takes.
+/// The server gives a response; what the client does.
 fn pass_down(all: &mut Connection) -> &'static str {
-    let mut room = [0; 8192];
     let _ = all.server.give(&RESPONSE);
     all.settle();
-    take_words(all.client.take(&mut room))
+    takes(all.client.take(&mut [0; 8192]))
 }
 
-/// Both ends close; what each takes then.
-fn end(all: &mut Connection) -> (&'static str, &'static str) {
-    let mut room = [0; 8192];
+/// Both ends close; what each takes, and what it is then.
+fn end(all: &mut Connection) -> [(&'static str, &'static str); 3] {
     all.client.close();
     all.server.close();
     all.settle();
-    let up = take_words(all.server.take(&mut room));
-    (up, take_words(all.client.take(&mut room)))
+    [
+        ("server", takes(all.server.take(&mut [0; 8192]))),
+        ("client", takes(all.client.take(&mut [0; 8192]))),
+        ("client", is(all.client.state())),
+    ]
 }
 
-/// The states of the client and of the server.
-fn states(all: &Connection) -> (&'static str, &'static str) {
-    (
-        state_word(all.client.state()),
-        state_word(all.server.state()),
-    )
-}
-
-/// What is seen of a connection.
+/// Who does what, from the first leg to the end.
 #[derive(Clone, Copy)]
-struct Course {
-    opened: (&'static str, &'static str),
-    up: &'static str,
-    down: &'static str,
-    // The number of the client's writing channel, once that was replaced.
-    channel: u32,
-    up_again: &'static str,
-    last: (&'static str, &'static str),
-    ended: (&'static str, &'static str),
-}
+struct Course([(&'static str, &'static str); 8]);
 
-/// A connection from its first leg to its end. `None` for want of memory.
-fn run_course(alloc: Global) -> Option<Course> {
+/// Runs a connection. `None` for want of memory.
+fn run(alloc: Global) -> Option<Course> {
     let mut all = Connection::new(alloc)?;
     all.settle();
-    let opened = states(&all);
+    let opened = is(all.client.state());
     let up = pass_up(&mut all);
     let down = pass_down(&mut all);
     let _ = all.client.recycle_in();
-    let up_again = pass_up(&mut all);
-    let channel = all.client.channels().0;
-    let last = end(&mut all);
-    Some(Course {
-        opened,
-        up,
-        down,
-        channel,
-        up_again,
+    let again = pass_up(&mut all);
+    let channel = writes_on(all.client.channels().0);
+    let [server, client, last] = end(&mut all);
+    Some(Course([
+        ("client", opened),
+        ("server", up),
+        ("client", down),
+        ("server", again),
+        ("client", channel),
+        server,
+        client,
         last,
-        ended: states(&all),
-    })
+    ]))
 }
 
 fn main(rt: HostRuntime) -> io::Result<()> {
-    let Some(seen) = run_course(rt.alloc()) else {
+    let Some(course) = run(rt.alloc()) else {
         return println!(rt; "no memory");
     };
-    println!(rt; "the client is {}", seen.opened.0)?;
-    println!(rt; "the server is {}", seen.opened.1)?;
-    println!(rt; "the server takes {}", seen.up)?;
-    println!(rt; "the client takes {}", seen.down)?;
-    println!(rt; "the client writes on ci{}", seen.channel)?;
-    println!(rt; "the server takes {}", seen.up_again)?;
-    println!(rt; "the server takes {}", seen.last.0)?;
-    println!(rt; "the client takes {}", seen.last.1)?;
-    println!(rt; "the client is {}", seen.ended.0)?;
-    println!(rt; "the server is {}", seen.ended.1)
+    for (who, does) in course.0 {
+        println!(rt; "the {who} {does}")?;
+    }
+    Ok(())
 }
