@@ -1,2 +1,4 @@
+pub mod Callers
 pub mod Faults
 pub mod Keepers
+pub mod Plans

@@ -1,5 +1,8 @@
 //! Where nodes listen, and which proxies they use.
 
+ghost use Rattle.std.specs.Prelude.{◌≡◌, IfOk};
+ghost use Rattle.rh_keepers.specs.Plans.{address_at};
+
 use rh_io::NoMemory;
 use rh_net::Address;
 use std::alloc::Global;
@@ -17,7 +20,10 @@ pub struct Plan {
 
 impl Plan {
     /// The same plan. Fails where there is no memory.
-    pub fn copy(&self, alloc: Global) -> Result<Plan, NoMemory> {
+    pub fn copy(&self, alloc: Global) -> Result<Plan, NoMemory>
+        ensures { IfOk result (λ plan. (plan.at ≡ self.now.at)
+            × (plan.ins.items ≡ self.now.ins.items) × (plan.outs.items ≡ self.now.outs.items)) }
+    {
         Ok(Plan {
             at: self.at,
             ins: Vec::from_slice(alloc, &self.ins)?,
@@ -27,11 +33,13 @@ impl Plan {
 }
 
 /// The address of the channel of this number, from 1; `None` where there is no address.
-pub(crate) fn address_of(addresses: &[Address], number: u32) -> Option<Address> {
+pub(crate) fn address_of(addresses: &[Address], number: u32) -> Option<Address>
+    ensures { result ≡ address_at addresses.now number }
+{
     let count = addresses.len();
     if count == 0 {
         return None;
     }
     let at = number.saturating_sub(1) as usize % count;
-    Some(addresses[at])
+    addresses.get(at).copied()
 }

@@ -2,6 +2,8 @@
 
 ghost use Rattle.std.specs.Prelude.{◌≡◌, ◌≢◌, IfErr};
 ghost use Rattle.std.specs.Arc.{arc_value};
+ghost use Rattle.rh_server.specs.FirstKinds.{first_kind};
+ghost use Rattle.rh_keepers.specs.Callers.{met_by};
 ghost use Rattle.rh_keepers.specs.Faults.{CookiesFail, NetFails};
 ghost use Rattle.rh_keepers.specs.Keepers.{HasAsked, IsKeepersEnd, KeptOn, no_causes, of_others};
 
@@ -63,7 +65,9 @@ impl<I: Ready + Drop, O: Drop> Stranger<I, O> {
 }
 
 // Who a caller is, by these first bytes.
-fn kind_of(first: &First) -> Met {
+fn kind_of(first: &First) -> Met
+    ensures { result ≡ met_by (first_kind first.now) }
+{
     match first_kind(first.bytes()) {
         FirstKind::Need => Met::Unknown,
         FirstKind::In => Met::Leg(LegKind::InServer),

@@ -1,7 +1,8 @@
 //! What a keeper asks the machine of its node, and what it tells it.
 
-ghost use Rattle.std.specs.Prelude.{◌≡◌, true};
+ghost use Rattle.std.specs.Prelude.{◌≡◌, true, take, IfSome};
 ghost use Rattle.rh_machines.specs.declared.event.NodeEvent.TheVariants as event;
+ghost use Rattle.rh_machines.specs.declared.event.NodeReply.TheVariants as reply;
 ghost use Rattle.rh_keepers.specs.Keepers.{ActsOn, AsksLive, IsWanted, KeptOn, TellsUp, no_causes};
 
 use rh_actors::Actor;
@@ -48,15 +49,19 @@ where
 pub(crate) fn target<M: Node, R: Wait>(rt: &R, actor: &mut Actor<M>) -> Option<Address>
 where
     M::State: Drop,
-    ensures { KeptOn M.next M.reply no_causes actor.old.turn actor.new.turn
+    ensures asked { KeptOn M.next M.reply no_causes actor.old.turn actor.new.turn
         actor.old.seat actor.new.seat }
+    ensures named { IfSome result (λ to. (state : M.State) × (M.reply state event.Target
+        ≡ reply.Target (Some (take to.len to.host, to.port)))) }
 {
     server_of(actor.act(rt, NodeEvent::Target, Call::Keeps).0)
 }
 
 // The address of the server that a reply names.
-fn server_of(reply: NodeReply) -> Option<Address> {
-    let NodeReply::Target(target) = reply else {
+fn server_of(told: NodeReply) -> Option<Address>
+    ensures { IfSome result (λ to. told ≡ reply.Target (Some (take to.len to.host, to.port))) }
+{
+    let NodeReply::Target(target) = told else {
         return None;
     };
     let server = target?;

@@ -8,10 +8,10 @@ returns-then-not-wants-clause-kept g c = kept-any c.wants.ensures.asked
 
 pub returns-in_default-clause-kept : goal.returns-in_default-clause-kept
 returns-in_default-clause-kept g c =
-    kept-then (kept-any c.wants.ensures.asked) (kept-any c.target.ensures)
+    kept-then (kept-any c.wants.ensures.asked) (kept-any c.target.ensures.asked)
 
 pub returns-clause-kept : goal.returns-clause-kept
 returns-clause-kept g c =
-    kept-then (kept-then (kept-any c.wants.ensures.asked) (kept-any c.target.ensures))
+    kept-then (kept-then (kept-any c.wants.ensures.asked) (kept-any c.target.ensures.asked))
     (kept-connect _ _ _ (λ _ is. is) refl
     (λ net. inl (c.wants.ensures.wanted c.if-not-wants.false, net)) c.connect.ensures)
