@@ -1,6 +1,5 @@
 //! How a client is kept: each leg that it wants is connected, with a cookie of its own.
 
-ghost use Rattle.std.specs.Prelude.{◌≡◌};
 ghost use Rattle.std.specs.Arc.{arc_value};
 ghost use Rattle.rh_keepers.specs.Faults.{CookiesFail, NetFails};
 ghost use Rattle.rh_keepers.specs.Keepers.{HasAsked, IsKeepersEnd, KeptOn, of_client};
