@@ -3,22 +3,20 @@
 use rh_actors::Actor;
 use rh_legs::NodeEnd;
 use rh_machines::Node;
-use rh_net::{Address, Net};
+use rh_net::Address;
 use rh_slots::Served;
 
 /// What a job answers: its node, who acted, why it ended, and what it had of the outside.
 #[derive(Drop)]
-pub struct Done<M: Node, S: Drop, W: Drop, N: Net>
+pub struct Done<M: Node, S: Drop, W: Drop, I: Drop, O: Drop>
 where
     M::State: Drop,
-    N::In: Drop,
-    N::Out: Drop,
 {
     /// The place of its node.
     pub(crate) node: usize,
     pub(crate) actor: Actor<M>,
     pub(crate) end: NodeEnd,
-    pub(crate) had: Had<S, W, N::In, N::Out>,
+    pub(crate) had: Had<S, W, I, O>,
 }
 
 /// What a job had of the outside.

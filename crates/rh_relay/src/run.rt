@@ -119,7 +119,7 @@ fn gather<M: Node, S: Ready + Drop, W: ShutSink + Drop, N: Net + Drop, R: Wait>(
     rt: &R,
     alloc: Global,
     actors: Vec<Actor<M>>,
-    dones: Vec<Done<M, S, W, N>>,
+    dones: Vec<Done<M, S, W, N::In, N::Out>>,
     back: &mut Back<S, W, N>,
 ) -> Result<Vec<NodeEnd>, NoMemory>
 where
@@ -246,7 +246,7 @@ fn finish<
     alloc: Global,
     desk: Desk<N, C, K>,
     actors: Vec<Actor<M>>,
-    dones: Vec<Done<M, S, W, N>>,
+    dones: Vec<Done<M, S, W, N::In, N::Out>>,
     streams: Option<(S, W)>,
 ) -> Result<Ran<S, W, N, C, K>, NoMemory>
 where

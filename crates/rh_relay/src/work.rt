@@ -1,5 +1,12 @@
 //! The jobs of a node.
 
+ghost use Rattle.std.specs.Prelude.{◌≡◌};
+ghost use Rattle.std.specs.Arc.{arc_value};
+ghost use Rattle.rh_slots.specs.Slots.{ReadsLeg, WritesLeg};
+ghost use Rattle.rh_keepers.specs.Faults.{CookiesFail, NetFails};
+ghost use Rattle.rh_keepers.specs.Keepers.{IsKeepersEnd, KeptOn, of_role};
+ghost use Rattle.rh_relay.specs.Jobs.{HasGiven, HasRead, HasTaken, HasWritten, IsSlotsEnd};
+
 use crate::answer::{Done, Had};
 use rh_actors::Actor;
 use rh_jobs::Job;
@@ -82,11 +89,32 @@ where
     N::Out: Send + Drop,
     N::Way: Send + Drop,
 {
-    type Out = Done<M, S, W, N>;
+    type Out = Done<M, S, W, N::In, N::Out>;
 
-    ghost answers = { λ _ _. Unit {0} };
+    ghost use Rattle.std.specs.Prelude.{◌≡◌};
+    ghost use Rattle.rh_keepers.specs.Faults.{CookiesFail, NetFails};
+    ghost use Rattle.rh_keepers.specs.Keepers.{of_role};
+    ghost use Rattle.rh_relay.specs.Jobs.{Answers};
 
-    fn run(self) -> Done<M, S, W, N> {
+    ghost answers = { λ work done. (done.node ≡ work.node) × Answers M.next M.reply
+        (of_role M.ROLE M.reply C.moment N.counts K.answered N.In.faults)
+        (NetFails N.counts) (CookiesFail K.faults)
+        (record {
+          left = S.left;
+          taken = S.taken;
+          faults = S.faults;
+          written = W.written;
+          misses = W.faults;
+        })
+        (record {
+          read = N.In.taken;
+          faults = N.In.faults;
+          ends = N.In.ends;
+          sent = N.Out.written;
+          misses = N.Out.faults;
+        }) work.task done };
+
+    fn run(self) -> Done<M, S, W, N::In, N::Out> {
         let Work { rt, node, task } = self;
         match task {
             Task::Keep(alloc, keeper) => keep::<M, S, W, N, C, K, R>(&rt, node, alloc, keeper),
@@ -111,12 +139,17 @@ fn keep<
     C: Clock + Drop,
     K: Cookies + Drop,
     R: Wait + time::Clock,
->(rt: &R, node: usize, alloc: Global, keeper: Keeper<M, N, C, K>) -> Done<M, S, W, N>
+>(rt: &R, node: usize, alloc: Global, keeper: Keeper<M, N, C, K>) -> Done<M, S, W, N::In, N::Out>
 where
     M::State: Drop,
     N::In: Ready + Drop,
     N::Out: Drop,
     N::Way: Drop,
+    ensures node { result.node ≡ node }
+    ensures kept { KeptOn M.next M.reply
+        (of_role M.ROLE M.reply C.moment N.counts K.answered N.In.faults)
+        keeper.actor.turn result.actor.turn keeper.actor.seat result.actor.seat }
+    ensures end { IsKeepersEnd (NetFails N.counts) (CookiesFail K.faults) result.end }
 {
     let mut keeper = keeper;
     let end = keeper.run(alloc, rt);
@@ -140,11 +173,16 @@ fn read<M: Node, S: Ready + Drop, W: ShutSink + Drop, N: Net + Drop, G: Gate + D
     node: usize,
     actor: Actor<M>,
     serving: Serving<ToRead<N::In>, N::In, G>,
-) -> Done<M, S, W, N>
+) -> Done<M, S, W, N::In, N::Out>
 where
     M::State: Drop,
     N::In: Drop,
     N::Out: Drop,
+    ensures node { result.node ≡ node }
+    ensures turn { result.actor.turn ≡ actor.turn }
+    ensures read { HasRead (ReadsLeg M.next M.reply (arc_value actor.turn).first
+        N.In.taken N.In.faults N.In.ends) actor.seat result.actor.seat result.had }
+    ensures end { IsSlotsEnd result.end }
 {
     let mut actor = actor;
     let (kept, end) = read_slot::<M, R, N::In, G>(rt, &mut actor, serving);
@@ -163,11 +201,16 @@ fn write<M: Node, S: Ready + Drop, W: ShutSink + Drop, N: Net + Drop, G: Gate + 
     node: usize,
     actor: Actor<M>,
     serving: Serving<ToWrite<N::Out>, N::Out, G>,
-) -> Done<M, S, W, N>
+) -> Done<M, S, W, N::In, N::Out>
 where
     M::State: Drop,
     N::In: Drop,
     N::Out: Drop,
+    ensures node { result.node ≡ node }
+    ensures turn { result.actor.turn ≡ actor.turn }
+    ensures written { HasWritten (WritesLeg M.next M.reply (arc_value actor.turn).first
+        N.Out.written N.Out.faults) actor.seat result.actor.seat result.had }
+    ensures end { IsSlotsEnd result.end }
 {
     let mut actor = actor;
     let (kept, end) = write_slot::<M, R, N::Out, G>(rt, &mut actor, serving);
@@ -187,11 +230,15 @@ fn give<M: Node, S: Ready + Drop, W: ShutSink + Drop, N: Net + Drop, R: Wait>(
     actor: Actor<M>,
     input: S,
     rooms: GivingRooms,
-) -> Done<M, S, W, N>
+) -> Done<M, S, W, N::In, N::Out>
 where
     M::State: Drop,
     N::In: Drop,
     N::Out: Drop,
+    ensures node { result.node ≡ node }
+    ensures turn { result.actor.turn ≡ actor.turn }
+    ensures gave { HasGiven M.next M.reply (arc_value actor.turn).first S.left S.taken S.faults
+        input actor.seat result.actor.seat result.end result.had }
 {
     let mut actor = actor;
     let mut input = input;
@@ -212,11 +259,15 @@ fn take<M: Node, S: Ready + Drop, W: ShutSink + Drop, N: Net + Drop, R: Wait>(
     actor: Actor<M>,
     output: W,
     room: BlockRoom,
-) -> Done<M, S, W, N>
+) -> Done<M, S, W, N::In, N::Out>
 where
     M::State: Drop,
     N::In: Drop,
     N::Out: Drop,
+    ensures node { result.node ≡ node }
+    ensures turn { result.actor.turn ≡ actor.turn }
+    ensures took { HasTaken M.next M.reply (arc_value actor.turn).first W.written W.faults
+        output actor.seat result.actor.seat result.end result.had }
 {
     let mut actor = actor;
     let mut output = output;
