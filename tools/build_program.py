@@ -95,6 +95,7 @@ class Progress:
             f"this takes about {took} where {processors} processor{'s' * (processors != 1)} have"
             " nothing else to do; Ctrl-C stops it, and the next call goes on from there"
         )
+        self.say("--unproved before the words runs the sources as they are, and proves nothing")
 
     def begin(self, name, log=None):
         self.running[name], self.is_waiting = log, False

@@ -212,7 +212,8 @@ class Build(Commands):
         lines = done.stderr.split("\n")
         self.assertEqual(lines[0], "rh_cli: proving and building the program: 4 crates")
         self.assertRegex(lines[1], r"^rh_cli: this takes about 1 minute where \d+ processors? ha")
-        steps = [re.sub(r" after .*", "", line) for line in lines[2:]]
+        self.assertTrue(lines[2].startswith("rh_cli: --unproved before the words "))
+        steps = [re.sub(r" after .*", "", line) for line in lines[3:]]
         wanted = [f"rh_cli: {number} of 4 crates done" for number in (1, 2, 3, 4)]
         self.assertEqual(steps, [*wanted, ""])
         self.assertEqual(self.run_it("./rh_cli", "--version").stderr, "")
@@ -245,8 +246,8 @@ class Build(Commands):
         self.assertEqual(child.wait(), 0)
         lines = os.read(main, 65_536).decode().replace("\r\n", "\n").rstrip("\n").split("\n")
         os.close(main)
-        self.assertEqual(len(lines), 3)
-        steps = [step.removesuffix("\x1b[K") for step in lines[2].split("\r")[1:]]
+        self.assertEqual(len(lines), 4)
+        steps = [step.removesuffix("\x1b[K") for step in lines[3].split("\r")[1:]]
         self.assertTrue(any(it.endswith(": middle (3 of 4 functions)") for it in steps), steps)
         self.assertRegex(steps[-1], r"^rh_cli: 4 of 4 crates done after 0:\d\d; linking$")
 

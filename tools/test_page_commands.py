@@ -50,10 +50,13 @@ def uncut(cut):
 
 class Readme(unittest.TestCase):
     def test_the_first_run(self):
-        unproved, proved = map(command, blocks(README, "sh")[0])
-        self.assertEqual(unproved, proved.replace("./replay ", "./replay --unproved "))
-        done = run(proved)
-        self.assertEqual(done.stdout, (TOP / "examples/direct.report").read_text(), done.stderr)
+        lines = [command(line) for line in blocks(README, "sh")[0]]
+        done = [run(line.replace(" --unproved", "")) for line in lines]
+        self.assertEqual([(it.returncode, it.stderr) for it in done], [(0, "")] * 3)
+        report, story, packets = (it.stdout for it in done)
+        self.assertEqual(report, (TOP / "examples/direct.report").read_text())
+        self.assertIn("0 take c ended\n", story)
+        self.assertIn("CONN/A3 timeout 120000\n", packets)
 
     def test_the_recording_and_its_report(self):
         [rows] = [it for it in blocks(README, "text") if it[0] == "rh 1 direct"]
