@@ -5,12 +5,15 @@ and that is noted. Behind `bad input` the refused line is told, and what may sta
 tell each line of packets in a line read their input in pieces (given_pieces.py), and others in one.
 """
 import bisect
+import contextlib
 import os
 import re
+import shutil
 import signal
 import stat
 import subprocess
 import sys
+import tempfile
 import threading
 from collections import deque
 
@@ -113,8 +116,13 @@ class Running:
         self.word, self.say, self.rest = words[0], say, b""
         self.first = self.read()
         self.given, self.kept = Given(self.word, self.first), bytearray()
-        pipes = {"stdin": subprocess.PIPE, "stderr": subprocess.PIPE}
-        self.child = subprocess.Popen([*command, *words], cwd=place, **pipes)
+        how = {"stdin": subprocess.PIPE, "stderr": subprocess.PIPE, "cwd": place}
+        # What rt starts would outlive it where a signal ends it: it ends with its session then.
+        self.room, self.stopped_by = None, None
+        if command[0] == "rt":
+            self.room = tempfile.mkdtemp()
+            how |= {"start_new_session": True, "env": os.environ | {"TMPDIR": self.room}}
+        self.child = subprocess.Popen([*command, *words], **how)
         # The line that was refused; whether there was too much, and whether reading failed.
         self.bad, self.is_long, self.is_broken = None, False, False
 
@@ -164,14 +172,30 @@ class Running:
     def end(self):
         """Waits for the program's end. Its status, as a process has it."""
         for number in SIGNALS:
-            signal.signal(number, lambda it, _: self.child.send_signal(it))
+            signal.signal(number, self.stop)
         threads = [threading.Thread(target=it, daemon=True) for it in (self.feed, self.hear)]
         for thread in threads:
             thread.start()
         status = self.child.wait()
+        self.clear()
         if status >= 0:
             threads[1].join()
-        return status
+        return -self.stopped_by if self.stopped_by else status
+
+    def stop(self, number, _):
+        """A signal came that ends a command."""
+        if self.room:
+            self.stopped_by = number
+            os.killpg(self.child.pid, signal.SIGTERM)
+        else:
+            self.child.send_signal(number)
+
+    def clear(self):
+        """Leaves nothing behind of what rt started."""
+        if self.room:
+            with contextlib.suppress(ProcessLookupError):
+                os.killpg(self.child.pid, signal.SIGKILL)
+            shutil.rmtree(self.room, ignore_errors=True)
 
     def tell(self):
         """Tells of what the program refused."""
