@@ -347,7 +347,10 @@ class Ends(FourRoles):
     def test_an_output_that_takes_nothing_is_a_write_fault(self):
         self.listen(stdin=subprocess.PIPE, stdout=self.full())
         self.server.output = self.file()
-        self.call(stdin=self.file(pdu(72, 1)))
+        # While its input is open no END goes, behind which a proxy may end in order.
+        self.call(stdin=subprocess.PIPE)
+        self.client.stdin.write(pdu(72, 1))
+        self.client.stdin.flush()
         self.check(self.server, status=4, said="write fault")
         self.are_left(self.client, self.in_proxy, self.out_proxy)
 
