@@ -1,18 +1,21 @@
 #!/usr/bin/env python3
-"""Tests that the commands of README.md, docs/RECORDINGS.md and docs/RELAYS.md run as typed there, and
-that the README's recording and report are those of examples/.
+"""Tests that the commands of README.md, CONTRIBUTING.md, docs/RECORDINGS.md and docs/RELAYS.md run as
+typed there, and that the README's recording and report are those of examples/.
 
 What proves anything is left out, as is `--unproved`, which test_commands.py and test_library.py try.
 CAPTURE stands for each capture of examples/.
 """
 import pathlib
 import re
+import shutil
 import subprocess
 import time
 import unittest
 
 TOP = pathlib.Path(__file__).resolve().parent.parent
-README, RECORDINGS, RELAYS = (TOP / it for it in ("README.md", "docs/RECORDINGS.md", "docs/RELAYS.md"))
+README, CONTRIBUTING, RECORDINGS, RELAYS = (
+    TOP / it for it in ("README.md", "CONTRIBUTING.md", "docs/RECORDINGS.md", "docs/RELAYS.md")
+)
 # How many packets each capture of the pages has.
 PACKETS = {"examples/opening.pcap": 7, "examples/client.pcap": 26}
 PORTS = (5930, 5931, 5932)
@@ -99,6 +102,15 @@ class Readme(unittest.TestCase):
         child = subprocess.Popen(words, cwd=TOP, stdin=subprocess.DEVNULL, **pipes)
         self.addCleanup(child.kill)
         return child
+
+
+class Contributing(unittest.TestCase):
+    @unittest.skipUnless(shutil.which("rt"), "there is no rt")
+    def test_one_crate_is_proved(self):
+        [lines] = blocks(CONTRIBUTING, "sh")
+        done = run("; ".join(map(command, lines)))
+        [told] = [it for it in blocks(CONTRIBUTING, "text") if "may_put: proved" in it[0]]
+        self.assertIn(told[-1].removesuffix(" .."), done.stdout)
 
 
 class Recordings(unittest.TestCase):
