@@ -54,6 +54,7 @@ module _ (Comes : ℕ → Cookie → Type 0) (reader : ℕ → ℕ) (mets : ℕ 
     pub successors : AreSuccessors mets
     pub turns : (n : ℕ) (begun : First) → first_among (mets n) ≡ Some begun
         → (n ≡ 1) ⊎ ((cookie : Cookie) × IsBehind n cookie)
+    pub own : (n : ℕ) (begun : First) → first_among (mets n) ≡ Some begun → reader n ≡ n
 
   in_turn : AreRead → (n : ℕ) (begun : First) → first_among (mets n) ≡ Some begun
       → (n ≡ 1) ⊎ ((cookie : Cookie) × IsBehind n cookie)
@@ -167,4 +168,5 @@ module _ (Comes : ℕ → Cookie → Type 0) (reader : ℕ → ℕ) (mets : ℕ 
         apart = apart;
       };
       turns = in_turn read;
+      own = λ n begun met. (read.tells n begun met).own;
     }

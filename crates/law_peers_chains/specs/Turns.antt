@@ -24,3 +24,8 @@ abbrev pub BeginInTurn : LegKind → (ℕ → ℕ) → (ℕ → List Met) → Ty
 BeginInTurn kind reader mets =
     (n : ℕ) (begun : First) → first_among (mets n) ≡ Some begun
     → (n ≡ 1) ⊎ HasBefore kind reader mets n
+
+-- and a leg with its first packet is that of its own channel
+abbrev pub HaveOwn : LegKind → (ℕ → ℕ) → (ℕ → List Met) → Type 0
+HaveOwn kind reader mets =
+    (n : ℕ) (begun : First) → first_among (mets n) ≡ Some begun → leg_for kind reader n ≡ n

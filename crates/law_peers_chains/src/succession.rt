@@ -7,7 +7,7 @@ ghost use Rattle.rh_audit.specs.declared.packet.Met.{Met};
 ghost use Rattle.law_chains.specs.Successors.{AreSuccessors};
 ghost use Rattle.law_peers_moments.specs.Moments.{IsMoment, Moves, Numbers};
 ghost use Rattle.law_peers_chains.specs.Shown.{AreShown};
-ghost use Rattle.law_peers_chains.specs.Turns.{BeginInTurn};
+ghost use Rattle.law_peers_chains.specs.Turns.{BeginInTurn, HaveOwn};
 
 use law_peers_expects::no_client_is_opened_early;
 use law_peers_in_channels::{
@@ -37,6 +37,9 @@ pub fn each_leg_replaces_the_one_before_it()
     ensures turns { (numbers : Numbers) (reader : ℕ → ℕ) (moves : Moves)
         → IsMoment numbers reader moves → (kind : LegKind) (mets : ℕ → List Met)
         → AreShown numbers reader moves kind mets → BeginInTurn kind reader mets }
+    ensures own { (numbers : Numbers) (reader : ℕ → ℕ) (moves : Moves)
+        → IsMoment numbers reader moves → (kind : LegKind) (mets : ℕ → List Met)
+        → AreShown numbers reader moves kind mets → HaveOwn kind reader mets }
 {
     a_client_names_its_in_channels();
     a_client_opens_in_channels_in_order();

@@ -127,6 +127,12 @@ tagged legs tag (line ∷ lines) all = by (line.tag == tag) refl (tagged legs ta
         })
     by false e more = more
 
+pub all_none : {X Y : Type 0} (f : X → List Y) (xs : List X) → ((x : X) → f x ≡ [])
+    → flat_map f xs ≡ []
+all_none f [] each = refl
+all_none {X} {Y} f (x ∷ xs) each =
+    ap₂ (λ (front rest : List Y). front ++ rest) (each x) (all_none f xs each)
+
 -- ---- streams
 
 module _ (none : (pipe : Pipe) → stream pipe [] ≡ stream_is [] None) (report : List Answer)
@@ -165,12 +171,6 @@ module _ (none : (pipe : Pipe) → stream pipe [] ≡ stream_is [] None) (report
           subst (λ (n : ℕ). (stream_in pipe (of_tag n seen)).broken ≡ None) (sym has.is)
           (of_leg has.leg pipe has.met)
 
-  all_none : {X Y : Type 0} (f : X → List Y) (xs : List X) → ((x : X) → f x ≡ [])
-      → flat_map f xs ≡ []
-  all_none f [] each = refl
-  all_none {X} {Y} f (x ∷ xs) each =
-      ap₂ (λ (front rest : List Y). front ++ rest) (each x) (all_none f xs each)
-
   pub no_faults : (tags : List ℕ) → flat_map (λ tag. broken_in tag (of_tag tag seen)) tags ≡ []
   no_faults tags =
       all_none (λ tag. broken_in tag (of_tag tag seen)) tags
@@ -179,7 +179,7 @@ module _ (none : (pipe : Pipe) → stream pipe [] ≡ stream_is [] None) (report
 
 -- ---- recordings
 
-told_is : (world : AnyWorld) (lines : List Line)
+pub told_is : (world : AnyWorld) (lines : List Line)
     → told world lines ≡ answers world lines ++ last (after world lines)
 told_is world [] = refl
 told_is world (line ∷ lines) =
@@ -210,7 +210,7 @@ is_roles [] w = (w, refl)
 is_roles (line ∷ lines) w = is_roles lines (roles.step line w).0
 
 -- nothing was answered yet, or a world of roles stands behind the lines
-roles_or_none : (lines : List Line) (config : WorldConfig)
+pub roles_or_none : (lines : List Line) (config : WorldConfig)
     → (answers (Settings config) lines ≡ [])
     ⊎ ((v : roles.World) × (after (Settings config) lines ≡ Roles v))
 roles_or_none [] config = inl refl

@@ -66,7 +66,7 @@ frames_begin (Text text ∷ ms) h = absurd h.0
 frames_begin (Pdu pdu ∷ ms) h = h
 frames_begin (Packet named ∷ ms) h = h
 
-no_texts : (pipe : Pipe) (put : List Message) → Begins (Some pipe) put
+pub no_texts : (pipe : Pipe) (put : List Message) → Begins (Some pipe) put
     → AreNoTexts (behind_text put)
 no_texts CiU put h = text_begins (Some CiU) _ put h
 no_texts CoU put h = text_begins (Some CoU) _ put h
@@ -76,7 +76,7 @@ no_texts OsD put h = text_begins (Some OsD) _ put h
 no_texts IsU put h = frames_begin put h
 no_texts OsU put h = frames_begin put h
 
-all_behind : (P : Message → Type 0) (put : List Message) → AllByRecursion P put
+pub all_behind : (P : Message → Type 0) (put : List Message) → AllByRecursion P put
     → AllByRecursion P (behind_text put)
 all_behind P [] h = tt
 all_behind P (Text text ∷ ms) h = h.1

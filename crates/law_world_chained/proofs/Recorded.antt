@@ -1,8 +1,10 @@
 -- the legs of a recording of roles stand in chains
-use Rattle.law_order.proofs.Vocabulary.{◌≡◌, ℕ, List, [], ◌∷◌, ◌++◌, true, refl, sym, ap, ◌∙◌, subst, append-nil, Some, None, Option, AllByRecursion, IsPrefix}
+use Rattle.law_order.proofs.Vocabulary.{◌≡◌, ℕ, List, [], ◌∷◌, ◌++◌, map, true, false, refl, sym, ap, ◌∙◌, subst, append-nil, Some, None, Option, AllByRecursion, IsPrefix}
+use Rattle.std.specs.List.{flat_map}
 use Rattle.rh_record.specs.declared.answer.Who.TheVariants as who
 use Rattle.rh_audit.specs.declared.packet.Met.{Met}
 use Rattle.rh_audit.specs.declared.seen.Seen.{Seen}
+use Rattle.rh_audit.specs.Audits.{AreTags, is_left, unchained_in}
 use Rattle.rh_audit.specs.Captures.{bytes_on}
 use Rattle.rh_audit.specs.Pipes.{first_pipe}
 use Rattle.rh_audit.specs.Streams.{mets, stream, stream_is}
@@ -10,7 +12,7 @@ use Rattle.rh_capture.specs.Captured.{captured}
 use Rattle.rh_capture.specs.Legs.{tag_of}
 use Rattle.rh_capture.specs.Moves.{pipe_of}
 use Rattle.rh_world.specs.Roles as roles
-use Rattle.law_moves.proofs.Vocabulary.{Dir, U, prefix_trans, Pipe, Leg, LegKind, ClientOut, OutServer, ClientIn, InServer, EndPassage, Passage, Message, spelled, of_leg, messages_read, messages_from, begin, reading_after}
+use Rattle.law_moves.proofs.Vocabulary.{Dir, D, U, OsD, prefix_trans, Pipe, Leg, LegKind, ClientOut, OutServer, ClientIn, InServer, EndPassage, Passage, Message, spelled, of_leg, all_read_of, spell, messages_read, messages_from, begin, reading_after}
 use Rattle.law_moves.proofs.Lemmas.{read_behind}
 use Rattle.law_role_inproxy.proofs.Vocabulary.{InProxy}
 use Rattle.law_role_client.proofs.Vocabulary.{ClientRole}
@@ -26,15 +28,17 @@ use Rattle.law_world_order.specs.Flows.{read_on}
 use Rattle.law_world_order.specs.Pasts.{moves_of, numbers}
 use Rattle.law_world_order.specs.Premises.{AreDistinct}
 use Rattle.law_peers_moments.specs.Moments.{IsMoment, Moves, Numbers, Passages, came_to, passages}
-use Rattle.law_chains.specs.Successors.{AreSuccessors, AreTagged, IsChained, mets_of_leg}
+use Rattle.law_chains.specs.Successors.{AreSuccessors, AreTagged, IsChained, IsTag, mets_of_leg}
+use Rattle.law_peers_chains.specs.Turns.{BeginInTurn, HaveOwn}
+use Rattle.law_audit_streams.specs.Put.{behind_text}
 use Rattle.law_peers_chains.specs.Shown.{AreShown, IsShown, came_up, put_up}
 use Rattle.law_world_captured.specs.Moved.{moved_on}
-use Rattle.law_world_captured.specs.Sent.{IsOf}
+use Rattle.law_world_captured.specs.Sent.{IsOf, sent_on}
 use Rattle.law_world_captured.specs.Streams.{TellsStreams, TellsStreamsIn, TellsStreamsOf}
 use Rattle.law_world_captured.specs.Tagged.{IsLineOf, is_met, legs_met}
-use Rattle.law_world_chained.specs.Chained.{TellsChains, TellsChainsIn, TellsChainsOf, tag_at}
-use Rattle.law_world_chained.proofs.Seen.{SeenLaws, shown}
-use Rattle.law_world_chained.proofs.Tagging.{are_tagged}
+use Rattle.law_world_chained.specs.Chained.{IsAllBack, IsMost, TellsChains, TellsChainsIn, TellsChainsOf, tag_at}
+use Rattle.law_world_chained.proofs.Seen.{SeenLaws, behind_no_texts, came_there, shown}
+use Rattle.law_world_chained.proofs.Tagging.{are_tagged, sum_most, sum_of}
 
 -- ---- pipes towards the server
 
@@ -82,6 +86,15 @@ pub record Laws : Type 0 where
   pub succeed : (numbers : Numbers) (reader : ℕ → ℕ) (moves : Moves)
       → IsMoment numbers reader moves → (kind : LegKind) (mets : ℕ → List Met)
       → AreShown numbers reader moves kind mets → AreSuccessors mets
+  pub turn : (numbers : Numbers) (reader : ℕ → ℕ) (moves : Moves)
+      → IsMoment numbers reader moves → (kind : LegKind) (mets : ℕ → List Met)
+      → AreShown numbers reader moves kind mets → BeginInTurn kind reader mets
+  pub have_own : (numbers : Numbers) (reader : ℕ → ℕ) (moves : Moves)
+      → IsMoment numbers reader moves → (kind : LegKind) (mets : ℕ → List Met)
+      → AreShown numbers reader moves kind mets → HaveOwn kind reader mets
+  pub none_told : (seen : List Seen) (tags : List ℕ)
+      → ((kind : LegKind) (tag : ℕ) → IsTag tag tags → is_left seen tags tag kind ≡ false)
+      → flat_map (unchained_in seen tags) tags ≡ []
   pub bytes : (report : List Answer) (leg : Leg) (dir : Dir) (pipe : Pipe)
       → pipe_of leg.kind dir ≡ Some pipe
       → bytes_on (tag_of (legs_met report) leg) pipe (captured report) ≡ moved_on leg dir report
@@ -199,24 +212,86 @@ module _ (law : Laws) (answered : List Answer) (world : roles.World)
         subst (λ (bytes : List ℕ). IsShown (put_up all reader kind n) (came_up all reader kind n)
         (mets pipe (stream pipe bytes))) (sym (law.bytes answered leg U pipe is)) here
 
+    -- by the messages of the stream
+    came_in : Traced → (front : List Message)
+        → IsPrefix front (behind_text (put_up all reader kind n))
+        → stream (first_pipe kind) moved ≡ stream_is (map spell front) None
+        → IsPrefix (came_up all reader kind n) (all_read_of front)
+    came_in t front of_put is =
+        let pipe = first_pipe kind in
+        let up = first_up kind in
+        let sent = told.told.sent leg U pipe up in
+        came_there law.seen pipe (put_up all reader kind n) (came_up all reader kind n) moved
+        sent.begins sent.may_go (front_up kind (put_up all reader kind n) moved sent.of_put)
+        (record { front = front; of_messages = of_put; is = is }) (told.begins leg U pipe up)
+        (behind_no_texts (Some pipe) (put_up all reader kind n) sent.begins) (came_moved t)
+
+  -- from the server to an out proxy
+  module _ (n : ℕ) where
+    abbrev os : Leg
+    os = leg_at OutServer n
+
+    came_down : Traced → IsPrefix (of_leg os (came_to all (end_node world.readers os (receiver D))))
+        (messages_read (Some OsD) (moved_on os D answered))
+    came_down t =
+        let takes = end_node world.readers os (receiver D) in
+        let heard = heard_on os (events_of h takes) in
+        let on = subst (λ (pipe : Option Pipe). IsPrefix (of_leg os (came_to all takes))
+        (messages_read pipe heard))
+        (sym (reads_on told.told.ours (reader n) n OutServer D)) (came_read takes os) in
+        let fed = subst (IsPrefix heard) (sym (told.told.told.moved os D)) (fed_front t takes os) in
+        prefix_trans (of_leg os (came_to all takes)) _ _ on
+        (read_more (Some OsD) heard (moved_on os D answered) fed)
+
+    back_in : Traced → (front : List Message) → IsAllBack answered world told n front
+    back_in t front of_put is =
+        let put = sent_on all world.readers os D in
+        let sent = told.told.sent os D OsD refl in
+        came_there law.seen OsD put (of_leg os (came_to all (end_node world.readers os (receiver D))))
+        (moved_on os D answered) sent.begins sent.may_go sent.of_put
+        (record { front = front; of_messages = of_put; is = is }) (told.begins os D OsD refl)
+        (behind_no_texts (Some OsD) put sent.begins) (came_down t)
+
   -- ---- chains
+
+  module _ (traced : Traced) (moment : IsMoment all_numbers reader moves) where
+    chained : (kind : LegKind) (tags : List ℕ) (most : ℕ) → AreTags (captured answered) tags
+        → IsMost most (legs_met answered)
+        → IsChained kind (captured answered) tags (tag_at answered kind) most
+    chained kind tags most are is_most =
+        law.chains kind (captured answered) tags (tag_at answered kind) most
+        (are_tagged kind (captured answered) tags (legs_met answered) most are is_most
+        (law.lines answered) law.own (law.empty (first_pipe kind)))
+        (law.succeed all_numbers reader moves moment kind
+        (λ n. mets_of_leg kind (captured answered) (tag_at answered kind n))
+        (λ n. shown_there kind n traced))
+
+    chains_told : TellsChains answered world
+    chains_told = record {
+      told = told;
+      moment = moment;
+      came = λ kind n front of is. came_in kind n traced front of is;
+      came_back = λ n front. back_in n traced front;
+      chained = chained;
+      none_left = λ tags are.
+          law.none_told (captured answered) tags (λ kind.
+          (chained kind tags (sum_of (legs_met answered)) are
+          (sum_most (legs_met answered))).none_left);
+      turns = λ kind.
+          law.turn all_numbers reader moves moment kind
+          (λ n. mets_of_leg kind (captured answered) (tag_at answered kind n))
+          (λ n. shown_there kind n traced);
+      own = λ kind.
+          law.have_own all_numbers reader moves moment kind
+          (λ n. mets_of_leg kind (captured answered) (tag_at answered kind n))
+          (λ n. shown_there kind n traced);
+    }
 
   tells_chains : TellsChains answered world
   tells_chains =
-      let traced = (law.known config world told.told.told.by).traced in
-      let distinct = law.distinct config world
-      (record { works = told.told.told.by; drawn = told.told.told.drawn }) in
-      let moment = told.told.moment distinct in
-      record {
-        told = told;
-        chained = λ kind tags most are is_most.
-            law.chains kind (captured answered) tags (tag_at answered kind) most
-            (are_tagged kind (captured answered) tags (legs_met answered) most are is_most
-            (law.lines answered) law.own (law.empty (first_pipe kind)))
-            (law.succeed all_numbers reader moves moment kind
-            (λ n. mets_of_leg kind (captured answered) (tag_at answered kind n))
-            (λ n. shown_there kind n traced));
-      }
+      chains_told (law.known config world told.told.told.by).traced
+      (told.told.moment (law.distinct config world
+      (record { works = told.told.told.by; drawn = told.told.told.drawn })))
 
 -- ---- recordings
 

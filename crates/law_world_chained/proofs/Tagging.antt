@@ -1,5 +1,5 @@
 -- the tags of legs whose first packet is in a capture
-use Rattle.law_order.proofs.Vocabulary.{◌≡◌, ◌⊎◌, ◌≤◌, ◌==◌, ◌||◌, ◌++◌, ℕ, Bool, true, false, List, [], ◌∷◌, refl, sym, ap, ◌∙◌, subst, inl, inr, cond, if◌then◌else◌, Some, None, arith, nat_tests, list_any, and_parts, AllByRecursion}
+use Rattle.law_order.proofs.Vocabulary.{◌≡◌, ◌⊎◌, ◌+◌, ◌≤◌, ◌==◌, ◌||◌, ◌++◌, ℕ, Bool, true, false, List, [], ◌∷◌, refl, sym, ap, ◌∙◌, subst, inl, inr, cond, if◌then◌else◌, Some, None, arith, nat_tests, list_any, and_parts, AllByRecursion}
 use Rattle.rh_text.specs.declared.ends.Dir.{Dir}
 use Rattle.rh_text.specs.declared.ends.Dir.TheVariants.{U, D}
 use Rattle.rh_sig.specs.declared.name.Pipe.{Pipe}
@@ -170,6 +170,23 @@ met_most most (one ∷ legs) leg all met =
         (and_parts (same_kind one.kind leg.kind) (one.number == leg.number) e).1 in
         omega (arith, number, least)
     by false e f rest = rest f
+
+-- there is a number above those of all legs
+abbrev pub sum_of : List Leg → ℕ
+sum_of [] = 0
+sum_of (leg ∷ legs) = leg.number + sum_of legs
+
+wider : (a b : ℕ) (legs : List Leg) → a ≤ b → IsMost a legs → IsMost b legs
+wider a b [] le all = tt
+wider a b (leg ∷ legs) le all =
+    let first = all.0 in (omega (arith, first, le), wider a b legs le all.1)
+
+pub sum_most : (legs : List Leg) → IsMost (sum_of legs) legs
+sum_most [] = tt
+sum_most (leg ∷ legs) = (
+  omega arith,
+  wider (sum_of legs) (leg.number + sum_of legs) legs (omega arith) (sum_most legs),
+)
 
 -- ---- tags
 

@@ -7,7 +7,7 @@ ghost use Rattle.rh_record.specs.declared.line.Line.TheVariants.{First};
 ghost use Rattle.law_world_chained.specs.Chained.{TellsChainsOf};
 
 use law_audit_streams::{no_bytes_are_no_frames, what_is_put_is_seen};
-use law_chains::successors_stand_in_a_chain;
+use law_chains::{successors_stand_in_a_chain, where_no_tag_is_left_none_is_told};
 use law_node_history::cookies_of_lines_differ;
 use law_node_traces::a_recording_of_roles_is_known;
 use law_peers_chains::{each_leg_replaces_the_one_before_it, what_is_read_is_whole};
@@ -20,14 +20,16 @@ use rh_server::ServerRole;
 use rh_world::WorldConfig;
 
 /// In the capture of a recording of roles, behind any lines, whatever they cut, break and replace:
-/// the chain of each kind has all legs whose first packet is there, in the order of their numbers,
-/// and no tag is left (profile).
+/// the chain of each kind has all legs whose first packet is there, in the order of their numbers;
+/// no tag is left; and a leg has its first packet there only where the leg of the channel before
+/// has (profile).
 pub fn the_chains_of_a_recording_have_all_legs()
     ensures { (behind : List Line) → TellsChainsOf (First true ∷ behind) }
 {
     no_bytes_are_no_frames();
     what_is_put_is_seen();
     successors_stand_in_a_chain();
+    where_no_tag_is_left_none_is_told();
     cookies_of_lines_differ::<WorldConfig, ClientRole, ServerRole, InProxyRole, OutProxyRole>();
     a_recording_of_roles_is_known::<WorldConfig>();
     each_leg_replaces_the_one_before_it();

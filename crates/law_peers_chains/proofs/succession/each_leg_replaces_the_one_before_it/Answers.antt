@@ -1,4 +1,4 @@
-use Rattle.law_order.proofs.Vocabulary.{◌≡◌, ◌⊎◌, ℕ, suc, List, Some, inl, inr, refl, subst}
+use Rattle.law_order.proofs.Vocabulary.{◌≡◌, ◌⊎◌, ℕ, suc, List, Some, inl, inr, refl, sym, ◌∙◌, subst}
 use Rattle.rh_line.specs.declared.leg.LegKind.{LegKind}
 use Rattle.rh_audit.specs.declared.packet.Met.{Met}
 use Rattle.rh_audit.specs.Streams.{first_among}
@@ -7,7 +7,7 @@ use Rattle.law_role_outproxy.proofs.Vocabulary.{ForwardsWhatCame}
 use Rattle.law_chains.specs.Successors.{AreSuccessors}
 use Rattle.law_peers_moments.specs.Moments.{IsMoment, Moves, Numbers, out_behind}
 use Rattle.law_peers_chains.specs.Shown.{AreShown}
-use Rattle.law_peers_chains.specs.Turns.{BeginInTurn, HasBefore, leg_for}
+use Rattle.law_peers_chains.specs.Turns.{BeginInTurn, HasBefore, HaveOwn, leg_for}
 use Rattle.law_peers_chains.proofs.InLegs.{client_in, in_server}
 use Rattle.law_peers_chains.proofs.Known.{Knows}
 use Rattle.law_peers_chains.proofs.Numbered.{AreFollowing, IsBehind}
@@ -18,6 +18,7 @@ use Rattle.law_peers_chains.proofs.succession.each_leg_replaces_the_one_before_i
 record AreInOrder (kind : LegKind) (reader : ℕ → ℕ) (mets : ℕ → List Met) : Type 0 where
   successors : AreSuccessors mets
   turns : BeginInTurn kind reader mets
+  own : HaveOwn kind reader mets
 
 in_order : (kind : LegKind) (reader : ℕ → ℕ) (Comes : ℕ → Cookie → Type 0) (own : ℕ → ℕ)
     (mets : ℕ → List Met) (last : ℕ → ℕ) → ((n : ℕ) → own n ≡ leg_for kind reader n)
@@ -25,6 +26,7 @@ in_order : (kind : LegKind) (reader : ℕ → ℕ) (Comes : ℕ → Cookie → T
 in_order kind reader Comes own mets last same following = record {
   successors = following.successors;
   turns = λ n begun met. by n (following.turns n begun met);
+  own = λ n begun met. sym (same n) ∙ following.own n begun met;
 }
   where
     by : (n : ℕ) → (n ≡ 1) ⊎ ((cookie : Cookie) × IsBehind Comes own mets last n cookie)
@@ -63,6 +65,9 @@ returns c = record {
   turns = λ numbers reader moves moment kind mets shown.
       (each_kind numbers reader moves moment (know numbers reader moves moment) kind mets
       shown).turns;
+  own = λ numbers reader moves moment kind mets shown.
+      (each_kind numbers reader moves moment (know numbers reader moves moment) kind mets
+      shown).own;
 }
   where
     know : (numbers : Numbers) (reader : ℕ → ℕ) (moves : Moves)

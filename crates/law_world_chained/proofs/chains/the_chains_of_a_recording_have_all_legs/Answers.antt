@@ -16,7 +16,10 @@ returns c =
       };
       empty = c.no_bytes_are_no_frames.ensures;
       chains = c.successors_stand_in_a_chain.ensures;
-      succeed = c.each_leg_replaces_the_one_before_it.ensures;
+      succeed = c.each_leg_replaces_the_one_before_it.ensures.successors;
+      turn = c.each_leg_replaces_the_one_before_it.ensures.turns;
+      have_own = c.each_leg_replaces_the_one_before_it.ensures.own;
+      none_told = c.where_no_tag_is_left_none_is_told.ensures;
       bytes = c.a_capture_has_what_moved.ensures.bytes;
       lines = c.a_capture_has_what_moved.ensures.lines;
       own = c.a_capture_has_what_moved.ensures.own;

@@ -1,0 +1,2 @@
+pub mod FaultsNone
+pub mod LegsJoined

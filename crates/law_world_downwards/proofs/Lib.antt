@@ -1,0 +1,5 @@
+pub mod ServerSends
+pub mod DownRoute
+pub mod DownSides
+pub mod DownYes
+pub mod YesRecorded

@@ -1,0 +1,5 @@
+pub mod Parts
+pub mod UpRoute
+pub mod UpSides
+pub mod UpYes
+pub mod YesRecorded
