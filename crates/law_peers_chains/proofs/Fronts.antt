@@ -10,7 +10,7 @@ use Rattle.rh_audit.specs.Streams.{first_among, later, renewed}
 use Rattle.law_moves.proofs.Vocabulary.{Cookie, Named, InR2A2, Message, Text, Pdu, Packet, count_of, HasOne}
 use Rattle.law_moves.proofs.Lemmas.{count_rises, one_more_so}
 use Rattle.law_role_server.proofs.Vocabulary.{is_in_r2_a2}
-use Rattle.law_chains.specs.Successors.{newest}
+use Rattle.law_audit.specs.Chains.Successors.{newest}
 use Rattle.law_peers_moments.proofs.Read.{front_one}
 use Rattle.law_peers_in_channels.proofs.ServerExpects.Logs.{some_counted}
 use Rattle.law_peers_chains.specs.Shown.{IsShown, framed, mets_of, packet_of}

@@ -8,7 +8,7 @@ use Rattle.law_role_inproxy.proofs.Vocabulary.{is_leg, IsStream}
 use Rattle.law_role_client.proofs.Vocabulary.{ci}
 use Rattle.law_role_client_rows.specs.Putting.{OpenedBefore}
 use Rattle.law_role_server.proofs.Vocabulary.{is_conn_b2, is_in_r1_a2, is_in_r2_a2}
-use Rattle.law_chains.specs.Successors.{newest}
+use Rattle.law_audit.specs.Chains.Successors.{newest}
 use Rattle.law_peers_moments.proofs.Joining.{in_front, in_reads, is_front}
 use Rattle.law_peers_moments.proofs.Read.{front_count, front_one}
 use Rattle.law_peers_moments.specs.Moments.{IsMoment, Moves, Numbers, Passages, passages}

@@ -10,7 +10,7 @@ use Rattle.law_moves.proofs.Lemmas.{one_so}
 use Rattle.law_role_inproxy.proofs.Vocabulary.{InProxyConfig, ci, IsFirst, IsRest, IsStream, Joins}
 use Rattle.law_role_inproxy.specs.Putting.Puts as puts
 use Rattle.law_role_server.proofs.Vocabulary.{is_in_r2_a2}
-use Rattle.law_chains.specs.Successors.{newest}
+use Rattle.law_audit.specs.Chains.Successors.{newest}
 use Rattle.law_peers_in_channels.proofs.InSuccessors.Streams.{pings_rest, replaces_begins}
 use Rattle.law_peers_in_channels.proofs.ServerExpects.Streams as streams
 use Rattle.law_peers_chains.specs.Shown.{framed, mets_of}

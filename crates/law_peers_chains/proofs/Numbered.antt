@@ -5,7 +5,7 @@ use Rattle.rh_audit.specs.declared.packet.First.{First}
 use Rattle.rh_audit.specs.declared.packet.Met.{Met}
 use Rattle.rh_audit.specs.Streams.{first_among}
 use Rattle.law_moves.proofs.Vocabulary.{Cookie}
-use Rattle.law_chains.specs.Successors.{AreSuccessors, Precedes, newest}
+use Rattle.law_audit.specs.Chains.Successors.{AreSuccessors, Precedes, newest}
 use Rattle.law_peers_moments.specs.Moments.{ReadInTurn}
 use Rattle.law_peers_in_channels.proofs.InSuccessors.Sums.{reader_behind}
 

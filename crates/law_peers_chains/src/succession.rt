@@ -4,7 +4,7 @@
 ghost use Rattle.std.specs.Prelude.{ℕ, List};
 ghost use Rattle.rh_line.specs.declared.leg.LegKind.{LegKind};
 ghost use Rattle.rh_audit.specs.declared.packet.Met.{Met};
-ghost use Rattle.law_chains.specs.Successors.{AreSuccessors};
+ghost use Rattle.law_audit.specs.Chains.Successors.{AreSuccessors};
 ghost use Rattle.law_peers_moments.specs.Moments.{IsMoment, Moves, Numbers};
 ghost use Rattle.law_peers_chains.specs.Shown.{AreShown};
 ghost use Rattle.law_peers_chains.specs.Turns.{BeginInTurn, HaveOwn};

@@ -15,10 +15,10 @@ use Rattle.rh_world.specs.declared.any_world.AnyWorld.TheVariants.{Before, Direc
 use Rattle.rh_world.specs.Any.{after, answers, last, run}
 use Rattle.rh_world.specs.Config.{roles_config}
 use Rattle.rh_world.specs.Roles as roles
-use Rattle.law_chains.specs.Successors.{IsTag}
-use Rattle.law_world_captured.proofs.NoFaults.{roles_or_none, told_is}
-use Rattle.law_world_captured.specs.Tagged.{legs_met}
-use Rattle.law_world_chained.specs.Chained.{TellsChainsIn, TellsChainsOf}
+use Rattle.law_audit.specs.Chains.Successors.{IsTag}
+use Rattle.law_world_audited.proofs.Moving.NoFaults.{roles_or_none, told_is}
+use Rattle.law_world_audited.specs.Moving.Tagged.{legs_met}
+use Rattle.law_world_audited.specs.LegsInChains.Chained.{TellsChainsIn, TellsChainsOf}
 
 -- ---- the last lines of a report have no line of the capture
 

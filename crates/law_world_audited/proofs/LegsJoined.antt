@@ -30,16 +30,16 @@ use Rattle.rh_world.specs.Roles as roles
 use Rattle.law_moves.specs.Legible.Legible.{MayGoOn}
 use Rattle.law_moves.specs.ReadBack.Reading.{AreNoTexts}
 use Rattle.law_moves.proofs.Vocabulary.{IsNoText}
-use Rattle.law_order_seen.specs.Seen.{Side}
-use Rattle.law_audit_fronts.specs.Fronts.{AreInOrder, AreLegsOf, IsNumber}
-use Rattle.law_audit_fronts.specs.Items.{Fits}
-use Rattle.law_audit_streams.specs.Put.{IsStreamOf, behind_text}
-use Rattle.law_chains.specs.Successors.{in_order, leg_of_tag, mets_of_leg}
-use Rattle.law_world_captured.proofs.Streamed.{all_behind, no_texts}
-use Rattle.law_world_captured.specs.Moved.{moved_on}
-use Rattle.law_world_captured.specs.Streams.{TellsStreams}
-use Rattle.law_world_captured.specs.Tagged.{legs_met}
-use Rattle.law_world_chained.specs.Chained.{TellsChainsIn, TellsChainsOf, tag_at}
+use Rattle.law_audit.specs.FarAndNear.Seen.{Side}
+use Rattle.law_audit.specs.Carrying.Fronts.{AreInOrder, AreLegsOf, IsNumber}
+use Rattle.law_audit.specs.Carrying.Items.{Fits}
+use Rattle.law_audit.specs.Streams.Put.{IsStreamOf, behind_text}
+use Rattle.law_audit.specs.Chains.Successors.{in_order, leg_of_tag, mets_of_leg}
+use Rattle.law_world_audited.proofs.Moving.Streamed.{all_behind, no_texts}
+use Rattle.law_world_audited.specs.Moving.Moved.{moved_on}
+use Rattle.law_world_audited.specs.Moving.Streams.{TellsStreams}
+use Rattle.law_world_audited.specs.Moving.Tagged.{legs_met}
+use Rattle.law_world_audited.specs.LegsInChains.Chained.{TellsChainsIn, TellsChainsOf, tag_at}
 use Rattle.law_world_audited.specs.Sides.{IsJoined, IsSideOf, TellsSidesIn, TellsSidesOf, pdu_dir, put_on}
 
 pub record JoinedLaws : Type 0 where

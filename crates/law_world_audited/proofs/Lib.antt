@@ -1,2 +1,6 @@
 pub mod FaultsNone
 pub mod LegsJoined
+pub mod Moving
+pub mod LegsInChains
+pub mod FarLegsUp
+pub mod FarLegsDown

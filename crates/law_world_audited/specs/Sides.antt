@@ -21,18 +21,18 @@ use Rattle.rh_world.specs.Any.{after, answers}
 use Rattle.rh_world.specs.Roles as roles
 use Rattle.law_order.specs.Items.{Item}
 use Rattle.law_order.specs.Logs.{seen}
-use Rattle.law_order_seen.specs.Seen.{Side}
-use Rattle.law_audit_fronts.specs.Fronts.{AreLegsOf}
-use Rattle.law_audit_fronts.specs.Items.{Fits}
-use Rattle.law_audit_streams.specs.Put.{behind_text}
-use Rattle.law_chains.specs.Successors.{mets_of_leg}
+use Rattle.law_audit.specs.FarAndNear.Seen.{Side}
+use Rattle.law_audit.specs.Carrying.Fronts.{AreLegsOf}
+use Rattle.law_audit.specs.Carrying.Items.{Fits}
+use Rattle.law_audit.specs.Streams.Put.{behind_text}
+use Rattle.law_audit.specs.Chains.Successors.{mets_of_leg}
 use Rattle.law_peers_moments.specs.Moments.{passages}
 use Rattle.law_world_order.specs.Pasts.{moves_of, numbers}
-use Rattle.law_world_captured.specs.Moved.{moved_on}
-use Rattle.law_world_captured.specs.Sent.{sent_on}
-use Rattle.law_world_captured.specs.Streams.{TellsStreams}
-use Rattle.law_world_captured.specs.Tagged.{legs_met}
-use Rattle.law_world_chained.specs.Chained.{IsMost, TellsChains, tag_at}
+use Rattle.law_world_audited.specs.Moving.Moved.{moved_on}
+use Rattle.law_world_audited.specs.Moving.Sent.{sent_on}
+use Rattle.law_world_audited.specs.Moving.Streams.{TellsStreams}
+use Rattle.law_world_audited.specs.Moving.Tagged.{legs_met}
+use Rattle.law_world_audited.specs.LegsInChains.Chained.{IsMost, TellsChains, tag_at}
 
 -- the way of RPC PDUs on a leg
 abbrev pub pdu_dir : LegKind → Dir

@@ -8,8 +8,8 @@ ghost use Rattle.rh_audit.specs.Audits.{AreTags, faults};
 ghost use Rattle.rh_capture.specs.Captured.{captured};
 ghost use Rattle.rh_world.specs.Any.{run};
 
-use law_world_captured::no_stream_of_a_recording_is_broken;
-use law_world_chained::the_chains_of_a_recording_have_all_legs;
+use crate::legs_in_chains::the_chains_of_a_recording_have_all_legs;
+use crate::what_moved::no_stream_of_a_recording_is_broken;
 
 /// For each recording of roles, whatever its lines cut, break and replace: the audit of its capture
 /// tells no fault. No stream is broken, and each leg stands in the chain of its kind.

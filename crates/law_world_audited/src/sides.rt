@@ -5,9 +5,9 @@ ghost use Rattle.rh_record.specs.declared.line.Line.{Line};
 ghost use Rattle.rh_record.specs.declared.line.Line.TheVariants.{First};
 ghost use Rattle.law_world_audited.specs.Sides.{TellsSidesOf};
 
-use law_audit_fronts::frames_are_items;
-use law_world_captured::a_capture_has_what_moved;
-use law_world_chained::the_chains_of_a_recording_have_all_legs;
+use crate::legs_in_chains::the_chains_of_a_recording_have_all_legs;
+use crate::what_moved::a_capture_has_what_moved;
+use law_audit::frames_are_items;
 
 /// What an audit of the capture of a recording of roles joins of each kind of legs is, leg by leg in
 /// the order of their numbers, what order sees in the first messages that were put there: their RPC

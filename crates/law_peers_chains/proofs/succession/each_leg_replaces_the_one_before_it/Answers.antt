@@ -4,7 +4,7 @@ use Rattle.rh_audit.specs.declared.packet.Met.{Met}
 use Rattle.rh_audit.specs.Streams.{first_among}
 use Rattle.law_moves.proofs.Vocabulary.{Cookie, ClientOut, OutServer, ClientIn, InServer}
 use Rattle.law_role_outproxy.proofs.Vocabulary.{ForwardsWhatCame}
-use Rattle.law_chains.specs.Successors.{AreSuccessors}
+use Rattle.law_audit.specs.Chains.Successors.{AreSuccessors}
 use Rattle.law_peers_moments.specs.Moments.{IsMoment, Moves, Numbers, out_behind}
 use Rattle.law_peers_chains.specs.Shown.{AreShown}
 use Rattle.law_peers_chains.specs.Turns.{BeginInTurn, HasBefore, HaveOwn, leg_for}

@@ -1,0 +1,4 @@
+pub mod Chains
+pub mod Streams
+pub mod FarAndNear
+pub mod Carrying

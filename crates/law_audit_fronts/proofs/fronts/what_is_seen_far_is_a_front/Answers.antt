@@ -1,5 +1,0 @@
-use Rattle.law_audit_fronts.proofs.Yes.{yes}
-use Rattle.law_audit_fronts.proofs.fronts.what_is_seen_far_is_a_front.Goals as goal
-
-pub returns : goal.returns
-returns c = yes c.what_is_seen_far_was_seen_near.ensures

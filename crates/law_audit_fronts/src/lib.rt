@@ -1,8 +1,0 @@
-//! Where the legs of chains are those of a route, an audit says yes.
-#![tactic(auto)]
-
-pub mod fronts;
-pub mod items;
-
-pub use fronts::what_is_seen_far_is_a_front;
-pub use items::frames_are_items;

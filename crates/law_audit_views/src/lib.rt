@@ -1,6 +1,0 @@
-//! What order sees of each role is what an audit sees on its pipes.
-#![tactic(auto)]
-
-pub mod views;
-
-pub use views::what_roles_see_fits;

@@ -1,5 +1,0 @@
-use Rattle.law_chains.proofs.NoneLeft.{none_told}
-use Rattle.law_chains.proofs.chained.where_no_tag_is_left_none_is_told.Goals as goal
-
-pub returns : goal.returns
-returns c seen tags none = none_told seen tags none

@@ -1,6 +1,0 @@
-//! In the capture of a recording of roles each leg stands in its chain.
-#![tactic(auto)]
-
-pub mod chains;
-
-pub use chains::the_chains_of_a_recording_have_all_legs;

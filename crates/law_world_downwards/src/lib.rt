@@ -1,6 +1,0 @@
-//! In the capture of a recording of roles what clients saw is a front of what the server sent.
-#![tactic(auto)]
-
-pub mod down;
-
-pub use down::what_went_down_is_a_front;
