@@ -3,6 +3,7 @@
 import base64
 import contextlib
 import pathlib
+import select
 import shutil
 import socket
 import ssl
@@ -13,7 +14,7 @@ import unittest
 
 from test_relays import HOST, LISTENS, PATIENCE, FourRoles, has, pdus
 
-FRONT = pathlib.Path(__file__).with_name("nginx_front.py")
+FRONT = pathlib.Path(__file__).resolve().with_name("nginx_front.py")
 NAME = "proxy.example"
 USER, PASSWORD = "client", "secret"
 BASIC = b"Basic " + base64.b64encode(f"{USER}:{PASSWORD}".encode())
@@ -24,15 +25,37 @@ def run(*words):
     return subprocess.run([*map(str, words)], check=True, capture_output=True, text=True).stdout
 
 
-def pump(source, to, change):
-    """Passes bytes on until they end, and then the end of that direction."""
-    with contextlib.suppress(OSError):
-        while piece := source.recv(65_536):
-            to.sendall(change(piece))
-            change = bytes
-    with contextlib.suppress(OSError):
-        # TLS goes on in the other direction: the method of ssl.SSLSocket would end it.
-        socket.socket.shutdown(to, socket.SHUT_WR)
+def received(leg):
+    """What comes on a leg: no bytes at its end and where it was lost, and None where nothing came
+    but what is TLS's own."""
+    leg.setblocking(False)
+    try:
+        return leg.recv(65_536)
+    except (BlockingIOError, ssl.SSLWantReadError):
+        return None
+    except OSError:
+        return b""
+    finally:
+        with contextlib.suppress(OSError):
+            leg.setblocking(True)
+
+
+def pump(leg, far, change):
+    """Passes bytes on both ways until they end, and then the end of that direction. Of what comes on
+    the leg the first bytes are changed. One thread has both, since TLS reads and writes one state."""
+    to, reading = {leg: far, far: leg}, [leg, far]
+    while reading:
+        held = [far] if far in reading and far.pending() else []
+        for source in held or select.select(reading, [], [])[0]:
+            piece = received(source)
+            with contextlib.suppress(OSError):
+                if piece:
+                    to[source].sendall(change(piece) if source is leg else piece)
+                    change = bytes if source is leg else change
+                elif piece is not None:
+                    reading.remove(source)
+                    # TLS goes on the other way: the method of ssl.SSLSocket would end it.
+                    socket.socket.shutdown(to[source], socket.SHUT_WR)
 
 
 def with_password(piece):
@@ -97,9 +120,8 @@ class Fronted(FourRoles):
             with contextlib.suppress(OSError):
                 leg, _ = listener.accept()
                 self.addCleanup(leg.close)
-                far = self.secured(port, with_certificate)
-                for ends in ((leg, far, change), (far, leg, bytes)):
-                    threading.Thread(target=pump, args=ends, daemon=True).start()
+                with contextlib.suppress(ValueError):  # the test closed them
+                    pump(leg, self.secured(port, with_certificate), change)
 
         threading.Thread(target=carry, daemon=True).start()
         return f"{HOST}:{listener.getsockname()[1]}"
