@@ -37,6 +37,10 @@ OVER_WORLDS = {
     "turns": "An RPC PDU of a successor passes its in proxy early, or comes so to the server.",
     "exact": "A PDU is lost, no node closed, and no leg was lost but such as were over.",
     "closes": "A node closes and is never reported so, nor names its cause in any answer.",
+    "audited": (
+        "The audit of its capture tells a fault, "
+        "or that far legs carried no front of what near ones did."
+    ),
 }
 FROM_OUTSIDE = {("1", "LegBroken"), ("2", "LegEnded"), ("9", "HttpRefused"), ("11", "Silent")}
 # By a node's letter: the legs that it watches, the way in which it hears there, and the setting of

@@ -12,6 +12,10 @@ use Rattle.rh_record.specs.declared.line.Line.{Line}
 use Rattle.rh_record.specs.declared.line.Line.TheVariants.{First, Settle}
 use Rattle.rh_record.specs.Events.Order.{IsOrdered}
 use Rattle.rh_nodes.specs.Settling.{leg_at}
+use Rattle.rh_audit.specs.declared.fault.AuditFault.{AuditFault}
+use Rattle.rh_audit.specs.declared.prefixed.Prefixed.{Prefixed}
+use Rattle.rh_audit.specs.Audits.{IsAudit}
+use Rattle.rh_capture.specs.Captured.{captured}
 use Rattle.law_node_history.specs.Closes.{IsOneOf, closings_of}
 use Rattle.rh_world.specs.declared.any_world.AnyWorld.{AnyWorld}
 use Rattle.rh_world.specs.declared.any_world.AnyWorld.TheVariants.{Before}
@@ -39,6 +43,7 @@ use Rattle.law_world_windows.specs.KeptHops.{KeepsHops}
 use Rattle.law_world_expected.specs.PdusInRecordings.{PassesInTurn}
 use Rattle.law_world_rest.specs.Recordings.{RestsWhereQuiet}
 use Rattle.law_world_waits.specs.Recordings.{WaitsWhereQuiet}
+use Rattle.law_world_audited.specs.WholeAudits.Findings.{FindsNothing}
 use Rattle.law_world_calm.specs.Calm.{IsEndOfLeg, is_calm, settles}
 
 -- a line reports a node as closed only for what it told that node, and its answers show that
@@ -117,7 +122,8 @@ pub record TellsNothingLost (before : List Line) : Type 0 where
 -- same cause. Each node that stands closed was reported so, and an answer names no cause that was
 -- not reported before. Where a settling is answered quiet, nothing goes on behind it by itself; and
 -- while all nodes go on and no leg was lost but such as were over, what was given and not taken
--- waits at nodes.
+-- waits at nodes. An audit of the capture of a recording of roles tells no fault, and says yes both
+-- ways.
 pub record Claims (lines : List Line) : Type 0 where
   pub ordered : OffersBehindFirst lines → IsOrdered lines (run lines)
   pub sides : OffersBehindFirst lines → NamesSides lines (run lines)
@@ -159,3 +165,6 @@ pub record Claims (lines : List Line) : Type 0 where
       → lines ≡ before ++ Settle rounds ∷ behind → RestsWhereQuiet (after Before before) rounds
   pub waits : (before behind : List Line) (rounds : ℕ)
       → lines ≡ First true ∷ (before ++ Settle rounds ∷ behind) → WaitsWhereQuiet before rounds
+  pub audited : (behind : List Line) (told : List AuditFault) (up down : Prefixed)
+      → lines ≡ First true ∷ behind → IsAudit (captured (run lines)) told up down
+      → FindsNothing told up down

@@ -5,6 +5,7 @@ ghost use Rattle.std.specs.Prelude.{List};
 ghost use Rattle.rh_record.specs.declared.line.Line.{Line};
 ghost use Rattle.law_run.specs.Claims.{Claims};
 
+use law_world_audited::an_audit_of_a_recording_finds_nothing;
 use law_world_bodies::no_body_of_a_recording_is_too_long;
 use law_world_calm::a_node_of_a_calm_recording_closes_for_an_end;
 use law_world_expected::{
@@ -42,7 +43,8 @@ use law_world_windows::{hops_of_a_recording_are_kept, no_window_closes_a_node_of
 /// any of that, only by settling, since a leg ended. Where a settling is answered quiet, no leg
 /// that it looks at can be opened, none carries a byte or ends, and no end takes; and while all
 /// nodes go on and no leg was lost but such as were over, what was given and not taken waits at
-/// nodes, with none of it on a leg.
+/// nodes, with none of it on a leg. An audit of the capture of a recording of roles tells no fault,
+/// and says yes both ways.
 pub fn recordings_keep_to_their_claims()
     ensures { (lines : List Line) → Claims lines }
 {
@@ -77,4 +79,5 @@ pub fn recordings_keep_to_their_claims()
     an_end_of_a_recording_names_what_was_reported();
     a_quiet_recording_is_at_rest();
     what_is_not_taken_waits_at_nodes();
+    an_audit_of_a_recording_finds_nothing();
 }

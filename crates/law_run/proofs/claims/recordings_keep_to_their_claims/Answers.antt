@@ -1,9 +1,12 @@
 -- each claim is a law
 use Rattle.law_order.proofs.Vocabulary.{List, subst, sym}
 use Rattle.rh_line.specs.declared.cause.Cause.TheVariants.{WindowExceeded}
+use Rattle.rh_audit.specs.Audits.{IsAudit}
+use Rattle.rh_capture.specs.Captured.{captured}
 use Rattle.law_moves.proofs.Vocabulary.{BadFrame, BadHead, BadPacket, BodyOver, ControlFull, CookieMismatch, HttpRefused, LegBroken, LegEnded, OutOfRange, Silent, Unexpected}
 use Rattle.law_node_history.proofs.Vocabulary.{Line}
 use Rattle.law_world_reports.proofs.Vocabulary.{Before, after, run, CountsCapped, EndsWithLast}
+use Rattle.law_world_audited.specs.WholeAudits.Findings.{FindsNothing}
 use Rattle.law_run.proofs.claims.recordings_keep_to_their_claims.Goals as goal
 use Rattle.law_run.specs.Claims.{RolesAreHonest}
 
@@ -56,6 +59,10 @@ returns c = λ lines. record {
   reported = c.an_end_of_a_recording_names_what_was_reported.ensures lines;
   rests = λ before behind rounds is. c.a_quiet_recording_is_at_rest.ensures before rounds;
   waits = λ before behind rounds is. c.what_is_not_taken_waits_at_nodes.ensures before rounds;
+  audited = λ behind told up down is.
+      subst (λ (all : List Line). IsAudit (captured (run all)) told up down
+      → FindsNothing told up down) (sym is)
+      (c.an_audit_of_a_recording_finds_nothing.ensures behind told up down);
 }
   where
     honest : (before : List Line) (line : Line) → RolesAreHonest (after Before before) line
