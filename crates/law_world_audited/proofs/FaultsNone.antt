@@ -1,5 +1,5 @@
 -- no tag of a recording is left, so that an audit tells no fault
-use Rattle.law_order.proofs.Vocabulary.{◌≡◌, ◌+◌, ◌==◌, ◌++◌, ◌⊎◌, ℕ, true, false, List, [], ◌∷◌, refl, sym, ap, ap₂, ◌∙◌, subst, inl, inr, append-nil, eq-eqb, or_left, true≢false, list_any}
+use Rattle.law_order.proofs.Vocabulary.{◌≡◌, ◌==◌, ◌++◌, ◌⊎◌, ℕ, true, List, [], ◌∷◌, refl, sym, ap, ap₂, ◌∙◌, subst, inl, inr, append-nil, eq-eqb, or_left, true≢false, list_any}
 use Rattle.std.specs.List.{flat_map}
 use Rattle.rh_audit.specs.declared.seen.Seen.{Seen}
 use Rattle.rh_audit.specs.Audits.{AreTags, broken_in, faults, unchained_in}

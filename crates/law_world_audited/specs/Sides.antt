@@ -1,6 +1,6 @@
 -- what an audit joins of the capture of a recording of roles is what order sees in messages that were
 -- put (profile)
-use Rattle.std.specs.Prelude.{◌≡◌, ℕ, List, is_some, map, None, Some}
+use Rattle.std.specs.Prelude.{◌≡◌, ℕ, List, is_some, map, None}
 use mathlib.Core.List.{IsPrefix}
 use Rattle.rh_text.specs.declared.ends.Dir.{Dir}
 use Rattle.rh_text.specs.declared.ends.Dir.TheVariants.{U, D}

@@ -1,5 +1,5 @@
 -- what the answers of a recording tell moved are streams of what was put
-use Rattle.law_order.proofs.Vocabulary.{◌≡◌, ◌≤◌, ◌+◌, ℕ, zero, suc, List, ◌∷◌, true, false, refl, Some, IsTrue, AllByRecursion, arith, nat_tests}
+use Rattle.law_order.proofs.Vocabulary.{◌≤◌, ℕ, zero, suc, List, ◌∷◌, true, false, refl, IsTrue, AllByRecursion, arith, nat_tests}
 use Rattle.rh_http.specs.declared.config.ClientConfig.{ClientConfig}
 use Rattle.rh_http.specs.declared.numbers.TheConstants.{LEAST_PORT, GREATEST_PORT}
 use Rattle.rh_http.specs.Lengths.{may_ask}
@@ -12,11 +12,8 @@ use Rattle.law_node_ends.specs.Passed.{AsksNoEcho, HeadsAre}
 use Rattle.law_audit.specs.Streams.Texts.{IsFineText}
 use Rattle.law_role_client_rows.specs.Putting.{out_length}
 use Rattle.law_world_reports.proofs.Vocabulary.{AnyWorld, Before, Direct, Settings, Roles, after, answers}
-use Rattle.law_world_order.specs.FirstTexts.{IsPort}
-use Rattle.law_world_order.specs.Flows.{numbers_of}
 use Rattle.law_world_order.specs.Pasts.{moves_of, numbers}
-use Rattle.law_world_order.specs.Premises.{AreInRange}
-use Rattle.law_world_audited.specs.Moving.Sent.{TellsSent, TellsSentIn, TellsSentOf, sent_on}
+use Rattle.law_world_audited.specs.Moving.Sent.{TellsSent, TellsSentIn, TellsSentOf}
 use Rattle.law_world_audited.specs.Moving.Streams.{TellsStreams, TellsStreamsIn, TellsStreamsOf}
 use Rattle.law_world_audited.proofs.Moving.Streamed.{FineTexts, RoleLaws, StreamLaws, may_begin, streamed}
 
