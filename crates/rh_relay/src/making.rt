@@ -76,6 +76,7 @@ where
         M::State: Drop,
         requires parts { 3 ≤ actor.old.seat.parts }
         ensures parts { OnOk result (actor.new.seat.parts + 2 ≡ actor.old.seat.parts) }
+        ensures jobs { OnOk result (vec_len jobs.new ≡ vec_len jobs.old + 2) }
     {
         let reading = self.serving(&slot.reads)?;
         let reader = actor.split()?;
@@ -99,6 +100,7 @@ where
         requires parts { length slots.now * 2 + 1 ≤ actor.old.seat.parts }
         ensures parts { OnOk result
             (actor.new.seat.parts + length slots.now * 2 ≡ actor.old.seat.parts) }
+        ensures jobs { OnOk result (vec_len jobs.new ≡ vec_len jobs.old + length slots.now * 2) }
     {
         for at in 0..slots.len() {
             self.add_slot(jobs, node, actor, &slots[at])?;
@@ -121,6 +123,7 @@ where
         M::State: Drop,
         requires parts { 2 ≤ actor.old.seat.parts }
         ensures parts { OnOk result (actor.new.seat.parts + 1 ≡ actor.old.seat.parts) }
+        ensures jobs { OnOk result (vec_len jobs.new ≡ vec_len jobs.old + 1) }
     {
         let keeper = Keeper {
             actor: actor.split()?,
@@ -150,6 +153,7 @@ where
     where
         M::State: Drop,
         requires parts { 3 ≤ actor.old.seat.parts }
+        ensures jobs { OnOk result (vec_len jobs.new ≡ vec_len jobs.old + 2) }
     {
         let (input, output) = streams;
         let rooms = GivingRooms {
@@ -178,6 +182,7 @@ where
     where
         M::State: Drop,
         requires config { M.can_make config.now }
+        ensures jobs { OnOk result (vec_len jobs.old + 5 ≤ vec_len jobs.new) }
     {
         let mut actor = Actor::<M>::new(self.alloc, M::make(self.alloc, config)?)?;
         let slots = slots_of::<N::In, N::Out>(self.alloc, M::ROLE)?;

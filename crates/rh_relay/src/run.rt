@@ -1,6 +1,12 @@
 //! Nodes that run over legs.
 
-ghost use Rattle.std.specs.Prelude.{◌≡◌, ℕ, ◌<◌, length, slice_get, Some};
+ghost use Rattle.std.specs.Prelude.{◌≡◌, ℕ, ◌<◌, ◌*◌, ◌≤◌, ◌⊎◌, ◌∷◌, length, slice_get, vec_len, Some, None, IfOk, IfSome};
+ghost use Rattle.std.specs.Vec.Iter.{into_iter_items};
+ghost use Rattle.rh_net.specs.Calls.{CountsFault};
+ghost use Rattle.rh_io.specs.Counts.{Rose};
+ghost use Rattle.rh_jobs.specs.Counts.{raised};
+ghost use Rattle.rh_legs.specs.declared.end.NodeEnd.TheVariants.{SpawnFault};
+ghost use Rattle.rh_relay.specs.Runs.{AllEnd, WentSo};
 
 use crate::answer::Done;
 use crate::gathering::Back;
@@ -17,6 +23,7 @@ use rh_net::{Address, Clock, Cookies, Net, Ready, ShutSink};
 use std::alloc::Global;
 use std::sync::{Arc, Wait};
 use std::time;
+use std::vec::IntoIter;
 
 /// How a run ended, and its outside. The streams are there, but where jobs that had them were not
 /// run.
@@ -89,28 +96,41 @@ where
     N::Way: Drop,
     requires configs { (at : ℕ) (config : M.Config) → slice_get configs.now at ≡ Some config
         → M.can_make config }
+    requires ways { vec_len ways ≡ length configs.now }
+    ensures nodes { IfOk result (λ nodes. vec_len nodes.actors ≡ length configs.now) }
+    ensures jobs { IfOk result (λ nodes. 5 * vec_len nodes.actors ≤ vec_len nodes.jobs) }
 {
     let mut streams = Some(streams);
     let mut jobs = Vec::new(shared.alloc);
     let mut actors = Vec::new(shared.alloc);
-    for way in ways {
-        let at = actors.len();
-        if at < configs.len() {
-            let config = &configs[at];
-            let theirs = if is_end(M::ROLE) {
-                streams.take()
-            } else {
-                None
-            };
-            let actor = shared.add_node::<M, S, W>(&mut jobs, at, config, plan, way, theirs)?;
-            actors.push(actor)?;
-        }
+    let mut ways = ways.into_iter();
+    for at in 0..configs.len() {
+        let theirs = if is_end(M::ROLE) {
+            streams.take()
+        } else {
+            None
+        };
+        let config = &configs[at];
+        let way = next_way(&mut ways);
+        let actor = shared.add_node::<M, S, W>(&mut jobs, at, config, plan, way, theirs)?;
+        actors.push(actor)?;
     }
     Ok(Nodes {
         jobs,
         actors,
         streams,
     })
+}
+
+// The next way.
+fn next_way<T: Drop>(ways: &mut IntoIter<T, Global>) -> T
+    requires { 1 ≤ length (into_iter_items ways.old) }
+    ensures { into_iter_items ways.old ≡ result ∷ into_iter_items ways.new }
+{
+    let Some(way) = ways.next() else {
+        unreachable!()
+    };
+    way
 }
 
 // How each node ended, by its machine and by its jobs. What these had of the outside is handed
@@ -126,16 +146,25 @@ where
     M::State: Drop,
     N::In: Drop,
     N::Out: Drop,
+    ensures { IfOk result (λ ends. vec_len ends ≡ vec_len actors) }
 {
     let mut ends = ends_of(rt, alloc, actors)?;
     for done in dones {
         let Done { node, end, had, .. } = done;
-        if node < ends.len() {
-            ends[node] = ends[node].or(end);
-        }
+        tell(&mut ends, node, end);
         back.take(had);
     }
     Ok(ends)
+}
+
+// Tells how a job of a node ended.
+fn tell(ends: &mut Vec<NodeEnd>, node: usize, end: NodeEnd)
+    ensures { vec_len ends.new ≡ vec_len ends.old }
+{
+    if node >= ends.len() {
+        return;
+    }
+    ends[node] = ends[node].or(end);
 }
 
 // How the machines of nodes ended.
@@ -146,19 +175,22 @@ fn ends_of<M: Node, R: Wait>(
 ) -> Result<Vec<NodeEnd>, NoMemory>
 where
     M::State: Drop,
+    ensures { IfOk result (λ ends. vec_len ends ≡ vec_len actors) }
 {
     let mut ends = Vec::new(alloc);
-    for actor in actors {
-        let mut actor = actor;
-        ends.push(actor.end(rt))?;
+    let mut actors = actors;
+    for at in 0..actors.len() {
+        ends.push(actors[at].end(rt))?;
     }
     Ok(ends)
 }
 
 // The same end for so many nodes.
-fn all_end(alloc: Global, count: usize, end: NodeEnd) -> Result<Vec<NodeEnd>, NoMemory> {
+fn all_end(alloc: Global, count: usize, end: NodeEnd) -> Result<Vec<NodeEnd>, NoMemory>
+    ensures { IfOk result (λ ends. AllEnd end count ends.items) }
+{
     let mut ends = Vec::new(alloc);
-    for _ in 0..count {
+    for at in 0..count {
         ends.push(end)?;
     }
     Ok(ends)
@@ -187,6 +219,10 @@ where
     N::Out: Send + Drop + 'static,
     N::Way: Send + Drop + 'static,
     N::Came: 'static,
+    ensures ended { IfOk result (λ ran. (AllEnd SpawnFault (vec_len nodes.actors) ran.ends.items
+        × Rose (P.faults spawner.old) (P.faults spawner.new) × (P.ran spawner.new ≡ P.ran spawner.old))
+        ⊎ ((length ran.ends.items ≡ vec_len nodes.actors)
+        × (P.ran spawner.new ≡ raised (P.ran spawner.old) (vec_len nodes.jobs)))) }
 {
     let Shared {
         rt,
@@ -215,7 +251,9 @@ fn refused<S: Drop, W: Drop, N: Net + Drop, C: Clock + Drop, K: Cookies + Drop, 
     alloc: Global,
     desk: Desk<N, C, K>,
     count: usize,
-) -> Result<Ran<S, W, N, C, K>, NoMemory> {
+) -> Result<Ran<S, W, N, C, K>, NoMemory>
+    ensures { IfOk result (λ ran. AllEnd SpawnFault count ran.ends.items) }
+{
     let Books {
         net,
         clock,
@@ -253,6 +291,7 @@ where
     M::State: Drop,
     N::In: Drop,
     N::Out: Drop,
+    ensures { IfOk result (λ ran. length ran.ends.items ≡ vec_len actors) }
 {
     let Books {
         net,
@@ -321,6 +360,10 @@ where
     N::Came: 'static,
     requires configs { (at : ℕ) (config : M.Config) → slice_get configs.now at ≡ Some config
         → M.can_make config }
+    ensures went { IfOk result (λ ran. WentSo (length configs.now) (outside.input, outside.output)
+        (CountsFault (N.counts outside.net) (N.counts ran.net))
+        (P.faults spawner.old, P.faults spawner.new) (P.ran spawner.old, P.ran spawner.new)
+        ran.input ran.output ran.ends.items) }
 {
     let Outside {
         input,
@@ -364,14 +407,18 @@ fn ways_of<N: Net>(
     net: &mut N,
     plan: &Plan,
     count: usize,
-) -> Result<Option<Vec<N::Way>>, NoMemory> {
+) -> Result<Option<Vec<N::Way>>, NoMemory>
+    ensures failed { IfOk result (λ ways.
+        ways ≡ None → CountsFault (N.counts net.old) (N.counts net.new)) }
+    ensures count { IfOk result (λ ways. IfSome ways (λ ways. vec_len ways ≡ count)) }
+{
     if let Some(at) = &plan.at {
         if net.listen(at).is_err() {
             return Ok(None);
         }
     }
     let mut ways = Vec::new(alloc);
-    for _ in 0..count {
+    for at in 0..count {
         let Ok(way) = net.way() else {
             return Ok(None);
         };
