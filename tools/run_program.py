@@ -119,7 +119,7 @@ def run_unproved(program, words):
     if not build_program.has_rt():
         say(program, build_program.NO_RT)
         return 1
-    takes = "which takes a minute to begin"
+    takes = "which takes a minute or two to begin"
     say(program, f"nothing of this is proved: it runs the sources as they are, {takes}")
     return run(program, ["rt", "try", "--"], words, TOP / "crates" / program)
 
