@@ -16,19 +16,7 @@ const LIFETIME: u32 = 1_073_741_824;
 /// How long a leg may be silent, in milliseconds.
 const TIMEOUT: u32 = 120_000;
 
-/// Where the near role wants the leg and the far one may have it, it comes up. Then what each puts
-/// there goes to the other one, and so does the end of the leg.
-macro_rules! link {
-    ($near:expr => $far:expr, $leg:expr, $up:expr) => {
-        if $near.wants($leg) && $far.may_up($leg) {
-            $up;
-            $far.up($leg);
-        }
-        carry!($near => $far, $leg);
-        carry!($far => $near, $leg);
-    };
-}
-
+/// What a role puts on a leg goes to the other one, and so does the end of the leg.
 macro_rules! carry {
     ($from:expr => $to:expr, $leg:expr) => {
         let mut room = [0; 4096];
@@ -37,6 +25,18 @@ macro_rules! carry {
         if $from.finished($leg) {
             let _ = $to.ended($leg);
         }
+    };
+}
+
+/// Where the near role wants the leg and the far one may have it, it comes up; and it is carried.
+macro_rules! link {
+    ($near:expr => $far:expr, $leg:expr, $up:expr) => {
+        if $near.wants($leg) && $far.may_up($leg) {
+            $up;
+            $far.up($leg);
+        }
+        carry!($near => $far, $leg);
+        carry!($far => $near, $leg);
     };
 }
 

@@ -9,100 +9,62 @@ use rh_line::{State, Take};
 use std::alloc::Global;
 use std::io;
 
-/// A request and its response, of the call 1 and without a stub (C706 12.6.4).
-const REQUEST: [u8; 24] = [
+/// A request of the call 1 without a stub (C706 12.6.4). The server gives it back.
+const PDU: [u8; 24] = [
     5, 0, 0, 3, 16, 0, 0, 0, 24, 0, 0, 0, 1, 0, 0, 0, 0, 0, 0, 0, 0, 0, 0, 0,
 ];
 
-const RESPONSE: [u8; 24] = [
-    5, 0, 2, 3, 16, 0, 0, 0, 24, 0, 0, 0, 1, 0, 0, 0, 0, 0, 0, 0, 0, 0, 0, 0,
+/// What is asked of a connection from its first leg to its end.
+const ASKED: [&str; 6] = [
+    "is the client open",
+    "does the server take the client's PDU",
+    "does the client take the server's PDU",
+    "does the server take another one, behind a new IN channel",
+    "does the client write on ci2",
+    "have both ends ended",
 ];
 
-fn is(state: State) -> &'static str {
-    match state {
-        State::Opening => "is opening",
-        State::Open => "is open",
-        State::Ended => "has ended",
-        State::Closed(_) => "has closed",
-    }
-}
-
-fn takes(taken: Take) -> &'static str {
-    match taken {
-        Take::Pdu(_) => "takes a PDU",
-        Take::Empty => "takes none yet",
-        Take::Ended => "takes no more",
-        Take::Closed(_) => "has closed",
-    }
-}
-
-fn writes_on(channel: u32) -> &'static str {
-    match channel {
-        1 => "writes on ci1",
-        2 => "writes on ci2",
-        _ => "writes on a later channel",
-    }
-}
-
-/// The client gives a request; what the server does.
-fn pass_up(all: &mut Connection) -> &'static str {
-    let _ = all.client.give(&REQUEST);
+/// The client gives a PDU; whether the server takes it.
+fn passes_up(all: &mut Connection) -> bool {
+    let _ = all.client.give(&PDU);
     all.settle();
-    takes(all.server.take(&mut [0; 8192]))
+    matches!(all.server.take(&mut [0; 8192]), Take::Pdu(_))
 }
 
-/// The server gives a response; what the client does.
-fn pass_down(all: &mut Connection) -> &'static str {
-    let _ = all.server.give(&RESPONSE);
+/// The server gives a PDU; whether the client takes it.
+fn passes_down(all: &mut Connection) -> bool {
+    let _ = all.server.give(&PDU);
     all.settle();
-    takes(all.client.take(&mut [0; 8192]))
+    matches!(all.client.take(&mut [0; 8192]), Take::Pdu(_))
 }
 
-/// Both ends close; what each takes, and what it is then.
-fn end(all: &mut Connection) -> [(&'static str, &'static str); 3] {
+/// Both ends close; whether both have ended then.
+fn ends(all: &mut Connection) -> bool {
     all.client.close();
     all.server.close();
     all.settle();
-    [
-        ("server", takes(all.server.take(&mut [0; 8192]))),
-        ("client", takes(all.client.take(&mut [0; 8192]))),
-        ("client", is(all.client.state())),
-    ]
+    matches!(all.client.state(), State::Ended) && matches!(all.server.state(), State::Ended)
 }
 
-/// Who does what, from the first leg to the end.
-#[derive(Clone, Copy)]
-struct Course([(&'static str, &'static str); 8]);
-
-/// Runs a connection. `None` for want of memory.
-fn run(alloc: Global) -> Option<Course> {
+/// Runs a connection, and answers what is asked. `None` for want of memory.
+fn run(alloc: Global) -> Option<[bool; 6]> {
     let mut all = Connection::new(alloc)?;
     all.settle();
-    let opened = is(all.client.state());
-    let up = pass_up(&mut all);
-    let down = pass_down(&mut all);
+    let is_open = matches!(all.client.state(), State::Open);
+    let up = passes_up(&mut all);
+    let down = passes_down(&mut all);
     let _ = all.client.recycle_in();
-    let again = pass_up(&mut all);
-    let channel = writes_on(all.client.channels().0);
-    let [server, client, last] = end(&mut all);
-    Some(Course([
-        ("client", opened),
-        ("server", up),
-        ("client", down),
-        ("server", again),
-        ("client", channel),
-        server,
-        client,
-        last,
-    ]))
+    let again = passes_up(&mut all);
+    let is_new = all.client.channels().0 == 2;
+    Some([is_open, up, down, again, is_new, ends(&mut all)])
 }
 
 fn main(rt: HostRuntime) -> io::Result<()> {
-    let Some(course) = run(rt.alloc()) else {
+    let Some(answers) = run(rt.alloc()) else {
         return println!(rt; "no memory");
     };
-    for (who, does) in course.0 {
-        println!(rt; "the {who} {does}")?;
+    for (asked, answer) in ASKED.iter().zip(answers) {
+        println!(rt; "{asked}: {answer}")?;
     }
     Ok(())
 }
