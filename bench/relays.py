@@ -3,8 +3,9 @@
 
 The program is crates/rh_roles/out/rh_roles, as `./rh_roles --version` leaves it. It takes turns with
 a plain forwarder, bench/relays.rs, which is built here with `rustc -O`: a client, one proxy and a
-server over one connection, with the same reads and writes, and no virtual connection; and, where
-nginx is installed with its stream module, with that in place of the one proxy.
+server over one connection, and no virtual connection. That reads 4,096 bytes at most at a time
+(plain), or 32,768 as a role does (large); and, where nginx is installed with its stream module, the
+first of the two takes it in place of its proxy.
 
 Told are, of each process, the seconds of the processor and the peak memory; the seconds from the
 client's start to the server's end; of one PDU at a time, how long it takes from a write to the
@@ -30,6 +31,7 @@ from nginx_front import Lacks, stream_module  # noqa: E402
 HOST = "127.0.0.1"
 SETTLE = 3
 WARM = 20
+PIECES = {"plain": "4096", "large": "32768"}
 NGINX = """\
 {module}daemon off;
 master_process off;
@@ -78,10 +80,10 @@ class Chain:
         self.roles, self.names, self.front = [], [], None
         program = options.programs[kind]
         at, ins, outs = places(3)
-        start = lambda *words, **how: self.start(program, words, **how)
+        start = lambda *words, **how: self.start(words[0], [*program, *words], **how)
         start("server", at, stdin=subprocess.DEVNULL if stdin is not subprocess.PIPE else stdin, stdout=stdout)
         wait_for(at)
-        if kind == "plain":
+        if kind in PIECES:
             start("proxy", ins, at)
             wait_for(ins)
         elif kind == "nginx":
@@ -95,16 +97,15 @@ class Chain:
         self.begun = time.monotonic()
         start("client", *([at, ins, outs] if kind == "roles" else [ins]), stdin=stdin, stdout=subprocess.DEVNULL)
 
-    def start(self, program, words, **how):
-        self.names.append(words[0])
-        self.roles.append(subprocess.Popen([program, *words], **how))
+    def start(self, name, words, **how):
+        self.names.append(name)
+        self.roles.append(subprocess.Popen(words, **how))
 
     def start_nginx(self, folder, listen, to):
         file = folder / "nginx.conf"
         values = {"module": stream_module(), "folder": folder, "listen": listen, "to": to}
         file.write_text(NGINX.format(**values), encoding="utf-8")
-        self.start("nginx", ["-p", folder, "-c", file, "-e", folder / "error.log"])
-        self.names[-1] = "nginx"
+        self.start("nginx", ["nginx", "-p", folder, "-c", file, "-e", folder / "error.log"])
         self.front = self.roles[-1]
 
     def end(self):
@@ -210,9 +211,10 @@ def main():
         plain = pathlib.Path(folder) / "relays"
         subprocess.run(["rustc", "-O", "-o", plain, TOP / "bench/relays.rs"], check=True)
         options.folder = pathlib.Path(folder)
-        options.programs = {"roles": options.program.resolve(), "plain": plain}
+        options.programs = {"roles": [options.program.resolve()]}
+        options.programs |= {name: [plain, piece] for name, piece in PIECES.items()}
         if has_nginx():
-            options.programs["nginx"] = plain
+            options.programs["nginx"] = options.programs["plain"]
         print(f"load {os.getloadavg()[0]:.1f} on {os.cpu_count()} processors", flush=True)
         bulk(options, 8000, options.large)
         bulk(options, 72, options.small)

@@ -1,20 +1,18 @@
 // Forwards PDUs over TCP with no virtual connection: what bench/relays.py compares rh_roles with.
 //
 //     rustc -O bench/relays.rs
-//     relays server AT          PDUs from standard input to its caller, and the caller's to output
-//     relays proxy AT TO        bytes between its caller and TO, both ways
-//     relays client TO          PDUs from standard input to TO, and TO's to output
+//     relays PIECE server AT    PDUs from standard input to its caller, and the caller's to output
+//     relays PIECE proxy AT TO  bytes between its caller and TO, both ways
+//     relays PIECE client TO    PDUs from standard input to TO, and TO's to output
 //
-// Each has a thread for each direction, reads 4,096 bytes at most, and writes what it read at once;
+// Each has a thread for each direction, reads PIECE bytes at most, and writes what it read at once;
 // to standard output each PDU is one write.
 use std::io::{self, Read, Write};
 use std::net::{Shutdown, TcpListener, TcpStream};
 use std::{env, thread};
 
-const PIECE: usize = 4096;
-
-fn send(mut from: impl Read, to: &TcpStream) -> io::Result<()> {
-    let mut piece = [0; PIECE];
+fn send(most: usize, mut from: impl Read, to: &TcpStream) -> io::Result<()> {
+    let mut piece = vec![0; most];
     loop {
         let count = from.read(&mut piece)?;
         if count == 0 {
@@ -25,8 +23,8 @@ fn send(mut from: impl Read, to: &TcpStream) -> io::Result<()> {
 }
 
 /// Writes each PDU by itself, once it is whole.
-fn receive(mut from: &TcpStream, mut to: impl Write) -> io::Result<()> {
-    let (mut held, mut piece) = (Vec::new(), [0; PIECE]);
+fn receive(most: usize, mut from: &TcpStream, mut to: impl Write) -> io::Result<()> {
+    let (mut held, mut piece) = (Vec::new(), vec![0; most]);
     loop {
         let count = from.read(&mut piece)?;
         if count == 0 {
@@ -47,20 +45,20 @@ fn receive(mut from: &TcpStream, mut to: impl Write) -> io::Result<()> {
     }
 }
 
-fn end(stream: TcpStream) -> io::Result<()> {
+fn end(most: usize, stream: TcpStream) -> io::Result<()> {
     stream.set_nodelay(true)?;
     let given = stream.try_clone()?;
-    let giver = thread::spawn(move || send(io::stdin(), &given));
-    receive(&stream, io::stdout().lock())?;
+    let giver = thread::spawn(move || send(most, io::stdin(), &given));
+    receive(most, &stream, io::stdout().lock())?;
     giver.join().unwrap()
 }
 
-fn proxy(near: TcpStream, far: TcpStream) -> io::Result<()> {
+fn proxy(most: usize, near: TcpStream, far: TcpStream) -> io::Result<()> {
     near.set_nodelay(true)?;
     far.set_nodelay(true)?;
     let (back_from, back_to) = (far.try_clone()?, near.try_clone()?);
-    let back = thread::spawn(move || send(&back_from, &back_to));
-    send(&near, &far)?;
+    let back = thread::spawn(move || send(most, &back_from, &back_to));
+    send(most, &near, &far)?;
     back.join().unwrap()
 }
 
@@ -70,10 +68,15 @@ fn accepted(at: &str) -> io::Result<TcpStream> {
 
 fn main() -> io::Result<()> {
     let words: Vec<String> = env::args().skip(1).collect();
-    match words.iter().map(String::as_str).collect::<Vec<_>>()[..] {
-        ["server", at] => end(accepted(at)?),
-        ["proxy", at, to] => proxy(accepted(at)?, TcpStream::connect(to)?),
-        ["client", to] => end(TcpStream::connect(to)?),
-        _ => panic!("server AT, proxy AT TO or client TO"),
+    let words: Vec<_> = words.iter().map(String::as_str).collect();
+    let [piece, ref words @ ..] = words[..] else {
+        panic!("PIECE first")
+    };
+    let most = piece.parse().unwrap();
+    match words {
+        ["server", at] => end(most, accepted(at)?),
+        ["proxy", at, to] => proxy(most, accepted(at)?, TcpStream::connect(to)?),
+        ["client", to] => end(most, TcpStream::connect(to)?),
+        _ => panic!("PIECE, then server AT, proxy AT TO or client TO"),
     }
 }

@@ -10,12 +10,12 @@ import unittest
 import accounts
 
 TOOLS = pathlib.Path(__file__).resolve().parent
-# Its prover works for a quarter of a second of a processor.
+# Its prover works for half a second of a processor, so that samples meet it on a busy machine too.
 RT = """#!/usr/bin/env bash
 prover() {
     cd -- "$1" && exec -a /kit/bin/rattle python3 -c '
 import time
-while time.process_time() < 0.25:
+while time.process_time() < 0.5:
     pass
 ' build --crate-name "${@:2}"
 }

@@ -104,9 +104,9 @@ class Texts(unittest.TestCase):
         self.assertEqual(sorted(words), sorted(re.findall(r"`([^`]+)`", when)))
 
 
-def number(file, name):
-    """The value of a constant of the role words."""
-    text = (ROLE_WORDS / file).read_text()
+def number(file, name, sources=ROLE_WORDS):
+    """The value of a constant, of the role words where no other sources are named."""
+    text = (sources / file).read_text()
     [value] = re.findall(rf"^pub const {name}: \w+ = ([\d_]+);", text, re.MULTILINE)
     return int(value.replace("_", ""))
 
@@ -136,11 +136,14 @@ class Roles(unittest.TestCase):
         self.assertTrue(all(re.fullmatch(r"  \d+  [a-z ]+( <\w+>)?", row) for row in rows), rows)
 
     def test_numbers_by_default(self):
+        crates = TOP / "crates"
+        window = number("range.rt", "DEFAULT_WINDOW", crates / "rh_window/src")
+        lifetime = number("range.rt", "DEFAULT_LIFETIME", crates / "rh_keep/src")
+        timeout = number("ranges.rt", "DEFAULT_TIMEOUT", crates / "rh_sig/src")
+        keepalive = number("config.rt", "KEEPALIVE", crates / "rh_http/src")
         said = (
-            f"windows of {number('configs.rt', 'WINDOW'):,} bytes, "
-            f"lifetimes of {number('configs.rt', 'LIFETIME'):,} bytes, "
-            f"a connection timeout of {number('configs.rt', 'TIMEOUT'):,} ms, "
-            f"a keepalive of {number('configs.rt', 'KEEPALIVE'):,} ms."
+            f"windows of {window:,} bytes, lifetimes of {lifetime:,} bytes, "
+            f"a connection timeout of {timeout:,} ms, a keepalive of {keepalive:,} ms."
         )
         self.assertIn(said, self.page)
 

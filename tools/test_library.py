@@ -37,14 +37,24 @@ class Library(unittest.TestCase):
                 if (crate / part).is_dir():
                     shutil.copytree(crate / part, self.top / "crates" / crate.name / part)
 
-    def test_the_first_program(self):
-        (_, commands), (_, wanted), *_ = blocks(PAGE)
+    def run_typed(self, commands):
+        """What these commands write in the copy, and what they say."""
         how = {"capture_output": True, "text": True, "check": False, "timeout": LONGEST}
         done = subprocess.run(["bash", "-ec", commands], cwd=self.top, **how, stdin=subprocess.DEVNULL)
+        self.assertEqual(done.returncode, 0, done.stderr[-2000:])
+        return done.stdout, done.stderr[-2000:]
+
+    def test_the_first_program(self):
+        (_, commands), (_, wanted), *_ = blocks(PAGE)
+        stdout, stderr = self.run_typed(commands)
         # What `rt new` tells of itself comes first.
-        self.assertTrue(done.stdout.endswith(wanted), done.stdout + done.stderr[-2000:])
-        self.assertEqual(done.returncode, 0)
+        self.assertTrue(stdout.endswith(wanted), stdout + stderr)
         self.assertEqual(wanted, (PROGRAM / "stdout").read_text())
+
+    def test_a_program_as_it_stands(self):
+        [command] = re.findall(r"^`(cd \S+ && rt try)`", PAGE.read_text(), re.M)
+        stdout, stderr = self.run_typed(command)
+        self.assertEqual(stdout, (PROGRAM / "stdout").read_text(), stderr)
 
     def test_the_code_of_the_readme(self):
         [code] = [text for language, text in blocks(TOP / "README.md") if language == "rust"]

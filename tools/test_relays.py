@@ -540,5 +540,11 @@ class Statuses(Roles):
         self.check(client, status=7, said="closed 9 HttpRefused co1 401")
 
 
+def setUpModule():
+    """Roles begin with the signals of a terminal, though a shell in the background ignores one."""
+    if signal.getsignal(signal.SIGINT) == signal.SIG_IGN:
+        signal.signal(signal.SIGINT, signal.default_int_handler)
+
+
 if __name__ == "__main__":
     unittest.main()

@@ -327,7 +327,9 @@ def waiting(report, past, at, words):
             return f"a message stands on {leg} in part"
     for end, (kind, way) in FAR_LEGS.items():
         pdus = [frame for frame in past.legs.stream(f"{kind}1", way).frames if frame[4:6] != RTS]
-        if f"{kind}2" not in past.legs.opened and len(pdus) != len(past.taken[end]):
+        # A proxy that two channels pass has a leg of this kind for the first of them alone.
+        is_alone = not any(leg[:2] == kind and leg != f"{kind}1" for leg in past.legs.opened)
+        if is_alone and len(pdus) != len(past.taken[end]):
             return f"{end} has not taken all that came on {kind}1"
 
 

@@ -40,16 +40,8 @@ const RESPONSE: [u8; 24] = [
 ];
 
 fn made_client(alloc: Global) -> Option<Client> {
-    let config = ClientConfig {
-        connection: Cookie([1; 16]),
-        group: Cookie([2; 16]),
-        window: 65_536,
-        lifetime: 1_073_741_824,
-        keepalive: 300_000,
-        host: Host::new(b"server").ok()?,
-        port: 593,
-        proxy_host: Host::new(b"proxy").ok()?,
-    };
+    let (server, proxy) = (Host::new(b"server").ok()?, Host::new(b"proxy").ok()?);
+    let config = ClientConfig::new(Cookie([1; 16]), Cookie([2; 16]), server, 593, proxy);
     Client::new(alloc, config).ok()
 }
 

@@ -9,7 +9,7 @@ use Rattle.law_role_inproxy.proofs.Refusing.Naming.{has_split}
 use Rattle.law_node_ends.specs.Passed.{AsksNoEcho, HeadsAre}
 use Rattle.law_node_marks.specs.Losing.{marking}
 use Rattle.law_node_marks.proofs.ByMoves.{moves_keep, put_keeps, row_keeps}
-use Rattle.law_node_marks.proofs.InProxyRows.{to_fine, to_all, up_fine, head_fine, pdu_fine, packet_all, puts_all, mark_all, drawn_all, ping_all}
+use Rattle.law_node_marks.proofs.InProxyRows.{IsUnderway, to_fine, to_all, up_kept, head_fine, pdu_kept, packet_all, puts_all, mark_all, drawn_all, ping_all}
 use Rattle.law_node_marks.proofs.InProxyRows as kept
 
 module _ (Handed : Type 0) where
@@ -29,7 +29,7 @@ module _ (Handed : Type 0) where
   none_put s leg h is =
       by_test (λ (pick : Pick). pick ≡ None) (is_client_leg leg) (put_echo s leg.number)
       (if is_server_leg s leg then settled_pick (next s) else None)
-      (λ t. by s.work h.underway) (λ t. absurd (true≢false (sym is ∙ t)))
+      (λ t. by s.work h.work) (λ t. absurd (true≢false (sym is ∙ t)))
     where
       by : (w : Work) → w ≡ works.Underway → echo_by s w leg.number ≡ None
       by works.Underway e = refl
@@ -48,7 +48,7 @@ module _ (Handed : Type 0) where
 
   -- none came while the work goes on
   untold : (p : Passage InProxy) → Held p → Fine p.role → (n : ℕ) → WasTold p n → ⊥
-  untold p h fine n t = not_done p.role.work fine.underway (h.told n t)
+  untold p h fine n t = not_done p.role.work fine.work (h.told n t)
     where
       not_done : (w : Work) → w ≡ works.Underway → w ≡ works.Done → ⊥
       not_done works.Underway e f = absurd cc
@@ -192,7 +192,7 @@ module _ (Handed : Type 0) where
         → HeadsAre (AsksNoEcho true) move → Held p → Held (moved other p move)
     step_all p (Up leg cookie) may asks h = record {
       all = to_all Handed (up p.role leg)
-          (up_fine Handed p.role leg (to_fine Handed p.role may.0 h.all));
+          (up_kept Handed IsUnderway p.role leg (to_fine Handed p.role may.0 h.all));
       unput = h.unput;
       told = λ n t. absurd (untold p h (to_fine Handed p.role may.0 h.all) n t);
     }
@@ -206,7 +206,7 @@ module _ (Handed : Type 0) where
     step_all p (PduCame leg count bytes) may asks h = record {
       all = row_keeps All p leg (Pdu bytes) (pdu p.role leg count bytes)
           (to_all Handed (pdu p.role leg count bytes).0
-          (pdu_fine Handed p.role leg count bytes
+          (pdu_kept Handed IsUnderway p.role leg count bytes
           (to_fine Handed p.role (works_on p.role leg may.0) h.all)));
       unput = row_unput p leg (Pdu bytes) (pdu p.role leg count bytes) h.unput;
       told = told_pdu p leg bytes (pdu p.role leg count bytes)

@@ -75,13 +75,13 @@ same_keep_alive s which n = search rules
 same_end_a1 : (s : InProxy) (which : Which) → Same s (on_end_a1 s which).0
 same_end_a1 s which = search rules
 
-same_conn_b3 : (s : InProxy) (size : ℕ) → Same s (on_conn_b3 s size).0
+pub same_conn_b3 : (s : InProxy) (size : ℕ) → Same s (on_conn_b3 s size).0
 same_conn_b3 s size = search rules
 
-same_b2 : (s : InProxy) (size : ℕ) → Same s (on_in_r1_b2 s size).0
+pub same_b2 : (s : InProxy) (size : ℕ) → Same s (on_in_r1_b2 s size).0
 same_b2 s size = search rules
 
-same_ack : (s : InProxy) (received available : ℕ) (channel : Cookie)
+pub same_ack : (s : InProxy) (received available : ℕ) (channel : Cookie)
     → Same s (on_ack s received available channel).0
 same_ack s received available channel = search rules
 
@@ -128,11 +128,156 @@ same_ping s = search rules
 
 -- ---- the facts
 
+-- the work goes on
+abbrev pub IsUnderway : Work → Type 0
+IsUnderway w = w ≡ works.Underway
+
 -- Handed: no ci leg is lost before IN_R1/A5 came there, while it is the newest one
 module _ (Handed : Type 0) where
   -- the newest ci leg was lost behind IN_R1/A5 alone
   abbrev pub IsHanded : InProxy → Type 0
   IsHanded s = Handed → s.newest_lost ≡ true → has_come s.handover ≡ true
+
+  -- W: how far the work is
+  module _ (W : Work → Type 0) where
+    pub record Kept (s : InProxy) : Type 0 where
+      pub handed : IsHanded s
+      pub work : W s.work
+
+    pub same_kept : (s t : InProxy) → Same s t → Kept s → Kept t
+    same_kept s t same h = record {
+      handed =
+          subst (λ (x : Seen). Handed → x.newest_lost ≡ true → x.come ≡ true) (sym same)
+          h.handed;
+      work = subst W (sym (ap (λ (x : Seen). x.work) same)) h.work;
+    }
+
+    -- ---- what comes
+
+    accepted_kept : (s : InProxy) (o : Opening) (n : ℕ) → Kept s → Kept (accepted s o n)
+    accepted_kept s openings.AwaitsClient n h =
+        same_kept s (accepted s openings.AwaitsClient n) refl h
+    accepted_kept s openings.AwaitsPacket n h =
+        record { handed = λ k e. absurd (true≢false (sym e)); work = h.work }
+    accepted_kept s (openings.WantsServer o) n h =
+        record { handed = λ k e. absurd (true≢false (sym e)); work = h.work }
+    accepted_kept s (openings.Announces o) n h =
+        record { handed = λ k e. absurd (true≢false (sym e)); work = h.work }
+    accepted_kept s (openings.Announced o) n h =
+        record { handed = λ k e. absurd (true≢false (sym e)); work = h.work }
+
+    pub up_kept : (s : InProxy) (leg : Leg) → Kept s → Kept (up s leg)
+    up_kept s leg h =
+        by_test Kept (may_accept s leg) (accepted s s.opening leg.number) _
+        (λ t. accepted_kept s s.opening leg.number h)
+        (λ t. by_test Kept (wants s leg) (connected s s.opening) s
+        (λ u. same_kept s (connected s s.opening) (same_connected s s.opening) h) (λ u. h))
+
+    pub pdu_kept : (s : InProxy) (leg : Leg) (count : Count) (bytes : List ℕ) → Kept s
+        → Kept (pdu s leg count bytes).0
+    pdu_kept s leg count bytes h =
+        same_kept s (pdu s leg count bytes).0 (same_pdu s leg count bytes) h
+
+    -- IN_R1/A5 comes on the newest ci leg
+    came_kept : (s : InProxy) (cookie : Cookie) → Kept s → Kept (handed_over s cookie).0
+    came_kept s cookie h = record { handed = λ k e. refl; work = h.work }
+
+    finish_kept : (s : InProxy) (z : Successor) (cookie : Cookie) → Kept s
+        → Kept (finish_by s z cookie).0
+    finish_kept s successors.Absent cookie h = came_kept s cookie h
+    finish_kept s (successors.Up number) cookie h = h
+    finish_kept s (successors.Joined leg (TellsServer behind)) cookie h = h
+    finish_kept s (successors.Joined leg Follows) cookie h = h
+    finish_kept s (successors.Joined leg Told) cookie h =
+        by_test (λ (x : Done). Kept x.0) (same_cookie leg.cookie cookie) (taken (finished s leg))
+        (refuse s (refused.Cookie leg.cookie cookie))
+        (λ t. same_kept s (finished s leg) refl h) (λ t. h)
+
+    a5_kept : (s : InProxy) (which : Which) (cookie : Cookie) → Kept s
+        → Kept (on_in_r1_a5 s which cookie).0
+    a5_kept s Current cookie h =
+        by_test (λ (x : Done). Kept x.0) (has_a5 s Current) (unexpected s) _ (λ t. h)
+        (λ t. finish_kept s s.successor cookie h)
+    a5_kept s Next cookie h =
+        by_test (λ (x : Done). Kept x.0) (has_a5 s Next) (unexpected s) _ (λ t. h)
+        (λ t. came_kept s cookie h)
+
+    channel_kept : (s : InProxy) (which : Which) (named : Named) → Kept s
+        → Kept (on_channel s which named).0
+    channel_kept s which (AckTo to received available channel) h =
+        same_kept s (on_ack_to s which to received available channel).0
+        (same_ack_to s which to received available channel) h
+    channel_kept s which (OutR1A7 to successor) h =
+        same_kept s (on_out_r1_a7 s which to successor).0 (same_a7 s which to successor) h
+    channel_kept s which (KeepAlive keepalive) h =
+        same_kept s (on_keep_alive s which keepalive).0 (same_keep_alive s which keepalive) h
+    channel_kept s which EndA1 h = same_kept s (on_end_a1 s which).0 (same_end_a1 s which) h
+    channel_kept s which (InR1A5 successor) h = a5_kept s which successor h
+    channel_kept s which packet h = h
+
+    on_kept : (s : InProxy) (o : Option Which) (named : Named) → Kept s
+        → Kept (on_channel_by s o named).0
+    on_kept s None named h = h
+    on_kept s (Some which) named h = channel_kept s which named h
+
+    pub ci_kept : (s : InProxy) (n : ℕ) (named : Named) → Kept s → Kept (on_ci s n named).0
+    ci_kept s n (ConnB1 v1 v2 v3 v4 v5 v6) h =
+        same_kept s (on_conn_b1 s n v2 v3 v5 v6).0 (same_conn_b1 s n v2 v3 v5 v6) h
+    ci_kept s n (InR1A1 v1 v2 v3 v4) h =
+        same_kept s (on_in_r1_a1 s n v2 v3 v4).0 (same_a1 s n v2 v3 v4) h
+    ci_kept s n packet h = on_kept s (channel_of s n) packet h
+
+    -- ---- what is put
+
+    abbrev pub PutKept : Pick → Type 0
+    PutKept pick = IfSome pick (λ (one : InProxy × Message). Kept one.0)
+
+    put_kept : (s : InProxy) (pick : Pick) → PutSame s pick → Kept s → PutKept pick
+    put_kept s None same h = tt
+    put_kept s (Some one) same h = same_kept s one.0 same h
+
+    or_kept : (a b : Pick) → PutKept a → PutKept b → PutKept (or_else a b)
+    or_kept None b h k = k
+    or_kept (Some pick) b h k = h
+
+    -- IN_R1/A6 goes behind IN_R1/A5
+    mark_kept : (s : InProxy) (handover : Handover) → Kept s → PutKept (mark_by s handover)
+    mark_kept s Before h = tt
+    mark_kept s Passed h = tt
+    mark_kept s (Came cookie) h = record { handed = λ k e. refl; work = h.work }
+
+    control_kept : (s : InProxy) → Kept s → PutKept (put_control s)
+    control_kept s h =
+        or_kept (put_early s) (put_acks s)
+        (or_kept (put_first s) _ (put_kept s (put_first s) (same_put_first s) h)
+        (or_kept (put_in_r2_a2 s) (put_waiting s)
+        (put_kept s (put_in_r2_a2 s) (same_told s s.successor) h)
+        (put_kept s (put_waiting s) (same_waiting s s.waiting.due) h)))
+        (or_kept (current_ack s) (next_ack s s.successor)
+        (put_kept s (current_ack s) (same_ack_by s Current s.current.cookie (ack_due s Current)) h)
+        (put_kept s (next_ack s s.successor) (same_next_ack s s.successor) h))
+
+    behind_kept : (s : InProxy) → Kept s → PutKept (put_behind s)
+    behind_kept s h =
+        or_kept (put_mark s) (put_ping s)
+        (or_kept (put_end s) (put_in_r1_a6 s) (put_kept s (put_end s) (same_end s) h)
+        (by_test PutKept (is_absent s.successor && line.is_empty s.line.current.pdus)
+        (mark_by s s.handover) None (λ t. mark_kept s s.handover h) (λ t. tt)))
+        (put_kept s (put_ping s) (same_ping s) h)
+
+    pub next_kept : (s : InProxy) → Kept s → PutKept (next s)
+    next_kept s h =
+        or_kept (put_control s) (put_stream s) (control_kept s h)
+        (or_kept (put_pdu s) (put_behind s)
+        (put_kept s (put_pdu s) (same_next_pdu s s.line.current.pdus) h) (behind_kept s h))
+
+  -- ---- while the work goes on
+
+  abbrev pub Fine : InProxy → Type 0
+  Fine = Kept IsUnderway
+
+  abbrev PutFine : Pick → Type 0
+  PutFine = PutKept IsUnderway
 
   -- the work goes on, or is done, behind IN_R1/A6; no answer to an echo request is due
   abbrev pub IsWork : InProxy → Work → Type 0
@@ -145,14 +290,9 @@ module _ (Handed : Type 0) where
     pub handed : IsHanded s
     pub works : IsWork s s.work
 
-  -- while the work goes on
-  pub record Fine (s : InProxy) : Type 0 where
-    pub handed : IsHanded s
-    pub underway : s.work ≡ works.Underway
-
   pub to_fine : (s : InProxy) → is_at_work proxy_rules s ≡ true → All s → Fine s
   to_fine s going h =
-      record { handed = h.handed; underway = by s.work refl s.opening h.works going }
+      record { handed = h.handed; work = by s.work refl s.opening h.works going }
     where
       by : (w : Work) → s.work ≡ w → (o : Opening) → IsWork s w
           → not (is_ended (phase_by w o)) ≡ true → s.work ≡ works.Underway
@@ -162,36 +302,9 @@ module _ (Handed : Type 0) where
       by works.Done is o works going = absurd (true≢false (sym going))
 
   pub to_all : (s : InProxy) → Fine s → All s
-  to_all s h = record { handed = h.handed; works = subst (IsWork s) (sym h.underway) tt }
-
-  pub same_fine : (s t : InProxy) → Same s t → Fine s → Fine t
-  same_fine s t same h = record {
-    handed =
-        subst (λ (x : Seen). Handed → x.newest_lost ≡ true → x.come ≡ true) (sym same)
-        h.handed;
-    underway = ap (λ (x : Seen). x.work) same ∙ h.underway;
-  }
+  to_all s h = record { handed = h.handed; works = subst (IsWork s) (sym h.work) tt }
 
   -- ---- what comes
-
-  accepted_fine : (s : InProxy) (o : Opening) (n : ℕ) → Fine s → Fine (accepted s o n)
-  accepted_fine s openings.AwaitsClient n h =
-      same_fine s (accepted s openings.AwaitsClient n) refl h
-  accepted_fine s openings.AwaitsPacket n h =
-      record { handed = λ k e. absurd (true≢false (sym e)); underway = h.underway }
-  accepted_fine s (openings.WantsServer o) n h =
-      record { handed = λ k e. absurd (true≢false (sym e)); underway = h.underway }
-  accepted_fine s (openings.Announces o) n h =
-      record { handed = λ k e. absurd (true≢false (sym e)); underway = h.underway }
-  accepted_fine s (openings.Announced o) n h =
-      record { handed = λ k e. absurd (true≢false (sym e)); underway = h.underway }
-
-  pub up_fine : (s : InProxy) (leg : Leg) → Fine s → Fine (up s leg)
-  up_fine s leg h =
-      by_test Fine (may_accept s leg) (accepted s s.opening leg.number) _
-      (λ t. accepted_fine s s.opening leg.number h)
-      (λ t. by_test Fine (wants s leg) (connected s s.opening) s
-      (λ u. same_fine s (connected s s.opening) (same_connected s s.opening) h) (λ u. h))
 
   pub head_fine : (s : InProxy) (n : ℕ) (verdict : Result Asked HttpFault)
       → ((request : Asked) → verdict ≡ Ok request
@@ -201,64 +314,10 @@ module _ (Handed : Type 0) where
   head_fine s n (Ok request) none h =
       by_test AtEnd (nat_le request.length greatest_echo) (echo_asked s n request)
       (channel_asked s request) (λ t. absurd (true≢false (sym t ∙ none request refl)))
-      (λ t. same_fine s (channel_asked s request).0 refl h)
+      (λ t. same_kept IsUnderway s (channel_asked s request).0 refl h)
     where
       AtEnd : InProxy × Result HeadTaken HeadRefused → Type 0
       AtEnd x = Fine x.0
-
-  pub pdu_fine : (s : InProxy) (leg : Leg) (count : Count) (bytes : List ℕ) → Fine s
-      → Fine (pdu s leg count bytes).0
-  pdu_fine s leg count bytes h =
-      same_fine s (pdu s leg count bytes).0 (same_pdu s leg count bytes) h
-
-  -- IN_R1/A5 comes on the newest ci leg
-  came_fine : (s : InProxy) (cookie : Cookie) → Fine s → Fine (handed_over s cookie).0
-  came_fine s cookie h = record { handed = λ k e. refl; underway = h.underway }
-
-  finish_fine : (s : InProxy) (z : Successor) (cookie : Cookie) → Fine s
-      → Fine (finish_by s z cookie).0
-  finish_fine s successors.Absent cookie h = came_fine s cookie h
-  finish_fine s (successors.Up number) cookie h = h
-  finish_fine s (successors.Joined leg (TellsServer behind)) cookie h = h
-  finish_fine s (successors.Joined leg Follows) cookie h = h
-  finish_fine s (successors.Joined leg Told) cookie h =
-      by_test (λ (x : Done). Fine x.0) (same_cookie leg.cookie cookie) (taken (finished s leg))
-      (refuse s (refused.Cookie leg.cookie cookie))
-      (λ t. same_fine s (finished s leg) refl h) (λ t. h)
-
-  a5_fine : (s : InProxy) (which : Which) (cookie : Cookie) → Fine s
-      → Fine (on_in_r1_a5 s which cookie).0
-  a5_fine s Current cookie h =
-      by_test (λ (x : Done). Fine x.0) (has_a5 s Current) (unexpected s) _ (λ t. h)
-      (λ t. finish_fine s s.successor cookie h)
-  a5_fine s Next cookie h =
-      by_test (λ (x : Done). Fine x.0) (has_a5 s Next) (unexpected s) _ (λ t. h)
-      (λ t. came_fine s cookie h)
-
-  channel_fine : (s : InProxy) (which : Which) (named : Named) → Fine s
-      → Fine (on_channel s which named).0
-  channel_fine s which (AckTo to received available channel) h =
-      same_fine s (on_ack_to s which to received available channel).0
-      (same_ack_to s which to received available channel) h
-  channel_fine s which (OutR1A7 to successor) h =
-      same_fine s (on_out_r1_a7 s which to successor).0 (same_a7 s which to successor) h
-  channel_fine s which (KeepAlive keepalive) h =
-      same_fine s (on_keep_alive s which keepalive).0 (same_keep_alive s which keepalive) h
-  channel_fine s which EndA1 h = same_fine s (on_end_a1 s which).0 (same_end_a1 s which) h
-  channel_fine s which (InR1A5 successor) h = a5_fine s which successor h
-  channel_fine s which packet h = h
-
-  on_fine : (s : InProxy) (o : Option Which) (named : Named) → Fine s
-      → Fine (on_channel_by s o named).0
-  on_fine s None named h = h
-  on_fine s (Some which) named h = channel_fine s which named h
-
-  ci_fine : (s : InProxy) (n : ℕ) (named : Named) → Fine s → Fine (on_ci s n named).0
-  ci_fine s n (ConnB1 v1 v2 v3 v4 v5 v6) h =
-      same_fine s (on_conn_b1 s n v2 v3 v5 v6).0 (same_conn_b1 s n v2 v3 v5 v6) h
-  ci_fine s n (InR1A1 v1 v2 v3 v4) h =
-      same_fine s (on_in_r1_a1 s n v2 v3 v4).0 (same_a1 s n v2 v3 v4) h
-  ci_fine s n packet h = on_fine s (channel_of s n) packet h
 
   -- IN_R1/B1: the work is done
   b1_all : (s : InProxy) → Fine s → All (on_in_r1_b1 s).0
@@ -269,13 +328,15 @@ module _ (Handed : Type 0) where
 
   is_all : (s : InProxy) (named : Named) → Fine s → All (on_is s named).0
   is_all s (ConnB3 size version) h =
-      to_all (on_conn_b3 s size).0 (same_fine s (on_conn_b3 s size).0 (same_conn_b3 s size) h)
+      to_all (on_conn_b3 s size).0
+      (same_kept IsUnderway s (on_conn_b3 s size).0 (same_conn_b3 s size) h)
   is_all s (InR1B2 size) h =
-      to_all (on_in_r1_b2 s size).0 (same_fine s (on_in_r1_b2 s size).0 (same_b2 s size) h)
+      to_all (on_in_r1_b2 s size).0
+      (same_kept IsUnderway s (on_in_r1_b2 s size).0 (same_b2 s size) h)
   is_all s InR1B1 h = b1_all s h
   is_all s (packets.Ack received available channel) h =
       to_all (on_ack s received available channel).0
-      (same_fine s (on_ack s received available channel).0
+      (same_kept IsUnderway s (on_ack s received available channel).0
       (same_ack s received available channel) h)
   is_all s packet h = to_all s h
 
@@ -284,53 +345,11 @@ module _ (Handed : Type 0) where
   packet_all s leg count named h =
       by_test (λ (x : Done). All x.0) (is_client_leg leg) (on_ci s leg.number named)
       (if is_server_leg s leg then on_is s named else unexpected s)
-      (λ t. to_all (on_ci s leg.number named).0 (ci_fine s leg.number named h))
+      (λ t. to_all (on_ci s leg.number named).0 (ci_kept IsUnderway s leg.number named h))
       (λ t. by_test (λ (x : Done). All x.0) (is_server_leg s leg) (on_is s named) (unexpected s)
       (λ u. is_all s named h) (λ u. to_all s h))
 
   -- ---- what is put
-
-  abbrev PutFine : Pick → Type 0
-  PutFine pick = IfSome pick (λ (one : InProxy × Message). Fine one.0)
-
-  put_fine : (s : InProxy) (pick : Pick) → PutSame s pick → Fine s → PutFine pick
-  put_fine s None same h = tt
-  put_fine s (Some one) same h = same_fine s one.0 same h
-
-  or_fine : (a b : Pick) → PutFine a → PutFine b → PutFine (or_else a b)
-  or_fine None b h k = k
-  or_fine (Some pick) b h k = h
-
-  -- IN_R1/A6 goes behind IN_R1/A5
-  mark_fine : (s : InProxy) (handover : Handover) → Fine s → PutFine (mark_by s handover)
-  mark_fine s Before h = tt
-  mark_fine s Passed h = tt
-  mark_fine s (Came cookie) h = record { handed = λ k e. refl; underway = h.underway }
-
-  control_fine : (s : InProxy) → Fine s → PutFine (put_control s)
-  control_fine s h =
-      or_fine (put_early s) (put_acks s)
-      (or_fine (put_first s) _ (put_fine s (put_first s) (same_put_first s) h)
-      (or_fine (put_in_r2_a2 s) (put_waiting s)
-      (put_fine s (put_in_r2_a2 s) (same_told s s.successor) h)
-      (put_fine s (put_waiting s) (same_waiting s s.waiting.due) h)))
-      (or_fine (current_ack s) (next_ack s s.successor)
-      (put_fine s (current_ack s) (same_ack_by s Current s.current.cookie (ack_due s Current)) h)
-      (put_fine s (next_ack s s.successor) (same_next_ack s s.successor) h))
-
-  behind_fine : (s : InProxy) → Fine s → PutFine (put_behind s)
-  behind_fine s h =
-      or_fine (put_mark s) (put_ping s)
-      (or_fine (put_end s) (put_in_r1_a6 s) (put_fine s (put_end s) (same_end s) h)
-      (by_test PutFine (is_absent s.successor && line.is_empty s.line.current.pdus)
-      (mark_by s s.handover) None (λ t. mark_fine s s.handover h) (λ t. tt)))
-      (put_fine s (put_ping s) (same_ping s) h)
-
-  next_fine : (s : InProxy) → Fine s → PutFine (next s)
-  next_fine s h =
-      or_fine (put_control s) (put_stream s) (control_fine s h)
-      (or_fine (put_pdu s) (put_behind s)
-      (put_fine s (put_pdu s) (same_next_pdu s s.line.current.pdus) h) (behind_fine s h))
 
   -- the work may be done where the newest ci leg is lost behind END
   settled_all : (s : InProxy) → Fine s → All (settled s)
@@ -366,9 +385,9 @@ module _ (Handed : Type 0) where
   puts_all s leg h =
       by_test PutAll (is_client_leg leg) (put_echo s leg.number)
       (if is_server_leg s leg then settled_pick (next s) else None)
-      (λ t. echo_all s s.work leg.number h.underway)
+      (λ t. echo_all s s.work leg.number h.work)
       (λ t. by_test PutAll (is_server_leg s leg) (settled_pick (next s)) None
-      (λ u. settled_put (next s) (next_fine s h)) (λ u. tt))
+      (λ u. settled_put (next s) (next_kept IsUnderway s h)) (λ u. tt))
 
   -- ---- a leg is lost, or drawn
 
@@ -380,7 +399,7 @@ module _ (Handed : Type 0) where
       (by_test Fine (is_newest s leg) (record s { newest_lost = true }) s
       (λ t. record {
         handed = λ k e. newest (is_newest s leg) (has_come s.handover) t (so k);
-        underway = h.underway;
+        work = h.work;
       })
       (λ t. h))
     where

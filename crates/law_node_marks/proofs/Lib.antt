@@ -1,6 +1,6 @@
 mod OutProxyOver
 mod OutProxyKept
-mod InProxyRows
+pub mod InProxyRows
 mod InProxyHeld
 mod InProxyOver
 mod ByMoves

@@ -11,7 +11,7 @@ use Rattle.law_peers_in_channels.proofs.InHandovers.Crossing.{Crossing, crossing
 use Rattle.law_peers_in_channels.proofs.InHandovers.Known.{connected, none_waits}
 use Rattle.law_peers_in_channels.proofs.InHandovers.Rising.{announced_by}
 use Rattle.law_peers_in_channels.specs.InChannels.{IsAnnouncedOn, channels, passed}
-use Rattle.law_peers_forwarding.proofs.ServerFull.Late.{came_grows}
+use Rattle.law_peers_forwarding.proofs.ServerFull.Grows.{came_grows}
 
 -- ---- what was announced stays
 

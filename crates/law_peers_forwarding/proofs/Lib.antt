@@ -3,7 +3,6 @@ pub mod Ready
 pub mod Phases
 pub mod PhasePuts
 pub mod Logs
-pub mod Fits
 pub mod Passed
 mod Answered
 mod Search

@@ -16,16 +16,16 @@ use Rattle.law_peers_room.proofs.ServerRoom.Meters.{Base, seen}
 use Rattle.law_peers_room.proofs.ServerRoom.Overtaken.{bases, same_there as in_often, acked_one as one_ack}
 use Rattle.law_peers_room.proofs.ServerRoom.ViewPuts.{os_goes}
 use Rattle.law_peers_room.proofs.ServerRoom.ViewRows.{LongServes, drawn_serves, give_serves, mark_serves, packet_row, pdu_row, recycles, take_serves, up_serves}
+use Rattle.law_peers_room.proofs.ServerRoom.ViewSteps.{in_same, long_before}
 use Rattle.law_peers_room.proofs.ServerRoom.Views.{AreKept, View, view}
 use Rattle.law_peers_room.proofs.ServerRoom.Ahead as ahead
 use Rattle.law_peers_room.specs.OutRoom.Waits.{is_in_a3}
 use Rattle.law_peers_room.specs.ServerRoom.Overtaking.{AreLong, IsLong, is_ack_for}
-use Rattle.law_peers_forwarding.proofs.ServerFull.Longest.{put_grows}
-use Rattle.law_peers_forwarding.proofs.Fits.{are_fit, in_same, long_before}
+use Rattle.law_peers_forwarding.proofs.ServerFull.Grows.{put_grows}
 use Rattle.law_peers_forwarding.proofs.Logs.{acks_more, asked_on, behind_first, in_leg_same, in_put_in, more_on, put_in as answers_in, put_more, rises}
 use Rattle.law_peers_forwarding.proofs.PhasePuts.{IsGone, phase_put, wide_so}
 use Rattle.law_peers_forwarding.proofs.Phases.{Phase, Early, Asking, Wished, Late, Over, AreSo, IsPhase, IsShort, IsSo, Stands, so_kept, other_way}
-use Rattle.law_peers_forwarding.proofs.Ready.{AreReady, under}
+use Rattle.law_peers_forwarding.proofs.Ready.{AreReady, are_fit, under}
 use Rattle.law_peers_forwarding.proofs.Spans.{both_kinds, found_there, span, span_all}
 use Rattle.law_peers_forwarding.proofs.ServerFull.Filling.{and_none}
 use Rattle.law_peers_forwarding.specs.ServerFull.Taken.{due_in}

@@ -9,7 +9,7 @@ use Rattle.law_role_server.proofs.TakesKept.{falsely as not_true}
 use Rattle.law_role_server.proofs.Each.{each_got}
 use Rattle.law_peers_room.proofs.ServerRoom.Legs.{others_so}
 use Rattle.law_peers_room.proofs.ServerRoom.Meters.{Base, IsBase, is_answered, is_begun, seen}
-use Rattle.law_peers_room.proofs.ServerRoom.ServerPuts.{IsLet, confirmed_answered, is_acked, open_begun, short_of, short_so}
+use Rattle.law_peers_room.proofs.ServerRoom.Lets.{IsLet, confirmed_answered, is_acked, open_begun, short_of, short_so}
 use Rattle.law_peers_room.proofs.ServerRoom.ViewPuts.{ArePut, IsAt, IsFirst, is_beside, rest}
 use Rattle.law_peers_room.proofs.ServerRoom.ViewRows.{settled_serves}
 use Rattle.law_peers_room.proofs.ServerRoom.Views.{View, view}
@@ -517,7 +517,7 @@ module _ (channel : Cookie) (least from most n : ℕ) (s : Server) (put asked mo
 
   pub phase_put : ArePut n s IsGone IsGone
   phase_put = record {
-    greets = λ place leg new is number meter apart asks mores rise one.
+    greets = λ place leg new is number meter cookie apart asks mores rise one.
         legs_stand channel least from most (view s) (slice_set s.outs place new) (put + 0) asks
         mores (set_so channel least from most (view s) place leg new is.at number meter)
         (rise_stand channel least from most (view s) put asked more (put + 0) asks mores
@@ -537,8 +537,8 @@ module _ (channel : Cookie) (least from most n : ℕ) (s : Server) (put asked mo
         hands_goes place leg is first.running
         (same_number leg.number s.writing may.writing) due first
         (ap (is_ack_for channel) same) asks mores rise.more_so confirmed below;
-    beside = λ place leg new len m is running none writes number meter in_it besides apart asks
-        mores rise one.
+    beside = λ place leg new len m is running none writes number meter cookie in_it besides apart
+        asks mores rise one.
         let zero_more = beside_none m besides in
         beside_goes place leg is running writes new len number meter none (put + answers m) asks
         mores (omega (arith, zero_more)) rise.asked_so rise.more_so;

@@ -4,7 +4,7 @@ use Rattle.law_order.proofs.Vocabulary.{◌≡◌, ℕ, ◌+◌, ◌*◌, ◌≤
 use Rattle.rh_sig.specs.declared.named.Named.TheVariants as named
 use Rattle.rh_server.specs.declared.state.Replacement.TheVariants as replacement
 use Rattle.rh_server.specs.declared.state.Stage.TheVariants as stage
-use Rattle.law_moves.proofs.Vocabulary.{Meter, Cookie, Named, Due, Key, are_one, key_of, merged, own, without_first}
+use Rattle.law_moves.proofs.Vocabulary.{Meter, Cookie, Named, Due, Key, are_one, key_of, merged, own, to_forward, without_first}
 use Rattle.law_moves.proofs.Lemmas.{all_append}
 use Rattle.law_role_server.proofs.Vocabulary.{OutLeg, Replacement, Stage, is_ack_of, last_number, is_steady, waiting_of}
 use Rattle.law_role_server.proofs.Counted.Dues.{push_waits}
@@ -398,25 +398,41 @@ module _ (channel : Cookie) (least from most : ℕ) where
   less_pushed dues due one =
       let more = push_waits is_in_a3 dues due in omega (arith, one, more)
 
+  pushed_so : (put asked more : ℕ) (x : View) (due : Due) → IsSo put asked more x
+      → IsSo put asked more (record x { dues = x.dues ++ due ∷ [] })
+  pushed_so put asked more x due h one =
+      let s = h (less_pushed x.dues due one) in
+      dues_stand x (x.dues ++ due ∷ []) put asked more (pushed_moves x.dues due s.there) s
+
+  dropped_so : (put asked more : ℕ) (x : View) (cookie : Cookie) → IsSo put asked more x
+      → IsSo put asked more (record x { dues = without_first (is_ack_of cookie) x.dues })
+  dropped_so put asked more x cookie h one =
+      let same = plain_all (is_ack_of cookie) (λ due e. (ack_plain cookie due e).2) x.dues in
+      let s = h (omega (arith, one, same)) in
+      dues_stand x (without_first (is_ack_of cookie) x.dues) put asked more
+      (dropped_moves cookie x.dues s.there) s
+
+  gone_so : (put asked more : ℕ) (x : View) (place : ℕ) → IsSo put asked more x
+      → IsSo put asked more (record x { legs = remove x.legs place })
+  gone_so put asked more x place h one =
+      legs_stand x (remove x.legs place) put asked more
+      (λ P all. each_removed (λ (other : OutLeg). other.number ≡ x.writing → P other.meter)
+      x.legs place all) (h one)
+
   pub so_kept : (put asked more : ℕ) → AreKept least (IsSo put asked more)
   so_kept put asked more = record {
-    pushed = λ x due other h one.
-        let s = h (less_pushed x.dues due one) in
-        dues_stand x (x.dues ++ due ∷ []) put asked more (pushed_moves x.dues due s.there) s;
-    merges = λ x packet key is h one.
+    adds = λ x packet other none h. pushed_so put asked more x (own packet) h;
+    forwards = λ x packet other ack owned none h. pushed_so put asked more x (to_forward packet) h;
+    merges = λ x packet key ack is h one.
         let same = merged_all x.dues packet key is in
         let s = h (omega (arith, one, same)) in
         dues_stand x (merged x.dues packet) put asked more
         (merged_moves x.dues packet key is s.there) s;
-    dropped = λ x cookie h one.
-        let same = plain_all (is_ack_of cookie) (λ due e. (ack_plain cookie due e).2) x.dues in
-        let s = h (omega (arith, one, same)) in
-        dues_stand x (without_first (is_ack_of cookie) x.dues) put asked more
-        (dropped_moves cookie x.dues s.there) s;
     asks = λ x steady h one.
         asks_stand x put asked more steady one
         (h (less_pushed x.dues (own (named.OutR1A1 0)) one));
-    answered = λ x successor timeout place leg new running at next number none long how h one.
+    answered = λ x successor timeout place leg new running at next number none long how not_yet h
+        one.
         let due = own (named.OutR1A5 0 1 timeout) in
         let s = h (less_pushed x.dues due one) in
         let moved = dues_stand x (x.dues ++ due ∷ []) put asked more
@@ -439,7 +455,7 @@ module _ (channel : Cookie) (least from most : ℕ) where
         early_stand x now x.legs put asked more early (h one);
     came_out = λ x now early none had h one.
         early_stand x now x.legs put asked more early (h one);
-    first_out = λ x now place leg new early none had at number count long h one.
+    first_out = λ x now place leg new early none had at is_first number count long h one.
         early_stand x now (slice_set x.legs place new) put asked more early (h one);
     ended = λ x h one. let s = h one in record {
       there = s.there;
@@ -447,17 +463,17 @@ module _ (channel : Cookie) (least from most : ℕ) where
       phase = s.phase;
       holds = ended_hold x put asked more s.phase s.holds;
     };
-    came_up = λ x new number meter h one. let s = h one in record {
+    came_up = λ x new number meter bare h one. let s = h one in record {
       there = s.there;
       room = s.room;
       phase = s.phase;
       holds = new_hold x new put asked more number s.phase s.holds;
     };
-    leg_set = λ x place leg new at number meter h one.
+    leg_set = λ x place leg new at number meter cookie h one.
         legs_stand x (slice_set x.legs place new) put asked more
         (set_so x place leg new at number meter) (h one);
-    leg_gone = λ x place h one.
-        legs_stand x (remove x.legs place) put asked more
-        (λ P all. each_removed (λ (other : OutLeg). other.number ≡ x.writing → P other.meter)
-        x.legs place all) (h one);
+    bare_gone = λ x place none h. gone_so put asked more x place h;
+    leg_gone = λ x place leg cookie at is h.
+        gone_so put asked more (record x { dues = without_first (is_ack_of cookie) x.dues }) place
+        (dropped_so put asked more x cookie h);
   }

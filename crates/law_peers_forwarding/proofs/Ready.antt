@@ -1,22 +1,25 @@
 -- where no replacement is under way, the writing channel of a server has room for an
 -- acknowledgement to the client, or for nothing
 use Rattle.rh_keep.specs.Meters.{started}
-use Rattle.law_order.proofs.Vocabulary.{◌≡◌, ◌⊎◌, inl, inr, ℕ, ◌+◌, ◌≤◌, ◌==◌, ◌&&◌, ◌||◌, cond, Bool, true, false, nat_lt, not, if◌then◌else◌, List, [], ◌∷◌, ◌++◌, Some, None, refl, sym, ap, ◌∙◌, subst, arith, nat_tests, IfSome, find, slice_get, slice_set, AllByRecursion, Option}
+use Rattle.law_order.proofs.Vocabulary.{◌≡◌, ◌⊎◌, inl, inr, ℕ, ◌+◌, ◌≤◌, ◌==◌, ◌&&◌, ◌||◌, cond, Bool, true, false, nat_lt, not, if◌then◌else◌, List, [], ◌∷◌, ◌++◌, Some, None, refl, sym, ap, ◌∙◌, subst, arith, nat_tests, IfSome, find, remove, slice_get, slice_set, AllByRecursion, Option}
 use Rattle.rh_sig.specs.declared.named.Named.TheVariants as named
 use Rattle.rh_shell.specs.Waiting.{is_of}
 use Rattle.rh_server.specs.declared.out_line.Kind.TheVariants as kind
 use Rattle.rh_server.specs.declared.state.Replacement.TheVariants as replacement
 use Rattle.rh_server.specs.declared.state.Stage.TheVariants as stage
-use Rattle.law_moves.proofs.Vocabulary.{Meter, wanted, by_test, same_number, test_same, Named, Due, Own, Message, Key, better, edge_of, key_of, merged, own, takes, without_first}
+use Rattle.law_moves.proofs.Vocabulary.{Meter, wanted, by_test, same_number, test_same, Cookie, Named, Due, Own, Message, Key, better, edge_of, key_of, merged, own, takes, to_forward, without_first, EndMove}
 use Rattle.law_moves.proofs.Lemmas.{all_append, each_so}
-use Rattle.law_role_server.proofs.Vocabulary.{OutLeg, Stage, completed, is_complete, settled, is_ack_of, is_kind, is_own, asks, is_under_way, last_number, wanted_by, wishes, Server, is_open, is_some, is_steady, out_at, out_leg, out_place}
+use Rattle.law_role_server.proofs.Vocabulary.{OutLeg, Stage, completed, is_complete, settled, is_ack_of, is_kind, is_own, asks, is_under_way, last_number, wanted_by, wishes, Server, is_open, is_some, is_steady, out_at, out_leg, out_place, first}
 use Rattle.law_role_server.proofs.Counted.InLegs.{next_place, place_step}
 use Rattle.law_role_server.proofs.Each.{each_got, each_removed, each_set}
+use Rattle.law_role_server_in.specs.Handovers.{passed}
 use Rattle.law_peers_room.proofs.ServerRoom.Legs.{Above, Sorted, sorted_pushed, sorted_removed, sorted_set}
 use Rattle.law_peers_room.proofs.ServerRoom.ViewPuts.{ArePut}
 use Rattle.law_peers_room.proofs.ServerRoom.ViewRows.{settled_serves}
+use Rattle.law_peers_room.proofs.ServerRoom.ViewSteps.{view_keeps}
 use Rattle.law_peers_room.proofs.ServerRoom.Views.{AreKept, View, had_out, has_out, view}
 use Rattle.law_peers_room.proofs.InRoom.Turns.{one_is as same_keys}
+use Rattle.law_peers_room.specs.ServerRoom.Overtaking.{AreLong}
 use Rattle.law_peers_forwarding.proofs.ServerFull.Filling.{and_none}
 use Rattle.law_peers_forwarding.proofs.Phases.{other_way}
 
@@ -220,35 +223,40 @@ way_ready x had way legs =
       λ e f g i. absurd (other_way (sym way ∙ f)),
     )) legs
 
+-- packets wait that are no others of a replacement than before
+dues_ready : (x : View) (dues : List Due)
+    → (finds of_wishes dues ≡ false → finds of_wishes x.dues ≡ false) → AreReady x
+    → AreReady (record x { dues = dues })
+dues_ready x dues so h =
+    less_ready x (had_out x.at) (has_out x.at) (under (record x { dues = dues }))
+    (nat_lt x.writing last_number) x.writing (λ e. e) (λ e. e)
+    (or_less (not (is_steady x.how)) (finds of_wishes x.dues) (finds of_wishes dues) so) refl refl h
+
+pushed_ready : (x : View) (due : Due) → AreReady x
+    → AreReady (record x { dues = x.dues ++ due ∷ [] })
+pushed_ready x due h =
+    dues_ready x (x.dues ++ due ∷ []) (found_pushed of_wishes x.dues due) h
+
+dropped_ready : (x : View) (cookie : Cookie) → AreReady x
+    → AreReady (record x { dues = without_first (is_ack_of cookie) x.dues })
+dropped_ready x cookie h =
+    dues_ready x (without_first (is_ack_of cookie) x.dues)
+    (found_gone of_wishes (is_ack_of cookie)
+    (λ due e. keyed_other due (record { destination = 3; channel = cookie })
+    (same_keys (key_of due.packet) (Some (record { destination = 3; channel = cookie })) e))
+    x.dues) h
+
 module _ (least : ℕ) (enough : 340 ≤ least) where
   pub ready_kept : AreKept least AreReady
   ready_kept = record {
-    pushed = λ x due other h.
-        less_ready x (had_out x.at) (has_out x.at)
-        (under (record x { dues = x.dues ++ due ∷ [] }))
-        (nat_lt x.writing last_number) x.writing (λ e. e) (λ e. e)
-        (or_less (not (is_steady x.how)) (finds of_wishes x.dues)
-        (finds of_wishes (x.dues ++ due ∷ [])) (found_pushed of_wishes x.dues due)) refl refl h;
-    merges = λ x packet key is h.
-        less_ready x (had_out x.at) (has_out x.at)
-        (under (record x { dues = merged x.dues packet })) (nat_lt x.writing last_number)
-        x.writing (λ e. e) (λ e. e)
-        (or_less (not (is_steady x.how)) (finds of_wishes x.dues)
-        (finds of_wishes (merged x.dues packet)) (found_merged x.dues packet key is)) refl refl h;
-    dropped = λ x cookie h.
-        less_ready x (had_out x.at) (has_out x.at)
-        (under (record x { dues = without_first (is_ack_of cookie) x.dues }))
-        (nat_lt x.writing last_number) x.writing (λ e. e) (λ e. e)
-        (or_less (not (is_steady x.how)) (finds of_wishes x.dues)
-        (finds of_wishes (without_first (is_ack_of cookie) x.dues))
-        (found_gone of_wishes (is_ack_of cookie)
-        (λ due e. keyed_other due (record { destination = 3; channel = cookie })
-        (same_keys (key_of due.packet) (Some (record { destination = 3; channel = cookie })) e))
-        x.dues)) refl refl h;
+    adds = λ x packet other none h. pushed_ready x (own packet) h;
+    forwards = λ x packet other ack owned none h. pushed_ready x (to_forward packet) h;
+    merges = λ x packet key ack is h.
+        dues_ready x (merged x.dues packet) (found_merged x.dues packet key is) h;
     asks = λ x steady h.
         less_ready x (had_out x.at) (has_out x.at) true (nat_lt x.writing last_number) x.writing
         (λ e. e) (λ e. e) (λ e. absurd (other_way e)) refl refl h;
-    answered = λ x successor timeout place leg new running at next number none long how h.
+    answered = λ x successor timeout place leg new running at next number none long how not_yet h.
         way_ready (record x {
           how = replacement.Answered successor;
           dues = x.dues ++ own (named.OutR1A5 0 1 timeout) ∷ [];
@@ -260,7 +268,7 @@ module _ (least : ℕ) (enough : 340 ≤ least) where
         less_ready x (had_out now) (has_out now) (under x) (nat_lt x.writing last_number) x.writing
         (λ e. sym had ∙ e) (λ e. sym has ∙ e) (λ e. e) refl refl h;
     came_out = λ x now early none had h. comes x now none had h;
-    first_out = λ x now place leg new early none had at number count long h.
+    first_out = λ x now place leg new early none had at is_first number count long h.
         each_set (IsReadyAt (record x { at = now })) x.legs place new (
           λ e f. absurd (other_way (sym had ∙ e)),
           λ e f g i. inr (omega (arith, enough, count, long)),
@@ -271,7 +279,7 @@ module _ (least : ℕ) (enough : 340 ≤ least) where
           λ e f. absurd (other_way e),
           λ e f g i. absurd (other_way (sym e)),
         )) x.legs;
-    came_up = λ x new number meter h.
+    came_up = λ x new number meter bare h.
         all_append (IsReadyAt x) x.legs (new ∷ []) h (
           (
             λ e f. shut new meter,
@@ -279,13 +287,16 @@ module _ (least : ℕ) (enough : 340 ≤ least) where
           ),
           tt,
         );
-    leg_set = λ x place leg new at number meter h.
+    leg_set = λ x place leg new at number meter cookie h.
         each_set (IsReadyAt x) x.legs place new
         (same_ready (had_out x.at) (has_out x.at) (under x) (nat_lt x.writing last_number)
         x.writing leg new number meter
         (subst (λ o. IfSome o (IsReadyAt x)) at
         (each_got (IsReadyAt x) x.legs place h))) h;
-    leg_gone = λ x place h. each_removed (IsReadyAt x) x.legs place h;
+    bare_gone = λ x place none h. each_removed (IsReadyAt x) x.legs place h;
+    leg_gone = λ x place leg cookie at is h.
+        let y : View = record x { dues = without_first (is_ack_of cookie) x.dues } in
+        each_removed (IsReadyAt y) x.legs place (dropped_ready x cookie h);
   }
     where
       comes : (x : View) (now : Stage) → had_out x.at ≡ false → had_out now ≡ true
@@ -330,32 +341,37 @@ sorted_at x place leg new at number h = (
       (each_got (λ (one : OutLeg). one.number ≤ x.newest) x.legs place h.1))) h.1,
 )
 
+sorted_gone : (x : View) (place : ℕ) → AreSorted x
+    → AreSorted (record x { legs = remove x.legs place })
+sorted_gone x place h = (
+  sorted_removed x.legs place h.0,
+  each_removed (λ (one : OutLeg). one.number ≤ x.newest) x.legs place h.1,
+)
+
 pub sorted_kept : (least : ℕ) → AreKept least AreSorted
 sorted_kept least = record {
-  pushed = λ x due other h. h;
-  merges = λ x packet key is h. h;
-  dropped = λ x cookie h. h;
+  adds = λ x packet other none h. h;
+  forwards = λ x packet other ack owned none h. h;
+  merges = λ x packet key ack is h. h;
   asks = λ x steady h. h;
-  answered = λ x successor timeout place leg new running at next number none long how h.
+  answered = λ x successor timeout place leg new running at next number none long how not_yet h.
       sorted_at x place leg new at number h;
   confirms = λ x was how h. h;
   came_in = λ x now early has had h. h;
   came_out = λ x now early none had h. h;
-  first_out = λ x now place leg new early none had at number count long h.
+  first_out = λ x now place leg new early none had at is_first number count long h.
       sorted_at x place leg new at number h;
   ended = λ x h. h;
-  came_up = λ x new number meter h. (
+  came_up = λ x new number meter bare h. (
     sorted_pushed x.newest x.legs new (omega (arith, number)) h.1 h.0,
     all_append (λ (one : OutLeg). one.number ≤ new.number) x.legs (new ∷ [])
         (each_so (λ (one : OutLeg). one.number ≤ x.newest)
         (λ (one : OutLeg). one.number ≤ new.number)
         (λ one is. omega (arith, is, number)) x.legs h.1) (omega arith, tt),
   );
-  leg_set = λ x place leg new at number meter h. sorted_at x place leg new at number h;
-  leg_gone = λ x place h. (
-    sorted_removed x.legs place h.0,
-    each_removed (λ (one : OutLeg). one.number ≤ x.newest) x.legs place h.1,
-  );
+  leg_set = λ x place leg new at number meter cookie h. sorted_at x place leg new at number h;
+  bare_gone = λ x place none h. sorted_gone x place h;
+  leg_gone = λ x place leg cookie at is h. sorted_gone x place h;
 }
 
 abbrev pub IsFit : View → Type 0
@@ -363,32 +379,38 @@ IsFit x = AreSorted x × AreReady x
 
 pub fit_kept : (least : ℕ) → 340 ≤ least → AreKept least IsFit
 fit_kept least enough = record {
-  pushed = λ x due other h. (a.pushed x due other h.0, b.pushed x due other h.1);
-  merges = λ x packet key is h.
-      (a.merges x packet key is h.0, b.merges x packet key is h.1);
-  dropped = λ x cookie h. (a.dropped x cookie h.0, b.dropped x cookie h.1);
+  adds = λ x packet other none h.
+      (a.adds x packet other none h.0, b.adds x packet other none h.1);
+  forwards = λ x packet other ack owned none h. (
+    a.forwards x packet other ack owned none h.0,
+    b.forwards x packet other ack owned none h.1,
+  );
+  merges = λ x packet key ack is h.
+      (a.merges x packet key ack is h.0, b.merges x packet key ack is h.1);
   asks = λ x steady h. (a.asks x steady h.0, b.asks x steady h.1);
-  answered = λ x successor timeout place leg new running at next number none long how h. (
-    a.answered x successor timeout place leg new running at next number none long how h.0,
-    b.answered x successor timeout place leg new running at next number none long how h.1,
+  answered = λ x successor timeout place leg new running at next number none long how not_yet h. (
+    a.answered x successor timeout place leg new running at next number none long how not_yet h.0,
+    b.answered x successor timeout place leg new running at next number none long how not_yet h.1,
   );
   confirms = λ x was how h. (a.confirms x was how h.0, b.confirms x was how h.1);
   came_in = λ x now early has had h.
       (a.came_in x now early has had h.0, b.came_in x now early has had h.1);
   came_out = λ x now early none had h.
       (a.came_out x now early none had h.0, b.came_out x now early none had h.1);
-  first_out = λ x now place leg new early none had at number count long h. (
-    a.first_out x now place leg new early none had at number count long h.0,
-    b.first_out x now place leg new early none had at number count long h.1,
+  first_out = λ x now place leg new early none had at is_first number count long h. (
+    a.first_out x now place leg new early none had at is_first number count long h.0,
+    b.first_out x now place leg new early none had at is_first number count long h.1,
   );
   ended = λ x h. (a.ended x h.0, b.ended x h.1);
-  came_up = λ x new number meter h.
-      (a.came_up x new number meter h.0, b.came_up x new number meter h.1);
-  leg_set = λ x place leg new at number meter h. (
-    a.leg_set x place leg new at number meter h.0,
-    b.leg_set x place leg new at number meter h.1,
+  came_up = λ x new number meter bare h.
+      (a.came_up x new number meter bare h.0, b.came_up x new number meter bare h.1);
+  leg_set = λ x place leg new at number meter cookie h. (
+    a.leg_set x place leg new at number meter cookie h.0,
+    b.leg_set x place leg new at number meter cookie h.1,
   );
-  leg_gone = λ x place h. (a.leg_gone x place h.0, b.leg_gone x place h.1);
+  bare_gone = λ x place none h. (a.bare_gone x place none h.0, b.bare_gone x place none h.1);
+  leg_gone = λ x place leg cookie at is h.
+      (a.leg_gone x place leg cookie at is h.0, b.leg_gone x place leg cookie at is h.1);
 }
   where
     a : AreKept least AreSorted
@@ -458,17 +480,24 @@ settles_ready t running sorted =
 module _ (n : ℕ) (s : Server) (least : ℕ) (enough : 340 ≤ least) (fit : IsFit (view s)) where
   pub fit_put : ArePut n s IsSettling (λ m x. IsFit x)
   fit_put = record {
-    greets = λ place leg new is number meter.
-        (fit_kept least enough).leg_set (view s) place leg new is.at number meter fit;
+    greets = λ place leg new is number meter cookie.
+        (fit_kept least enough).leg_set (view s) place leg new is.at number meter cookie fit;
     alone = λ place leg is due first received window cookie same. (first.running, fit.0);
     counts_it = λ place leg is due first may apart.
         (first.running, sorted_at (view s) place leg _ is.at refl fit.0);
     hands = λ place leg is due first may same confirmed less.
         (first.running, sorted_at (view s) place leg _ is.at refl fit.0);
-    beside = λ place leg new len m is running none writes number meter in_it besides.
+    beside = λ place leg new len m is running none writes number meter cookie in_it besides.
         (running, sorted_at (view s) place leg new is.at number fit.0);
     settles = λ m t running w. (
       settled_serves least AreSorted (sorted_kept least) t w.1,
       settles_ready t w.0 (w.1).0,
     );
   }
+
+-- whatever moves a server makes
+pub are_fit : (least : ℕ) → 340 ≤ least → (window : ℕ) (moves : List EndMove)
+    → AreLong least (passed window moves).came → IsFit (view (passed window moves).role)
+are_fit least enough window moves long =
+    view_keeps least IsFit (fit_kept least enough) IsSettling
+    (λ n s fit. fit_put n s least enough fit) window moves ((tt, tt), tt) long

@@ -1,4 +1,5 @@
 pub mod Kept
+pub mod Grows
 pub mod Longest
 pub mod Streams
 pub mod Late

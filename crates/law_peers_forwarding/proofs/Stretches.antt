@@ -19,7 +19,7 @@ use Rattle.law_peers_in_channels.specs.InChannels.{IsAnnouncedOn, channels}
 use Rattle.law_peers_room.specs.OutRoom.Room.{AcksFewBetween, AreAcked}
 use Rattle.law_peers_room.specs.OutRoom.Waits.{AcksFor, AreDifferent, behind, is_in_a3}
 use Rattle.law_peers_room.specs.ServerRoom.Overtaking.{AreLong, is_ack_for}
-use Rattle.law_peers_forwarding.proofs.ServerFull.Late.{came_grows}
+use Rattle.law_peers_forwarding.proofs.ServerFull.Grows.{came_grows}
 use Rattle.law_peers_forwarding.proofs.Cuts.{grows}
 use Rattle.law_peers_forwarding.proofs.Ends.{Ends, ends}
 use Rattle.law_peers_forwarding.proofs.Messages.{First, acked_counts, acks_client, behind_rises, counts_fewer, first_that}

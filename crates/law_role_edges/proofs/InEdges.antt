@@ -1,29 +1,15 @@
 -- each step of an in proxy keeps what it knows of the server's window
-use Rattle.law_order.proofs.Vocabulary.{◌≡◌, ℕ, ◌≤◌, ◌+◌, Bool, true, false, true≢false, ◌&&◌, List, [], ◌∷◌, ◌++◌, Some, None, Ok, Err, arith, refl, sym, ap, ◌∙◌, subst, rules, and_parts, if◌then◌else◌, AllByRecursion, IfSome, Option, Result, nat_tests}
-use Rattle.law_moves.proofs.Vocabulary.{Sender, after_acked, ack_verdict, BadAck, by_test, Cookie, Named, ConnB1, ConnB3, InR1A1, InR1B1, InR1B2, Leg, LegKind, ClientOut, OutServer, ClientIn, InServer, is_of, Which, Current, Next, Count, Message, Text, Pdu, Packet, OnLeg, Move, all_moved, started}
-use Rattle.law_moves.proofs.Lemmas.{PutKeeps, RowKeeps, StepsKeep, moves_keep}
+use Rattle.law_order.proofs.Vocabulary.{◌≡◌, ℕ, ◌≤◌, true, false, true≢false, ◌&&◌, List, [], ◌∷◌, ◌++◌, Some, None, Ok, Err, arith, refl, sym, ap, ◌∙◌, subst, rules, and_parts, if◌then◌else◌, AllByRecursion, IfSome, Option, Result}
+use Rattle.law_moves.proofs.Vocabulary.{Sender, after_acked, ack_verdict, BadAck, by_test, Cookie, Named, ConnB1, ConnB3, InR1A1, InR1B1, InR1B2, Leg, LegKind, ClientOut, OutServer, ClientIn, InServer, is_of, Which, Count, Message, Pdu, Packet, OnLeg, Move, all_moved, started}
+use Rattle.law_moves.proofs.Lemmas.{PutKeeps, RowKeeps, StepsKeep, all_append, each_so, moves_keep}
 use Rattle.rh_sig.specs.declared.named.Named.TheVariants.{Ack}
 use Rattle.rh_shell.specs.declared.answers.Refused.TheVariants as refused
 use Rattle.law_role_inproxy.proofs.Vocabulary.{Edge, InProxyConfig, Opener, Done, Pick, unexpected, refuse, InProxy, first, channel_of, is_client_leg, is_server_leg, same_cookie, up, head, drawn, opener_of, is_connection, is_replacement, is_unknown, with_edge, on_conn_b1, acked, acked_by, ack_for, on_ack, is_newest, mark, settled, on_in_r1_a1, on_in_r1_b1, next, next_ack, current_ack, or_else, put as put_of, put_acks, put_behind, put_control, put_early, put_echo, put_end, put_first, put_in_r1_a6, put_in_r2_a2, put_mark, put_pdu, put_ping, put_stream, put_waiting, settled_pick, ping, pdu, packet, on_channel, on_channel_by, on_ci, on_is, rules as proxy_rules}
-use Rattle.law_role_edges.specs.Edges.{IsKnownOn, IsWithin, KnowsEdges, edge_told}
+use Rattle.law_role_edges.proofs.Knowing.{acked_known, acked_rises, known_then, within_more}
+use Rattle.law_role_edges.specs.Edges.{IsKnownOn, KnowsEdges, edge_told}
 
--- ---- what is known of more messages, and by a greater edge
-
-within_more : (low high : ℕ) (m : Message) → low ≤ high → IsWithin low m → IsWithin high m
-within_more low high (Text bytes) more is = tt
-within_more low high (Pdu bytes) more is = tt
-within_more low high (Packet named) more is = omega (arith, more, is)
-
-known_more : (low high : ℕ) (came : List OnLeg) → low ≤ high
-    → AllByRecursion (IsKnownOn low) came → AllByRecursion (IsKnownOn high) came
-known_more low high [] more all = tt
-known_more low high (one ∷ came) more all =
-    ((λ here. within_more low high one.1 more (all.0 here)), known_more low high came more all.1)
-
-known_last : (edge : ℕ) (came : List OnLeg) (one : OnLeg) → AllByRecursion (IsKnownOn edge) came
-    → IsKnownOn edge one → AllByRecursion (IsKnownOn edge) (came ++ one ∷ [])
-known_last edge [] one all last = (last, tt)
-known_last edge (other ∷ came) one all last = (all.0, known_last edge came one all.1 last)
+known_high : (low high : ℕ) → low ≤ high → (one : OnLeg) → IsKnownOn low one → IsKnownOn high one
+known_high low high more one is here = within_more edge_told low high one.1 more (is here)
 
 -- ---- what the facts are about
 
@@ -103,7 +89,10 @@ same_ping s leg = search rules
 came_more : (x : Seen) (came : List OnLeg) (one : OnLeg) → IsKnownOn x.window.edge one
     → Knows x came → Knows x (came ++ one ∷ [])
 came_more x came one is h =
-    record { known = known_last x.window.edge came one h.known is; shut = h.shut }
+    record {
+      known = all_append (IsKnownOn x.window.edge) came (one ∷ []) h.known (is, tt);
+      shut = h.shut;
+    }
 
 -- a row that leaves the window alone takes what tells none
 quiet_row : (one : OnLeg) (s : InProxy) (came put : List OnLeg) (x : Done)
@@ -119,21 +108,11 @@ edge_row : (s : InProxy) (leg : Leg) (came put : List OnLeg) (named : Named) (si
     → RowKeeps Holds (leg, Packet named) came put (with_edge s size)
 edge_row s leg came put named size told unknown h = record {
   known =
-      known_last size came (leg, Packet named)
-      (known_more s.window.edge size came
-      (let none = h.shut unknown in omega (arith, none)) h.known)
-      (λ here. omega (arith, told));
+      known_then (IsKnownOn s.window.edge) (IsKnownOn size) came (leg, Packet named)
+      (known_high s.window.edge size (let none = h.shut unknown in omega (arith, none)))
+      h.known (λ here. omega (arith, told));
   shut = λ e. absurd cc;
 }
-
-acked_rises : (w : Sender) (received available : ℕ)
-    → w.edge ≤ (after_acked w received available).edge
-acked_rises w received available = search rules
-
-acked_known : (w : Sender) (received available : ℕ)
-    → ack_verdict w received available ≡ Ok tt
-    → received + available ≤ (after_acked w received available).edge
-acked_known w received available fine = grind (arith, nat_tests, fine)
 
 acked_row : (s : InProxy) (leg : Leg) (came put : List OnLeg) (received available : ℕ)
     (channel : Cookie) → is_unknown s.edge ≡ false → Holds s came put
@@ -145,21 +124,23 @@ acked_row s leg came put received available channel known h =
     t : InProxy
     t = record s { window = after_acked s.window received available }
 
-    before : AllByRecursion (IsKnownOn t.window.edge) came
-    before =
-        known_more s.window.edge t.window.edge came (acked_rises s.window received available)
-        h.known
+    high : (one : OnLeg) → IsKnownOn s.window.edge one → IsKnownOn t.window.edge one
+    high = known_high s.window.edge t.window.edge (acked_rises s.window received available)
 
     by : (v : Result (Unit {0}) BadAck) → ack_verdict s.window received available ≡ v
         → RowKeeps Holds (leg, Packet (Ack received available channel)) came put (acked_by t v)
     by (Ok applied) e = record {
       known =
-          known_last t.window.edge came (leg, Packet (Ack received available channel)) before
+          known_then (IsKnownOn s.window.edge) (IsKnownOn t.window.edge) came
+          (leg, Packet (Ack received available channel)) high h.known
           (λ here. acked_known s.window received available e);
       shut = λ f. absurd (true≢false (sym f ∙ known));
     }
     by (Err bad) e =
-        record { known = before; shut = λ f. absurd (true≢false (sym f ∙ known)) }
+        record {
+          known = each_so (IsKnownOn s.window.edge) (IsKnownOn t.window.edge) high came h.known;
+          shut = λ f. absurd (true≢false (sym f ∙ known));
+        }
 
 ack_row : (s : InProxy) (leg : Leg) (came put : List OnLeg) (received available : ℕ)
     (channel : Cookie) → Holds s came put

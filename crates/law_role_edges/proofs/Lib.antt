@@ -1,1 +1,5 @@
+pub mod Knowing
 pub mod InEdges
+pub mod InPasses
+pub mod OutKnows
+pub mod OutTells

@@ -1,1 +1,3 @@
 pub mod Edges
+pub mod OutProxies
+pub mod Passing

@@ -345,7 +345,7 @@ module _ (window : ℕ) (moves : List EndMove)
   abbrev now : EndPassage Server
   now = all_end_moved server_rules acts (end_started (first window)) moves
 
-  left_now_at : has_handover (got now n) ≡ true → IsLeft n now.passage.role
+  pub left_now_at : has_handover (got now n) ≡ true → IsLeft n now.passage.role
   left_now_at handed =
       moves_left (end_started (first window)) moves may (known window [] tt)
       (λ k handed. absurd (false≢true handed)) n handed

@@ -2,7 +2,7 @@ mod OutProxyMarks
 mod ServerMarks
 mod InLeaves
 mod InPuts
-mod InMarks
+pub mod InMarks
 mod InEnds
 mod ClientLeaves
 mod InProxyMarks

@@ -2,4 +2,3 @@ pub mod ServerSends
 pub mod DownRoute
 pub mod DownSides
 pub mod DownYes
-pub mod YesRecorded

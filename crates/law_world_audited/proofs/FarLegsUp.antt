@@ -2,4 +2,3 @@ pub mod Parts
 pub mod UpRoute
 pub mod UpSides
 pub mod UpYes
-pub mod YesRecorded

@@ -4,3 +4,4 @@ pub mod Moving
 pub mod LegsInChains
 pub mod FarLegsUp
 pub mod FarLegsDown
+pub mod YesRecorded

@@ -1,7 +1,7 @@
-mod CalmAnswers
+pub mod CalmAnswers
 mod LongTimes
 mod Silences
-mod FinishedLegs
-mod Steps
-mod NoBreaks
+pub mod FinishedLegs
+pub mod Steps
+pub mod NoBreaks
 mod Recorded

@@ -11,7 +11,7 @@ use Rattle.law_moves.proofs.Vocabulary.{Cause, Dir, Side, Leg, Rules, Shell}
 use Rattle.law_role_inproxy.proofs.Vocabulary.{InProxy}
 use Rattle.law_role_client.proofs.Vocabulary.{ClientRole}
 use Rattle.law_role_server.proofs.Vocabulary.{Server}
-use Rattle.law_node_history.proofs.Vocabulary.{Answer, NodeClosed, Who, sender, receiver, Closing, Event, Comes, Ends, Breaks, Place, Absent, Here, Gone, lines, Company, Rulebook, is_up, end_leg, lost, lose, Deeds, Makers, settle, step, World, at, Change, IsTold, IsFed, GoesDown, HasUp, MayChange, Leads, changed, ClosesNode, IsOneOf, in_place, out_place, told_by}
+use Rattle.law_node_history.proofs.Vocabulary.{Answer, NodeClosed, Who, sender, receiver, Closing, Event, Comes, Ends, Breaks, Passes, Place, Absent, Here, Gone, lines, Company, Rulebook, is_up, end_leg, lost, lose, Deeds, Makers, settle, step, World, at, Change, IsTold, IsFed, GoesDown, HasUp, MayChange, Leads, changed, ClosesNode, IsOneOf, in_place, out_place, told_by}
 use Rattle.law_node_history.proofs.Lemmas.{answered, goes_step_line, is_other, leads_more, leads_none, leads_then, one_of_both, one_of_lines}
 use Rattle.law_node_history.proofs.Reporting.{change_closes}
 use Rattle.law_node_causes.specs.Closings.{ClosesWith, ComesFrom}
@@ -136,7 +136,12 @@ OurWorld K = World K ClientRole Server InProxy OutProxy
 plain_event : {K C S I O : Type 0} (w : World K C S I O) (change : Change) (node : Who)
     (event : Event) → is_plain change ≡ true → told_by w change ≡ Some (node, event)
     → (leg : Leg) → event ≡ Breaks leg → ⊥
-plain_event w (IsTold other event) node said plain told leg is = absurd cc
+plain_event w (IsTold other (Comes k piece)) node said plain told leg is = absurd cc
+plain_event w (IsTold other (Ends k)) node said plain told leg is = absurd cc
+plain_event w (IsTold other (Breaks k)) node said plain told leg is = absurd cc
+plain_event w (IsTold other (Passes now)) node said plain told leg is =
+    let same : ◌≡◌ {A = Who × Event} (other, Passes now) (node, said) = cc in
+    absurd (let bad : Passes now ≡ Breaks leg = ap (λ (p : Who × Event). p.1) same ∙ is in cc)
 plain_event w (IsFed other dir count) node said plain told leg is =
     let came = Comes other (legs.take_out other dir count w.legs).1 in
     let same : ◌≡◌ {A = Who × Event} (at w other (receiver dir), came) (node, said) = cc in

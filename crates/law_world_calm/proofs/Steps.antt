@@ -4,7 +4,7 @@ use Rattle.rh_record.specs.declared.answer.TakeAnswer.TheVariants as takes
 use Rattle.law_order.proofs.ByNumber.{by_test}
 use Rattle.rh_wires.specs.Legs as legs
 use Rattle.law_moves.proofs.Vocabulary.{Dir, U, D, Side, Leg, LegKind, ClientOut, OutServer, ClientIn, InServer}
-use Rattle.law_node_history.proofs.Vocabulary.{Answer, TakeAnswer, sender, receiver, Rulebook, is_up, end_leg, send, sent, feed, fed, draw_into, Deeds, take, has_ended, Makers, open_leg, open_same, and_then, each, leg_at, opened, opened_same, most_bytes, carry_bytes, carried, took, is_finished, end_where, end_one, end_kind, end_all, settle, World, at, Change, IsTold, IsFed, IsDrawn, GoesDown, GoesUp, OpensIn, OpensOut, OpensSame, Draws, Takes, Reports, MayChange, AreAllowed, all_changed, changed, of_line, WorksBy}
+use Rattle.law_node_history.proofs.Vocabulary.{Answer, TakeAnswer, sender, receiver, Comes, Ends, Breaks, Rulebook, is_up, end_leg, send, sent, feed, fed, draw_into, Deeds, take, has_ended, Makers, open_leg, open_same, and_then, each, leg_at, opened, opened_same, most_bytes, carry_bytes, carried, took, is_finished, end_where, end_one, end_kind, end_all, settle, World, at, Change, IsTold, IsFed, IsDrawn, GoesDown, GoesUp, OpensIn, OpensOut, OpensSame, Draws, Takes, Reports, MayChange, AreAllowed, all_changed, changed, of_line, WorksBy}
 use Rattle.law_node_history.proofs.Lemmas.{connects, connects_open_leg, connects_open_same, opens_go, carries_go, rounds_go}
 use Rattle.law_world_ways.specs.EndsInTime.Both.{AreUpAtBoth}
 use Rattle.law_world_ways.proofs.EndsInTime.Both.{end_keeps, feed_keeps, open_keeps, same_keeps, send_keeps, take_keeps}
@@ -14,9 +14,11 @@ pub data Step : Type 0 where
   IsPlain : Change → Step
   EndsLeg : Leg → Dir → Step
 
--- nothing is told a node but the bytes that come, and nothing goes down
+-- nothing is told a node but the bytes that come and the moment, and nothing goes down
 abbrev pub is_plain : Change → Bool
-is_plain (IsTold node event) = false
+is_plain (IsTold node (Comes leg piece)) = false
+is_plain (IsTold node (Ends leg)) = false
+is_plain (IsTold node (Breaks leg)) = false
 is_plain (GoesDown node leg end) = false
 is_plain Reports = false
 is_plain change = of_line change
@@ -53,24 +55,24 @@ module _ {K C S I O : Type 0} (r : Rulebook C S I O) (m : Makers K I O) (d : Dee
     pub may : AllMayStep w steps
     pub reached : all_stepped w steps ≡ v
 
-  steps_append : (w : World K C S I O) (a b : List Step)
+  pub steps_append : (w : World K C S I O) (a b : List Step)
       → all_stepped w (a ++ b) ≡ all_stepped (all_stepped w a) b
   steps_append w [] b = refl
   steps_append w (step ∷ a) b = steps_append (stepped w step) a b
 
-  may_append : (w : World K C S I O) (a b : List Step) → AllMayStep w a
+  pub may_append : (w : World K C S I O) (a b : List Step) → AllMayStep w a
       → AllMayStep (all_stepped w a) b → AllMayStep w (a ++ b)
   may_append w [] b p q = q
   may_append w (step ∷ a) b p q = (p.0, may_append (stepped w step) a b p.1 q)
 
-  abbrev in_none : (w : World K C S I O) → InSteps w w
+  abbrev pub in_none : (w : World K C S I O) → InSteps w w
   in_none w = record { steps = []; may = tt; reached = refl }
 
-  abbrev in_one : (w : World K C S I O) (step : Step) → MayStep w step
+  abbrev pub in_one : (w : World K C S I O) (step : Step) → MayStep w step
       → InSteps w (stepped w step)
   in_one w step may = record { steps = step ∷ []; may = (may, tt); reached = refl }
 
-  in_then : (w v u : World K C S I O) → InSteps w v → InSteps v u → InSteps w u
+  abbrev pub in_then : (w v u : World K C S I O) → InSteps w v → InSteps v u → InSteps w u
   in_then w v u a b = record {
     steps = a.steps ++ b.steps;
     may =
@@ -91,7 +93,7 @@ module _ {K C S I O : Type 0} (r : Rulebook C S I O) (m : Makers K I O) (d : Dee
       (in_one w (IsPlain c) (allowed.0, connects_plainly c both.0))
       (plainly (changed r m d w c) cs allowed.1 both.1)
 
-  connecting : (w v : World K C S I O) → WorksBy connects r m d w v → InSteps w v
+  pub connecting : (w v : World K C S I O) → WorksBy connects r m d w v → InSteps w v
   connecting w v a =
       subst (InSteps w) a.leads.reached
       (plainly w a.leads.changes a.leads.allowed a.work)
@@ -145,7 +147,7 @@ module _ {K C S I O : Type 0} (r : Rulebook C S I O) (m : Makers K I O) (d : Dee
 
   -- ---- bytes are carried
 
-  send_in_steps : (w : World K C S I O) (leg : Leg) (dir : Dir) (count : ℕ)
+  pub send_in_steps : (w : World K C S I O) (leg : Leg) (dir : Dir) (count : ℕ)
       → InSteps w (send r w leg dir count).0
   send_in_steps w leg dir count = by (legs.is_up leg (sender dir) w.legs) refl
     where
@@ -156,7 +158,7 @@ module _ {K C S I O : Type 0} (r : Rulebook C S I O) (m : Makers K I O) (d : Dee
       by true e = in_one w (IsPlain (IsDrawn leg dir count)) (e, refl)
       by false e = in_none w
 
-  feed_in_steps : (w : World K C S I O) (leg : Leg) (dir : Dir) (count : ℕ)
+  pub feed_in_steps : (w : World K C S I O) (leg : Leg) (dir : Dir) (count : ℕ)
       → InSteps w (feed r w leg dir count).0
   feed_in_steps w leg dir count = by (legs.is_up leg (receiver dir) w.legs) refl
     where

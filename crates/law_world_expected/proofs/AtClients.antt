@@ -21,15 +21,16 @@ use Rattle.law_world_order.proofs.Legs.{Reads}
 use Rattle.law_world_honest.proofs.Honesty.Closing.{IsOfPiece, by_fed}
 use Rattle.law_world_honest.proofs.Honesty.Fed.{told_what, told_who}
 use Rattle.law_world_honest.specs.Honesty.Honest.{well_on}
-use Rattle.law_world_windows.proofs.Moment.{Laws, well_behind}
-use Rattle.law_world_windows.proofs.Stopping.{Readings}
+use Rattle.law_world_windows.proofs.Moment.{comes_of, well_behind}
 use Rattle.law_world_windows.proofs.Closing.{out_number}
+use Rattle.law_world_windows.specs.Known.{Laws, NodesLaws, Readings}
 use Rattle.law_world_expected.proofs.Amiss.Next.{never_amiss}
-use Rattle.law_world_expected.proofs.Amiss.AtNodes.{RolesKnow, out_amiss}
+use Rattle.law_world_expected.proofs.Amiss.AtNodes.{out_amiss}
 use Rattle.law_world_expected.proofs.Amiss.Moments.{AllFlow, flowing, out_shell}
-use Rattle.law_world_expected.proofs.Closing.{NamesLeg, NodesLaws}
+use Rattle.law_world_expected.proofs.Closing.{NamesLeg}
 use Rattle.law_world_expected.proofs.Facts.{no_ping}
 use Rattle.law_world_expected.specs.Amiss.{amiss_by}
+use Rattle.law_world_expected.specs.Known.{RolesKnow}
 use Rattle.law_world_expected.specs.Roles.{OutsServe}
 
 abbrev pub PutsNoPingFirst : Type 0
@@ -98,7 +99,7 @@ module _ {K : Type 0} (roles : RolesKnow) (nodes : NodesLaws) (reads : Reads) (r
           per (Here node up) there closes =
               subst OutAt
               (names OutProxy out_proxy.rules node leg (legs.take_out leg dir count v.legs).1
-              (nodes.outs_amiss node (event leg dir count) why closes)) out_at dir count node up
+              (nodes.outs.amiss node (event leg dir count) why closes)) out_at dir count node up
               there may here closes
 
       fed : (leg : Leg) (dir : Dir) (count : ℕ) → MayChange rules v (IsFed leg dir count)
@@ -111,4 +112,4 @@ module _ {K : Type 0} (roles : RolesKnow) (nodes : NodesLaws) (reads : Reads) (r
       pub no_out_amiss_at_end : (change : Change) → MayChange rules v change
           → ClosesNode rules v change (who.Out k) why → ⊥
       no_out_amiss_at_end change may is =
-          by_fed v (who.Out k) why ⊥ fed nodes.comes change may is (of_piece is.event)
+          by_fed v (who.Out k) why ⊥ fed (comes_of nodes) change may is (of_piece is.event)

@@ -1,7 +1,9 @@
 -- whatever a change of a world is, it closes no node since what came was not to come there, as far
 -- as its role expects what comes at each moment
 use Rattle.law_order.proofs.Vocabulary.{◌≡◌, ◌≤◌, ℕ, zero, suc, List, arith, refl, sym, ◌∙◌, subst, Some, None}
+use Rattle.rh_line.specs.declared.cause.Cause.TheVariants as cause
 use Rattle.rh_record.specs.declared.answer.Who.TheVariants as who
+use Rattle.rh_shell.specs.declared.answers.Refused.TheVariants as refused
 use Rattle.rh_inproxy.specs.Machine as in_proxy
 use Rattle.rh_outproxy.specs.Machine as out_proxy
 use Rattle.rh_client.specs.Client as client
@@ -13,47 +15,32 @@ use Rattle.law_moves.proofs.Vocabulary.{Dir, U, D, CiU, IsU, IsD, CoU, OsU, OsD,
 use Rattle.law_role_inproxy.proofs.Vocabulary.{InProxy}
 use Rattle.law_role_client.proofs.Vocabulary.{ClientRole, ci, co}
 use Rattle.law_role_server.proofs.Vocabulary.{Server}
-use Rattle.law_node_history.proofs.Vocabulary.{Who, reader_of, receiver, Event, Comes, Place, Absent, Here, Gone, Makers, leg_at, World, at, Change, IsFed, MayChange, ClosesNode, in_place, out_place}
+use Rattle.law_node_history.proofs.Vocabulary.{Who, reader_of, receiver, Event, Comes, Place, Absent, Here, Gone, Makers, leg_at, World, at, Change, IsFed, MayChange, ClosesNode, in_place, out_place, IsNew}
 use Rattle.law_node_history.proofs.Lemmas.{answered}
-use Rattle.law_node_causes.specs.Closings.{ClosesWith, MayClose}
+use Rattle.law_node_causes.specs.Closings.{ClosesWith}
 use Rattle.law_node_causes.specs.Reasons.{ComesAmiss}
 use Rattle.law_role_outproxy.proofs.Vocabulary.{OutProxy}
 use Rattle.law_peers_moments.specs.Expecting.{Expects, HasNoPingFirst, IsAmiss}
 use Rattle.law_peers_moments.specs.Moments.{Moves, Numbers, in_behind, out_behind, server_behind}
 use Rattle.law_node_traces.proofs.Vocabulary.{ByChanges, AreOurs, deeds, rules, history_at}
 use Rattle.law_world_order.proofs.Legs.{Reads}
-use Rattle.law_world_order.proofs.Vocabulary.{IsFlowing, numbers_of, moves_of, numbers}
-use Rattle.law_world_honest.proofs.Honesty.Closing.{EachComes, IsOfPiece, by_fed}
+use Rattle.law_world_order.proofs.Vocabulary.{IsFlowing, numbers_of, AreInRange, moves_of, numbers}
+use Rattle.law_world_honest.proofs.Honesty.Closing.{IsOfPiece, by_fed}
 use Rattle.law_world_honest.proofs.Honesty.Fed.{told_what, told_who}
 use Rattle.law_world_honest.specs.Honesty.Honest.{well_on}
-use Rattle.law_world_windows.proofs.Moment.{Laws, NodeLaws, well_behind}
-use Rattle.law_world_windows.proofs.Stopping.{Readings}
+use Rattle.law_world_windows.proofs.Moment.{comes_of, well_behind}
 use Rattle.law_world_windows.proofs.Closing.{in_number, out_number}
+use Rattle.law_world_windows.specs.Known.{Laws, NodesLaws, Readings}
 use Rattle.law_world_windows.specs.Hops.{is_leg, os_leg}
-use Rattle.law_world_expected.proofs.Amiss.AtNodes.{RolesKnow, in_next, out_next, server_next}
+use Rattle.law_world_expected.proofs.Amiss.AtNodes.{in_next, out_next, server_next}
 use Rattle.law_world_expected.proofs.Amiss.Moments.{AllFlow, OfStreams, flowing, flows, story, world}
 use Rattle.law_world_expected.proofs.Amiss.Next.{never_amiss}
 use Rattle.law_world_expected.proofs.Facts.{IsKept}
 use Rattle.law_world_expected.specs.Amiss.{amiss_by}
-use Rattle.law_world_expected.specs.Roles.{Facts, InExpectsClient, InExpectsServer, OutExpectsClient, OutExpectsServer, Premise, ServerExpectsIn, ServerExpectsOut}
+use Rattle.law_world_expected.specs.Known.{RolesKnow}
+use Rattle.law_world_expected.specs.Roles.{Facts, InExpectsClient, InExpectsServer, NeverCloses, OutExpectsClient, OutExpectsServer, Premise, RefusesNone, ServerExpectsIn, ServerExpectsOut, WorldsExpect}
 
--- ---- the laws that this stands on
-
-abbrev ClosesAmiss : {S : Type 0} → Rules S → Type 0
-ClosesAmiss {S} rules =
-    (node : Shell S) (event : Event) (why : Cause) → ClosesWith rules node event why
-    → MayClose rules node event why
-
-pub record NodesLaws : Type 0 where
-  pub comes : EachComes
-  pub client_amiss : ClosesAmiss client.rules
-  pub ins_amiss : ClosesAmiss in_proxy.rules
-  pub outs_amiss : ClosesAmiss out_proxy.rules
-  pub server_amiss : ClosesAmiss server.rules
-  pub client : NodeLaws client.rules
-  pub server : NodeLaws server.rules
-  pub ins : NodeLaws in_proxy.rules
-  pub outs : NodeLaws out_proxy.rules
+-- ---- a moment
 
 -- that holds of the moves by which the streams of a world lead, where this is said of the world
 abbrev pub AtMoment : {K : Type 0} {m : Makers K InProxy OutProxy}
@@ -62,11 +49,33 @@ abbrev pub AtMoment : {K : Type 0} {m : Makers K InProxy OutProxy}
 AtMoment {K} {m} {w} Fits Holds ours u h f =
     Fits m w u h → Holds (reader_of u.readers) (moves_of f)
 
+-- so it is at each moment of a world of which it is said
+pub flow_of : {K : Type 0} (Fits : Premise K) (Holds : Numbers → Facts) → WorldsExpect K Fits Holds
+    → (m : Makers K InProxy OutProxy) (w : World K ClientRole Server InProxy OutProxy) → IsNew w
+    → (ours : AreOurs m w.company w.cast) → AreInRange (numbers_of ours)
+    → AllFlow m w ours (AtMoment Fits (Holds (numbers ours)) ours)
+flow_of Fits Holds expect m w new ours ranges u by =
+    let here = expect m w new ours ranges u by in
+    record { flows = here.flowing; holds = here.expects }
+
 -- a piece on another leg closes no node with a cause that names this one
 abbrev pub NamesLeg : Leg → Cause → Type 1
 NamesLeg l why =
     (S : Type 0) (its : Rules S) (node : Shell S) (leg : Leg) (piece : List ℕ)
     → ComesAmiss its node leg piece why → l ≡ leg
+
+-- with neither cause, where so with each that names the leg
+pub refuses_none : {K : Type 0} (v : World K ClientRole Server InProxy OutProxy) (node : Who)
+    (l : Leg)
+    → ((why : Cause) (r : Refused) → amiss_by why ≡ Some r → IsAmiss r
+    → ((event : Event) → IsOfPiece event why) → NamesLeg l why → NeverCloses v node why)
+    → RefusesNone v node l
+refuses_none v node l never = (
+  λ place. never (cause.Unexpected l place) refused.Unexpected refl tt
+      (λ event S its shell comes. comes) (λ S its shell leg piece amiss. amiss.cause),
+  λ expected got. never (cause.CookieMismatch l expected got) (refused.Cookie expected got) refl tt
+      (λ event S its shell comes. comes) (λ S its shell leg piece amiss. amiss.cause),
+)
 
 module _ {K : Type 0} (roles : RolesKnow) (nodes : NodesLaws) (reads : Reads) (readings : Readings)
     (m : Makers K InProxy OutProxy) (w : World K ClientRole Server InProxy OutProxy)
@@ -131,7 +140,7 @@ module _ {K : Type 0} (roles : RolesKnow) (nodes : NodesLaws) (reads : Reads) (r
     any : (node : Who) → Fed node → (change : Change) → MayChange rules v change
         → ClosesNode rules v change node why → ⊥
     any node never change may is =
-        by_fed v node why ⊥ (fed node never) nodes.comes change may is (of_piece is.event)
+        by_fed v node why ⊥ (fed node never) (comes_of nodes) change may is (of_piece is.event)
 
     -- ---- an in proxy
 
@@ -300,7 +309,7 @@ module _ {K : Type 0} (roles : RolesKnow) (nodes : NodesLaws) (reads : Reads) (r
           out_there (λ leg dir count node up there may here closes.
           subst OutAt
           (names OutProxy out_proxy.rules node leg (legs.take_out leg dir count v.legs).1
-          (nodes.outs_amiss node (event leg dir count) why closes)) never dir count node up there
+          (nodes.outs.amiss node (event leg dir count) why closes)) never dir count node up there
           may here closes)
 
       pub no_out_amiss_of_client : Gives OutExpectsClient → (n : ℕ) → NamesLeg (co n) why
@@ -377,7 +386,7 @@ module _ {K : Type 0} (roles : RolesKnow) (nodes : NodesLaws) (reads : Reads) (r
     server_on l names never leg dir count may here closes =
         subst ServerAt
         (names Server server.rules v.company.server leg (legs.take_out leg dir count v.legs).1
-        (nodes.server_amiss v.company.server (event leg dir count) why closes)) never dir count
+        (nodes.server.amiss v.company.server (event leg dir count) why closes)) never dir count
         may here closes
 
     pub no_server_amiss_of_in : Gives ServerExpectsIn → (n : ℕ) → NamesLeg (is_leg n) why

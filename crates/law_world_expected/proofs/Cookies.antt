@@ -19,8 +19,8 @@ use Rattle.law_world_order.proofs.Vocabulary.{numbers_of}
 use Rattle.law_world_honest.proofs.Honesty.Closing.{EachComes, by_fed}
 use Rattle.law_world_honest.proofs.Honesty.Fed.{told_what, told_who}
 use Rattle.law_world_honest.specs.Honesty.Honest.{well_on}
-use Rattle.law_world_windows.proofs.Moment.{Laws, NodeLaws, well_behind}
-use Rattle.law_world_windows.proofs.Stopping.{Readings}
+use Rattle.law_world_windows.proofs.Moment.{well_behind}
+use Rattle.law_world_windows.specs.Known.{Laws, NodeLaws, Readings}
 use Rattle.law_world_expected.proofs.Amiss.Moments.{AllFlow, OfStreams, client_then, flows}
 use Rattle.law_world_expected.proofs.Amiss.Stops.{PingsFirst, RefusesAhead}
 use Rattle.law_world_expected.specs.Amiss.{RefusesBy}

@@ -22,13 +22,14 @@ use Rattle.law_world_order.proofs.Legs.{Reads}
 use Rattle.law_world_order.proofs.Vocabulary.{AreDistinct, moves_of, numbers}
 use Rattle.law_world_honest.proofs.Honesty.Closing.{by_fed}
 use Rattle.law_world_honest.proofs.Honesty.Fed.{told_what, told_who}
-use Rattle.law_world_windows.proofs.Moment.{Laws, known}
-use Rattle.law_world_windows.proofs.Stopping.{Readings}
-use Rattle.law_world_expected.proofs.Amiss.AtNodes.{ClientKnows, RolesKnow, client_next}
+use Rattle.law_world_windows.proofs.Moment.{comes_of, known}
+use Rattle.law_world_windows.specs.Known.{Laws, NodesLaws, Readings}
+use Rattle.law_world_expected.proofs.Amiss.AtNodes.{client_next}
 use Rattle.law_world_expected.proofs.Amiss.Moments.{AllFlow, flowing}
 use Rattle.law_world_expected.proofs.Amiss.Next.{never_amiss}
-use Rattle.law_world_expected.proofs.Closing.{AtMoment, NodesLaws}
+use Rattle.law_world_expected.proofs.Closing.{AtMoment}
 use Rattle.law_world_expected.proofs.Facts.{came_before, distinct_of_cookies}
+use Rattle.law_world_expected.specs.Known.{ClientKnows, RolesKnow}
 use Rattle.law_world_expected.specs.Roles.{ClientExpects, OfClient}
 
 module _ {K : Type 0} (roles : RolesKnow) (client_roles : ClientKnows) (nodes : NodesLaws)
@@ -91,10 +92,10 @@ module _ {K : Type 0} (roles : RolesKnow) (client_roles : ClientKnows) (nodes : 
       is.closes in
       let comes : ComesAmiss client.rules v.company.client leg
       (legs.take_out leg dir count v.legs).1 why =
-      nodes.client_amiss v.company.client (event leg dir count) why closes in
+      nodes.client.amiss v.company.client (event leg dir count) why closes in
       subst ClientAt comes.cause client_at dir count may (told_who _ _ _ _ is.told) closes
 
   pub no_client_amiss : (change : Change) → MayChange rules v change
       → ClosesNode rules v change who.Client why → ⊥
   no_client_amiss change may is =
-      by_fed v who.Client why ⊥ fed nodes.comes change may is (λ S its shell comes. comes)
+      by_fed v who.Client why ⊥ fed (comes_of nodes) change may is (λ S its shell comes. comes)

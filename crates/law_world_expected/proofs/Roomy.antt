@@ -1,7 +1,4 @@
 pub mod Fitting
-pub mod ClientRows
-pub mod InRows
-pub mod OutRows
-pub mod ServerRows
+pub mod Rows
 pub mod Full
 pub mod Closing

@@ -1,4 +1,5 @@
 pub mod Roles
+pub mod Known
 pub mod PdusInWorlds
 pub mod Amiss
 pub mod Roomy

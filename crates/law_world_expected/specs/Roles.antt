@@ -1,5 +1,10 @@
 -- what the roles expect of each other at the moments of a virtual connection (MS-RPCH 3.2; profile)
 use Rattle.std.specs.Prelude.{◌≡◌, ◌≤◌, ℕ, List, Some}
+use Rattle.rh_rts.specs.declared.command.Cookie.{Cookie}
+use Rattle.rh_line.specs.declared.cause.Cause.{Cause}
+use Rattle.rh_line.specs.declared.cause.Cause.TheVariants.{CookieMismatch, Unexpected}
+use Rattle.rh_line.specs.declared.leg.Leg.{Leg}
+use Rattle.rh_record.specs.declared.answer.Who.{Who}
 use Rattle.rh_shell.specs.declared.course.Course.TheVariants.{Going}
 use Rattle.rh_shell.specs.declared.stage.Stage.TheVariants as stage
 use Rattle.rh_shell.specs.NearEnds.{NearEnd}
@@ -22,7 +27,8 @@ use Rattle.law_moves.specs.Wires.{of_leg}
 use Rattle.law_moves.specs.Passages.Rising.{CameUpWith}
 use Rattle.law_moves.specs.ReadBack.Reading.{all_read_of}
 use Rattle.law_node_history.specs.Carried.{happened}
-use Rattle.law_node_history.specs.Changes.{ByLines}
+use Rattle.law_node_history.specs.Changes.{ByLines, Change, MayChange}
+use Rattle.law_node_history.specs.Closes.{ClosesNode}
 use Rattle.law_node_history.specs.Histories.{History, IsNew}
 use Rattle.law_peers_moments.specs.Expecting.{Expects, HasNoPingFirst}
 use Rattle.law_peers_moments.specs.Moments.{Moves, Numbers, client_behind, in_behind, out_behind, server_behind}
@@ -157,3 +163,23 @@ WorldsServe K =
     → (v : World K ClientRole Server InProxy OutProxy) (by : ByChanges rules m deeds w v)
     → (flowing : IsFlowing (fifo.numbers_of ours) w v (history_at m w v by.leads))
     → OutsServe ours v (history_at m w v by.leads) flowing
+
+-- ---- what closes no node
+
+-- no further change closes the node with that cause
+abbrev pub NeverCloses : {K : Type 0} → World K ClientRole Server InProxy OutProxy → Who → Cause
+    → Type 0
+NeverCloses v node why =
+    (change : Change) → MayChange rules v change → ClosesNode rules v change node why → ⊥
+
+-- none closes it since what came on the leg was not to come there
+abbrev pub IsExpected : {K : Type 0} → World K ClientRole Server InProxy OutProxy → Who → Leg
+    → Type 0
+IsExpected v node leg = (place : ℕ) → NeverCloses v node (Unexpected leg place)
+
+-- nor since it named another cookie
+abbrev pub RefusesNone : {K : Type 0} → World K ClientRole Server InProxy OutProxy → Who → Leg
+    → Type 0
+RefusesNone v node leg =
+    IsExpected v node leg
+    × ((expected got : Cookie) → NeverCloses v node (CookieMismatch leg expected got))

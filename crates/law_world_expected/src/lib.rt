@@ -5,6 +5,7 @@
 
 pub mod connected;
 pub mod expecting;
+pub mod known;
 pub mod pdus_in_recordings;
 pub mod pdus_in_worlds;
 pub mod recordings;
@@ -15,6 +16,7 @@ pub mod worlds;
 
 pub use connected::is_legs_of_lines_are_connected;
 pub use expecting::no_node_refuses_what_it_expects;
+pub use known::roles_know_their_legs;
 pub use pdus_in_recordings::rpc_pdus_of_a_recording_pass_in_turn;
 pub use pdus_in_worlds::rpc_pdus_pass_in_turn;
 pub use recordings::no_node_of_a_recording_refuses_what_comes;

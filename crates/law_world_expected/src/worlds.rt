@@ -6,7 +6,6 @@ ghost use Rattle.rh_rts.specs.declared.command.Cookie.{Cookie};
 ghost use Rattle.rh_line.specs.declared.cause.Cause.TheVariants.{CookieMismatch, Unexpected};
 ghost use Rattle.rh_line.specs.declared.leg.Leg.{Leg};
 ghost use Rattle.rh_record.specs.declared.answer.Who.TheVariants.{Client as AtClient};
-ghost use Rattle.rh_client.specs.declared.state.ClientRole.{ClientRole};
 ghost use Rattle.rh_client.specs.State.{co};
 ghost use Rattle.law_node_history.specs.Carried.{happened};
 ghost use Rattle.law_node_history.specs.Changes.{Change, MayChange};
@@ -17,21 +16,10 @@ ghost use Rattle.law_world_order.specs.Premises.{AreDistinct, AtEachMoment, InNe
 ghost use Rattle.law_world_order.specs.FirstTexts.{IsPort};
 
 use crate::expecting::no_node_refuses_what_it_expects;
-use law_moves::{
-    a_piece_reads_well, all_that_was_put_is_read, cuts_change_nothing, first_cause_is_kept,
-    what_is_read_is_fine, what_was_put_is_read,
-};
-use law_node_causes::{a_node_closes_once, causes_come_from_their_events};
-use law_node_history::what_is_heard_was_drawn;
-use law_node_traces::{a_recording_of_roles_is_known, what_is_heard_was_drawn_before};
 use law_peers_expects::a_client_expects_what_comes;
 use law_role_client_rows::what_a_client_refuses;
-use law_world_honest::what_is_heard_reads_well;
-use law_world_order::{a_world_of_roles_is_at_a_moment, what_is_put_is_legible};
-use rh_client::ClientRole;
-use rh_inproxy::InProxyRole;
-use rh_outproxy::OutProxyRole;
-use rh_server::ServerRole;
+use law_world_order::a_world_of_roles_is_at_a_moment;
+use law_world_windows::{nodes_keep_their_laws, what_was_put_reads_back, worlds_keep_their_laws};
 
 /// In each world of new roles whose numbers are in their ranges, at every moment that changes of
 /// lines and half steps reach: no further change closes the client with `CookieMismatch`, on any
@@ -42,22 +30,9 @@ pub fn a_client_refuses_no_cookie<K>()
         → ClosesNode rules v change AtClient (CookieMismatch leg expected got) → ⊥)) }
 {
     what_a_client_refuses();
-    what_is_put_is_legible::<K>();
-    a_recording_of_roles_is_known::<K>();
-    what_is_heard_reads_well::<K>();
-    what_is_heard_was_drawn_before::<K, ClientRole, ServerRole, InProxyRole, OutProxyRole>();
-    what_is_heard_was_drawn::<K, ClientRole, ServerRole, InProxyRole, OutProxyRole>();
-    what_was_put_is_read();
-    all_that_was_put_is_read();
-    what_is_read_is_fine();
-    a_piece_reads_well();
-    cuts_change_nothing::<ClientRole>();
-    first_cause_is_kept::<ClientRole>();
-    a_node_closes_once::<ClientRole>();
-    causes_come_from_their_events::<ClientRole>();
-    causes_come_from_their_events::<ServerRole>();
-    causes_come_from_their_events::<InProxyRole>();
-    causes_come_from_their_events::<OutProxyRole>();
+    worlds_keep_their_laws::<K>();
+    what_was_put_reads_back();
+    nodes_keep_their_laws();
 }
 
 /// And where the port of its server is one, and no two legs of the client of one kind came up under

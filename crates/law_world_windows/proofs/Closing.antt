@@ -8,34 +8,22 @@ use Rattle.rh_server.specs.Servers as server
 use Rattle.rh_wires.specs.Legs as legs
 use Rattle.rh_company.specs.Company as company
 use Rattle.rh_company.specs.Places as places
-use Rattle.law_moves.proofs.Vocabulary.{Dir, U, D, Cause, Leg, Rules, Shell}
+use Rattle.law_moves.proofs.Vocabulary.{Dir, U, D, Cause, Leg, Shell}
 use Rattle.law_role_inproxy.proofs.Vocabulary.{InProxy}
 use Rattle.law_role_client.proofs.Vocabulary.{ClientRole}
 use Rattle.law_role_server.proofs.Vocabulary.{Server}
 use Rattle.law_node_history.proofs.Vocabulary.{Who, receiver, Event, Comes, Place, Absent, Here, Gone, Makers, World, at, Change, IsFed, MayChange, ClosesNode, in_place, out_place}
 use Rattle.law_node_history.proofs.Lemmas.{answered}
-use Rattle.law_node_causes.specs.Closings.{ClosesWith, MayClose}
+use Rattle.law_node_causes.specs.Closings.{ClosesWith}
 use Rattle.law_role_outproxy.proofs.Vocabulary.{OutProxy}
 use Rattle.law_node_traces.proofs.Vocabulary.{ByChanges, AreOurs, deeds, rules}
 use Rattle.law_world_order.proofs.Vocabulary.{numbers_of, AreInRange}
-use Rattle.law_world_honest.proofs.Honesty.Closing.{EachComes, by_fed}
+use Rattle.law_world_honest.proofs.Honesty.Closing.{by_fed}
 use Rattle.law_world_honest.proofs.Honesty.Fed.{told_what, told_who}
-use Rattle.law_world_windows.proofs.HopsKept.{HopLaws, in_range, out_window, server_range, server_window}
-use Rattle.law_world_windows.proofs.Moment.{Laws}
+use Rattle.law_world_windows.proofs.HopsKept.{in_range, out_window, server_range, server_window}
+use Rattle.law_world_windows.proofs.Moment.{comes_of}
+use Rattle.law_world_windows.specs.Known.{HopLaws, Laws}
 use Rattle.law_world_windows.specs.Hops.{is_leg, os_leg}
-
--- ---- the laws that this stands on
-
-abbrev ClosesAmiss : {S : Type 0} → Rules S → Type 0
-ClosesAmiss {S} rules =
-    (node : Shell S) (event : Event) (why : Cause) → ClosesWith rules node event why
-    → MayClose rules node event why
-
-pub record EachAmiss : Type 0 where
-  pub comes : EachComes
-  pub server : ClosesAmiss server.rules
-  pub ins : ClosesAmiss in_proxy.rules
-  pub outs : ClosesAmiss out_proxy.rules
 
 pub in_number : (a b : ℕ) → who.In a ≡ who.In b → a ≡ b
 in_number a b e = cc
@@ -43,7 +31,7 @@ in_number a b e = cc
 pub out_number : (a b : ℕ) → who.Out a ≡ who.Out b → a ≡ b
 out_number a b e = cc
 
-module _ {K : Type 0} (hop : HopLaws) (each : EachAmiss) (m : Makers K InProxy OutProxy)
+module _ {K : Type 0} (hop : HopLaws) (m : Makers K InProxy OutProxy)
     (w : World K ClientRole Server InProxy OutProxy) (ours : AreOurs m w.company w.cast)
     (ranges : AreInRange (numbers_of ours)) (law : Laws m w ours)
     (v : World K ClientRole Server InProxy OutProxy) (by : ByChanges rules m deeds w v) where
@@ -74,7 +62,7 @@ module _ {K : Type 0} (hop : HopLaws) (each : EachAmiss) (m : Makers K InProxy O
   server_window_fed n reached edge leg dir count may here closes =
       subst (λ (x : Leg). May x dir → at v x (receiver dir) ≡ who.Server
       → ClosesWith server.rules v.company.server (event x dir count) why → ⊥)
-      (each.server v.company.server (event leg dir count) why closes).cause (by_dir dir) may here
+      (hop.nodes.server.amiss v.company.server (event leg dir count) why closes).cause (by_dir dir) may here
       closes
     where
       why : Cause
@@ -93,7 +81,7 @@ module _ {K : Type 0} (hop : HopLaws) (each : EachAmiss) (m : Makers K InProxy O
   server_range_fed n command value leg dir count may here closes =
       subst (λ (x : Leg). May x dir → at v x (receiver dir) ≡ who.Server
       → ClosesWith server.rules v.company.server (event x dir count) why → ⊥)
-      (each.server v.company.server (event leg dir count) why closes).cause (by_dir dir) may here
+      (hop.nodes.server.amiss v.company.server (event leg dir count) why closes).cause (by_dir dir) may here
       closes
     where
       why : Cause
@@ -137,7 +125,7 @@ module _ {K : Type 0} (hop : HopLaws) (each : EachAmiss) (m : Makers K InProxy O
       by_place (Here node up) there closes =
           subst (λ (x : Leg). May x dir → at v x (receiver dir) ≡ who.In k
           → ClosesWith in_proxy.rules node (event x dir count) why → ⊥)
-          (each.ins node (event leg dir count) why closes).cause (by_dir node up there dir) may here
+          (hop.nodes.ins.amiss node (event leg dir count) why closes).cause (by_dir node up there dir) may here
           closes
 
   out_window_fed : (k n reached edge : ℕ)
@@ -168,7 +156,7 @@ module _ {K : Type 0} (hop : HopLaws) (each : EachAmiss) (m : Makers K InProxy O
       by_place (Here node up) there closes =
           subst (λ (x : Leg). May x dir → at v x (receiver dir) ≡ who.Out k
           → ClosesWith out_proxy.rules node (event x dir count) why → ⊥)
-          (each.outs node (event leg dir count) why closes).cause (by_dir node up there dir) may
+          (hop.nodes.outs.amiss node (event leg dir count) why closes).cause (by_dir node up there dir) may
           here closes
 
   -- ---- any change
@@ -179,25 +167,25 @@ module _ {K : Type 0} (hop : HopLaws) (each : EachAmiss) (m : Makers K InProxy O
     no_server_window n reached edge is =
         let why = cause.WindowExceeded (is_leg n) reached edge in
         by_fed v who.Server why ⊥ (fed who.Server why (server_window_fed n reached edge))
-        each.comes change may is (λ S rules shell comes. comes)
+        (comes_of hop.nodes) change may is (λ S rules shell comes. comes)
 
     pub no_server_range : (n command value : ℕ)
         → ClosesNode rules v change who.Server (cause.OutOfRange (os_leg n) command value) → ⊥
     no_server_range n command value is =
         let why = cause.OutOfRange (os_leg n) command value in
         by_fed v who.Server why ⊥ (fed who.Server why (server_range_fed n command value))
-        each.comes change may is (λ S rules shell comes. comes)
+        (comes_of hop.nodes) change may is (λ S rules shell comes. comes)
 
     pub no_in_range : (k n command value : ℕ)
         → ClosesNode rules v change (who.In k) (cause.OutOfRange (is_leg n) command value) → ⊥
     no_in_range k n command value is =
         let why = cause.OutOfRange (is_leg n) command value in
         by_fed v (who.In k) why ⊥ (fed (who.In k) why (in_range_fed k n command value))
-        each.comes change may is (λ S rules shell comes. comes)
+        (comes_of hop.nodes) change may is (λ S rules shell comes. comes)
 
     pub no_out_window : (k n reached edge : ℕ)
         → ClosesNode rules v change (who.Out k) (cause.WindowExceeded (os_leg n) reached edge) → ⊥
     no_out_window k n reached edge is =
         let why = cause.WindowExceeded (os_leg n) reached edge in
         by_fed v (who.Out k) why ⊥ (fed (who.Out k) why (out_window_fed k n reached edge))
-        each.comes change may is (λ S rules shell comes. comes)
+        (comes_of hop.nodes) change may is (λ S rules shell comes. comes)

@@ -29,12 +29,12 @@ use Rattle.law_node_traces.specs.Traced.Ours.{AreOurs, deeds, rules}
 use Rattle.law_node_traces.specs.Traced.Recordings.{history_at}
 use Rattle.law_world_order.specs.Flows.{IsFlowing, numbers_of}
 use Rattle.law_world_order.specs.Premises.{AreInRange}
+use Rattle.law_world_windows.specs.Known.{HopLaws, Laws}
 use Rattle.law_world_windows.specs.Holding.{held_by_out_proxy, held_by_server}
 use Rattle.law_world_windows.specs.Hops.{HasRoomOn, ReceivesWithin, SendsWithin, greatest_edge, is_leg, os_leg, pdu_bytes}
 use Rattle.law_world_windows.specs.KeptHops.{HopsAreKept, IsKept}
 use Rattle.law_world_windows.proofs.Hop.{front_bytes, front_edges, read_edges}
-use Rattle.law_world_windows.proofs.HopsKept.{HopLaws, in_came, in_sends, in_way, out_receives, out_way, server_receives, server_sends, server_way}
-use Rattle.law_world_windows.proofs.Moment.{Laws}
+use Rattle.law_world_windows.proofs.HopsKept.{in_came, in_sends, in_way, out_receives, out_way, server_receives, server_sends, server_way}
 use Rattle.law_world_windows.proofs.Stopping.{way_read}
 
 -- ---- a hop of which each end knows what was put at the other

@@ -8,7 +8,7 @@ use Rattle.rh_inproxy.specs.State as in_state
 use Rattle.rh_outproxy.specs.Machine as out_proxy
 use Rattle.rh_server.specs.Servers as server
 use Rattle.rh_wires.specs.Legs as legs
-use Rattle.law_moves.proofs.Vocabulary.{U, D, IsWindow, Pipe, IsU, IsD, OsU, OsD, Cause, Leg, ClientOut, OutServer, ClientIn, InServer, Refused, Shell, begun, spelled, EndMove, Move, Passage, EndPassage, AreAllowed, AreAllowedAtEnd, all_end_moved, all_moved, end_started, started, Event, Hears, after_events, of_leg, ReadsBack, Begins, messages_read, ReadsWell}
+use Rattle.law_moves.proofs.Vocabulary.{U, D, Pipe, IsU, IsD, OsU, OsD, Cause, Leg, ClientOut, OutServer, ClientIn, InServer, Refused, Shell, begun, spelled, Passage, EndPassage, all_moved, started, Hears, after_events, of_leg, ReadsBack, Begins, messages_read, ReadsWell}
 use Rattle.law_role_inproxy.proofs.Vocabulary.{InProxyConfig, InProxy}
 use Rattle.law_role_inproxy.specs.Legible as in_legible
 use Rattle.law_role_client.proofs.Vocabulary.{ClientRole}
@@ -16,7 +16,6 @@ use Rattle.law_role_server.proofs.Vocabulary.{Server}
 use Rattle.law_role_server.specs.Legible as server_legible
 use Rattle.law_node_history.proofs.Vocabulary.{Comes, Here, Makers, leg_at, World, drawn_by, drawn_on, end_drawn_on, happened, heard_on, IsFed, MayChange, changed, History, IsRun, in_place, out_place}
 use Rattle.law_node_causes.specs.Closings.{ClosesWith}
-use Rattle.law_node_causes.specs.Refusals.{MayRefuseOn}
 use Rattle.law_role_outproxy.proofs.Vocabulary.{ROOMS, OutProxyConfig, OutProxy, new_proxy}
 use Rattle.law_role_outproxy.specs.Legible as out_legible
 use Rattle.law_node_streams.proofs.Streams.LegLogs.{on_leg}
@@ -30,43 +29,14 @@ use Rattle.law_world_honest.proofs.Honesty.Fed.{strict_on}
 use Rattle.law_world_honest.specs.Honesty.Honest.{well_on}
 use Rattle.law_world_windows.proofs.Fed.{piece, in_events, out_events, heard_behind}
 use Rattle.law_world_windows.proofs.Hop.{never_exceeded, never_out_of_range}
-use Rattle.law_world_windows.proofs.Moment.{Laws, NodeLaws, now, known, flowing, behind, flowing_behind, well_behind, drawn_before, drawn_now, closes_at}
+use Rattle.law_world_windows.proofs.Moment.{now, known, flowing, behind, flowing_behind, well_behind, drawn_before, drawn_now, closes_at}
 use Rattle.law_world_windows.proofs.Nodes.{NodeStream, node_stops}
 use Rattle.law_world_windows.proofs.OneByte.{AtByte}
 use Rattle.law_world_windows.proofs.Pieces.{FedFronts, fed_fronts}
 use Rattle.law_world_windows.proofs.Servers.{short, server_passage, server_stops}
-use Rattle.law_world_windows.proofs.Stopping.{Readings, StopsAt, Way}
+use Rattle.law_world_windows.proofs.Stopping.{StopsAt, Way}
+use Rattle.law_world_windows.specs.Known.{HopLaws, Laws}
 use Rattle.law_world_windows.specs.Hops.{is_leg, os_leg, ReceivesWithin, SendsWithin}
-
--- ---- the laws that this stands on
-
-pub record HopLaws : Type 0 where
-  pub server_receives : (window n : ℕ) (moves : List EndMove) → IsWindow window
-      → AreAllowedAtEnd server.rules server.acts (end_started (server.first window)) moves
-      → ReceivesWithin server.rules (is_leg n)
-      (all_end_moved server.rules server.acts (end_started (server.first window)) moves).passage
-  pub server_sends : (window n : ℕ) (moves : List EndMove)
-      → AreAllowedAtEnd server.rules server.acts (end_started (server.first window)) moves
-      → SendsWithin server.rules (os_leg n)
-      (all_end_moved server.rules server.acts (end_started (server.first window)) moves).passage
-  pub in_sends : (config : InProxyConfig) (moves : List Move)
-      → AreAllowed in_proxy.rules (started (in_state.first config)) moves
-      → SendsWithin in_proxy.rules (is_leg config.number)
-      (all_moved in_proxy.rules (started (in_state.first config)) moves)
-  pub out_receives : (config : OutProxyConfig) (moves : List Move) → IsWindow config.window
-      → AreAllowed out_proxy.rules (started (new_proxy config)) moves
-      → ReceivesWithin out_proxy.rules (os_leg config.number)
-      (all_moved out_proxy.rules (started (new_proxy config)) moves)
-  pub in_refuses : (config : InProxyConfig) (events : List Event)
-      → MayRefuseOn (leg_at ClientIn config.number) (leg_at InServer config.number)
-      (after_events in_proxy.rules (in_proxy.first_node config) events).course
-  pub out_refuses : (config : OutProxyConfig) (events : List Event)
-      → MayRefuseOn (leg_at ClientOut config.number) (leg_at OutServer config.number)
-      (after_events out_proxy.rules (begun (new_proxy config) ROOMS) events).course
-  pub readings : Readings
-  pub server : NodeLaws server.rules
-  pub ins : NodeLaws in_proxy.rules
-  pub outs : NodeLaws out_proxy.rules
 
 module _ {K : Type 0} (hop : HopLaws) (m : Makers K InProxy OutProxy)
     (w : World K ClientRole Server InProxy OutProxy) (ours : AreOurs m w.company w.cast)
@@ -207,7 +177,7 @@ module _ {K : Type 0} (hop : HopLaws) (m : Makers K InProxy OutProxy)
         (cause.WindowExceeded l reached edge) → ⊥
     server_window may l reached edge count closes =
         never_exceeded server.rules in_proxy.rules leg
-        (server_passage m w v ours law by leg may refl hop.readings hop.server r why refl count
+        (server_passage m w v ours law by leg may refl hop.readings hop.nodes.server r why refl count
         closes)
         (f.flows.ins n).passage stops.message stops.joined
         (record { reached = reached; edge = edge }) (server_receives u g then_f n)
@@ -229,7 +199,7 @@ module _ {K : Type 0} (hop : HopLaws) (m : Makers K InProxy OutProxy)
         f = flowing m w v ours law by (is_leg n) U may
 
         k : ℕ
-        k = short m w v ours law by (is_leg n) may refl hop.readings hop.server r why refl count
+        k = short m w v ours law by (is_leg n) may refl hop.readings hop.nodes.server r why refl count
             closes
 
         u : World K ClientRole Server InProxy OutProxy
@@ -246,7 +216,7 @@ module _ {K : Type 0} (hop : HopLaws) (m : Makers K InProxy OutProxy)
             (of_leg (is_leg n) (server_at u g then_f).put)
             (of_leg (is_leg n) (f.flows.ins n).passage.came)
             (of_leg (is_leg n) (f.flows.ins n).passage.put)
-        stops = server_stops m w v ours law by leg may refl hop.readings hop.server r why refl count
+        stops = server_stops m w v ours law by leg may refl hop.readings hop.nodes.server r why refl count
             closes (f.flows.ins n).passage (Some IsU) (Some IsD) refl refl refl
             (λ bytes. in_way v h f n bytes) (heard_on leg (h.ins n))
             (from_server m w.company w.cast ours h leg (heard_on leg (h.ins n))
@@ -260,7 +230,7 @@ module _ {K : Type 0} (hop : HopLaws) (m : Makers K InProxy OutProxy)
         (cause.OutOfRange l command value) → ⊥
     server_range may l command value count closes =
         never_out_of_range server.rules out_proxy.rules leg
-        (server_passage m w v ours law by leg may refl hop.readings hop.server r why refl count
+        (server_passage m w v ours law by leg may refl hop.readings hop.nodes.server r why refl count
         closes)
         (f.flows.outs n).passage stops.message stops.joined command value
         (server_sends u g then_f n) (out_receives v h f n) stops.refuses
@@ -281,7 +251,7 @@ module _ {K : Type 0} (hop : HopLaws) (m : Makers K InProxy OutProxy)
         f = flowing m w v ours law by (os_leg n) U may
 
         k : ℕ
-        k = short m w v ours law by (os_leg n) may refl hop.readings hop.server r why refl count
+        k = short m w v ours law by (os_leg n) may refl hop.readings hop.nodes.server r why refl count
             closes
 
         u : World K ClientRole Server InProxy OutProxy
@@ -298,7 +268,7 @@ module _ {K : Type 0} (hop : HopLaws) (m : Makers K InProxy OutProxy)
             (of_leg (os_leg n) (server_at u g then_f).put)
             (of_leg (os_leg n) (f.flows.outs n).passage.came)
             (of_leg (os_leg n) (f.flows.outs n).passage.put)
-        stops = server_stops m w v ours law by leg may refl hop.readings hop.server r why refl count
+        stops = server_stops m w v ours law by leg may refl hop.readings hop.nodes.server r why refl count
             closes (f.flows.outs n).passage (Some OsU) (Some OsD) refl refl refl
             (λ bytes. out_way v h f n bytes) (heard_on leg (h.outs n))
             (from_server m w.company w.cast ours h leg (heard_on leg (h.outs n))
@@ -344,7 +314,7 @@ module _ {K : Type 0} (hop : HopLaws) (m : Makers K InProxy OutProxy)
 
         byte : AtByte in_proxy.rules (is_leg n) node
             (legs.take_out (is_leg n) D count v.legs).1 why
-        byte = closes_at in_proxy.rules hop.ins node (is_leg n)
+        byte = closes_at in_proxy.rules hop.nodes.ins node (is_leg n)
             (legs.take_out (is_leg n) D count v.legs).1 why closes
 
         fronts : FedFronts (is_leg n) D v.legs byte.front byte.byte
@@ -453,7 +423,7 @@ module _ {K : Type 0} (hop : HopLaws) (m : Makers K InProxy OutProxy)
 
         byte : AtByte out_proxy.rules (os_leg n) node
             (legs.take_out (os_leg n) D count v.legs).1 why
-        byte = closes_at out_proxy.rules hop.outs node (os_leg n)
+        byte = closes_at out_proxy.rules hop.nodes.outs node (os_leg n)
             (legs.take_out (os_leg n) D count v.legs).1 why closes
 
         fronts : FedFronts (os_leg n) D v.legs byte.front byte.byte

@@ -2,7 +2,6 @@ pub mod Legs
 pub mod Counts
 pub mod Sending
 mod Steps
-mod Places
 pub mod Receiving
 mod ServerReceives
 mod InProxySends

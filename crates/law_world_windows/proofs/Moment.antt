@@ -1,56 +1,36 @@
 -- the moment before the byte of a fed piece that closes a node
-use Rattle.law_order.proofs.Vocabulary.{◌≡◌, ℕ, List, [], ◌∷◌, ◌++◌, refl, sym, ap, ◌∙◌, subst, append_assoc, None, IsPrefix}
-use Rattle.law_moves.proofs.Vocabulary.{Dir, Cause, Leg, Rules, Shell, bytes, ClosedWith, Stays, ReadsWell}
+use Rattle.law_order.proofs.Vocabulary.{◌≡◌, ℕ, List, [], ◌∷◌, ◌++◌, refl, sym, ap, ◌∙◌, subst, append_assoc, IsPrefix}
+use Rattle.law_moves.proofs.Vocabulary.{Dir, Cause, Leg, Rules, Shell, ReadsWell}
 use Rattle.law_role_inproxy.proofs.Vocabulary.{InProxy}
 use Rattle.law_role_client.proofs.Vocabulary.{ClientRole}
 use Rattle.law_role_server.proofs.Vocabulary.{Server}
-use Rattle.law_node_history.proofs.Vocabulary.{receiver, sender, Event, Comes, Rulebook, tell, Deeds, Makers, World, at, IsTraced, LegsComeUpOnce, drawn_by, end_node, events_of, heard_on, Change, IsFed, Leads, MayChange, all_changed, changed, History, all_noted, noted, nothing}
+use Rattle.law_node_history.proofs.Vocabulary.{receiver, sender, Comes, Rulebook, tell, Deeds, Makers, World, at, drawn_by, end_node, events_of, heard_on, Change, IsFed, MayChange, all_changed, changed, History, all_noted, noted, nothing}
 use Rattle.law_node_history.proofs.Lemmas.{works_more}
 use Rattle.law_node_causes.specs.Closings.{ClosesWith}
 use Rattle.law_role_outproxy.proofs.Vocabulary.{OutProxy}
 use Rattle.law_node_traces.proofs.Vocabulary.{ByChanges, AreOurs, deeds, rules, IsKnown, history_at}
+use Rattle.law_peers_routes.proofs.Upwards.Unread.{refusal_unread}
+use Rattle.law_world_order.proofs.Legs.{Reads}
 use Rattle.law_world_order.proofs.Vocabulary.{IsFlowing, numbers_of, read_on}
+use Rattle.law_world_honest.proofs.Honesty.Closing.{EachComes}
 use Rattle.law_world_honest.proofs.Honesty.HeardWell.{going_is}
 use Rattle.law_world_honest.specs.Honesty.Honest.{well_on}
 use Rattle.law_world_windows.proofs.OneByte.{AtByte, at_byte}
-
--- ---- the laws that this stands on
-
--- of a world and all that changes lead to from it
-pub record Laws {K : Type 0} (m : Makers K InProxy OutProxy)
-    (w : World K ClientRole Server InProxy OutProxy) (ours : AreOurs m w.company w.cast)
-    : Type 0 where
-  pub known : (v : World K ClientRole Server InProxy OutProxy) (leads : Leads rules m deeds w v)
-      → IsKnown m w v leads
-  pub flowing : (v : World K ClientRole Server InProxy OutProxy) (by : ByChanges rules m deeds w v)
-      → IsFlowing (numbers_of ours) w v (history_at m w v by.leads)
-  pub well : (v : World K ClientRole Server InProxy OutProxy) (by : ByChanges rules m deeds w v)
-      → (change : Change) → MayChange rules v change → (leg : Leg) (dir : Dir)
-      → ReadsWell (well_on leg.kind dir) (read_on leg.kind dir)
-      (heard_on leg (events_of (noted v (history_at m w v by.leads) change)
-      (end_node (changed rules m deeds v change).readers leg (receiver dir))))
-  pub before : (v : World K ClientRole Server InProxy OutProxy) (h : History)
-      → IsTraced rules m deeds w.company v h → LegsComeUpOnce rules m deeds w.company v.cast
-      → (change : Change) → MayChange rules v change → (leg : Leg) (dir : Dir)
-      → IsPrefix (heard_on leg (events_of (noted v h change)
-      (end_node (changed rules m deeds v change).readers leg (receiver dir))))
-      (drawn_by rules m deeds w.company v.cast h (end_node v.readers leg (sender dir)) leg)
-  pub drawn : (v : World K ClientRole Server InProxy OutProxy) (h : History)
-      → IsTraced rules m deeds w.company v h → (leg : Leg) (dir : Dir)
-      → IsPrefix (heard_on leg (events_of h (end_node v.readers leg (receiver dir))))
-      (drawn_by rules m deeds w.company v.cast h (end_node v.readers leg (sender dir)) leg)
-
--- of a node, whatever its role is
-pub record NodeLaws {S : Type 0} (rules : Rules S) : Type 0 where
-  pub cuts : (s : Shell S) (leg : Leg) (a b : List ℕ)
-      → bytes rules s leg (a ++ b) ≡ bytes rules (bytes rules s leg a).0 leg b
-  pub stays : (s : Shell S) (why : Cause) → ClosedWith why s.course → Stays rules s why
-  pub closed : (s : Shell S) (event : Event) (why : Cause) → ClosesWith rules s event why
-      → ClosedWith why (tell rules s event).0.course
-  pub again : (s : Shell S) (why : Cause) (event : Event) → ClosedWith why s.course
-      → (tell rules s event).1 ≡ None
+use Rattle.law_world_windows.specs.Known.{Laws, NodeLaws, NodesLaws, Readings}
 
 -- ---- a node
+
+pub comes_of : NodesLaws → EachComes
+comes_of nodes = record {
+  client = nodes.client.comes;
+  server = nodes.server.comes;
+  ins = nodes.ins.comes;
+  outs = nodes.outs.comes;
+}
+
+pub reads_of : Readings → Reads
+reads_of readings =
+    record { put = readings.put; fine = readings.fine; refusal = refusal_unread }
 
 -- a piece that closes it closes it by a byte
 pub closes_at : {S : Type 0} (rules : Rules S) → NodeLaws rules → (s : Shell S) (leg : Leg)

@@ -8,7 +8,8 @@ use Rattle.law_node_history.proofs.Vocabulary.{drawn_on, heard_on}
 use Rattle.law_node_streams.specs.Streams.{Seated, Stream}
 use Rattle.law_world_windows.proofs.Fed.{heard_behind}
 use Rattle.law_world_windows.proofs.OneByte.{AtByte}
-use Rattle.law_world_windows.proofs.Stopping.{Readings, StopsAt, Way, stops_at}
+use Rattle.law_world_windows.proofs.Stopping.{StopsAt, Way, stops_at}
+use Rattle.law_world_windows.specs.Known.{Readings}
 use Rattle.law_world_windows.specs.Refusing.{refused_by}
 
 -- a stream until then, of which what was put on the leg is read back at its other end

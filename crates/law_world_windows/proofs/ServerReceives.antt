@@ -15,7 +15,7 @@ use Rattle.rh_server.specs.declared.state.Stage.TheVariants as stages
 use Rattle.rh_server.specs.declared.state.Tells.TheVariants as tells
 use Rattle.law_moves.proofs.Vocabulary.{IsWindow, Receiver, Ack, by_test, same_number, Cookie, Named, Incoming, Line, admitted, released, settled as settled_line, moved_on, is_empty, total, due, after_admit, after_open_next, after_tell, after_told, front_length, LineFault, Window, Over, Leg, LegKind, ClientOut, OutServer, ClientIn, InServer, Which, Current, Next, Count, Due, Message, Text, Pdu, Packet, same_leg, Waiting, taken as taken_out, greeting as greeting_text, EndMove}
 use Rattle.law_moves.proofs.Vocabulary.{AreAllowedAtEnd, end_started, all_end_moved, of_leg}
-use Rattle.law_moves.proofs.Lemmas.{bytes_rise, all_append}
+use Rattle.law_moves.proofs.Lemmas.{bytes_rise, all_append, each_so}
 use Rattle.law_role_client.proofs.Receiving.Windows.{IsBehind}
 use Rattle.law_role_server.proofs.Vocabulary.{Edge, InStage, InLeg, Leaving, OutLeg, Stage, Tells, Server, is_open, is_due, is_shut, is_fresh, is_waiting, stays, same_cookie, in_place, in_at, in_leg, set_at, removed_at, with_in, without_in, without_out, out_place, waits, Gate, lets, Done, took, refuse, unexpected, is_first, may_up_by, in_leg_up, up, up_by, opens, first_in, with_first_in, conn_b2_at, on_conn_a2, on_conn_b2, channel_at, admitted_by, admitted_on, on_ack_to}
 use Rattle.law_role_server.proofs.Vocabulary.{on_ack, on_ping_traffic, ended_if, opens_next, opens_leg, waiting_place, first_waiting, next_opened, becomes_current, moved_if, take, has_fresh_below, announced, in_r1_a2_by, in_r1_a2_at, on_in_r1_a2, leaves_by, hands_over, on_in_r1_a6, on_in_r2_a2, recycle, on_out_r1_a4, on_out_r1_a8, give, is_over_on, end_a2_on_leg, end_a2_waiting, end_a2_at, on_end_a2, settled, in_is_drawn, drawn_by, with_ack_dropped, lost_in, mark_by, Pick}
@@ -23,12 +23,11 @@ use Rattle.law_role_server.proofs.Vocabulary.{or_else, put_in_greeting, told_by,
 use Rattle.law_role_server.proofs.Vocabulary.{acts as server_acts, rules as server_rules, taker_of}
 use Rattle.law_role_server.proofs.Counted.Openings.{is_conn_b3_due as is_conn_b3}
 use Rattle.law_node_history.proofs.Lemmas.{same_itself}
-use Rattle.law_role_server_rows.proofs.Refusing.Places.{found_passes}
+use Rattle.law_role_server_rows.proofs.Refusing.Places.{all_at, all_set, all_removed, found_passes}
 use Rattle.law_role_windows.proofs.Held.ServerLine.{told_admitted as admitted_told}
 use Rattle.law_role_windows.specs.Held.{Holds}
 use Rattle.law_world_windows.proofs.Legs.{on}
 use Rattle.law_world_windows.proofs.Counts.{edges_within, all_later}
-use Rattle.law_world_windows.proofs.Places.{all_at, all_set, all_removed, all_weaken}
 use Rattle.law_world_windows.proofs.Receiving.{Receives, came_more, put_within, admitted_size, received_more, refused_behind, IsDueAck, due_is, room_of}
 use Rattle.law_world_windows.proofs.Steps.{RowKeeps, PutKeeps, StepsKeep, ActsKeep, end_moves_keep}
 use Rattle.law_world_windows.specs.Holding.{held_by_server}
@@ -635,7 +634,7 @@ module _ (window n : ℕ) (is : IsWindow window) where
           followed = λ e. absurd (false≢true e);
           shut = λ e. (w.next_shut, let one = w.from_one in omega (arith, one, above));
           told = λ e. absurd (true≢false e);
-          legs = all_weaken (IsLegOf s.current.leg) (IsLegOf s.next.leg)
+          legs = each_so (IsLegOf s.current.leg) (IsLegOf s.next.leg)
               (λ one is_l. record {
                 left = λ e. let low = is_l.left e in omega (arith, low, above);
                 first = is_l.first;

@@ -21,10 +21,11 @@ use Rattle.law_world_order.proofs.Vocabulary.{IsFlowing, numbers_of, read_on}
 use Rattle.law_world_honest.proofs.Honesty.Fed.{strict_on}
 use Rattle.law_world_honest.specs.Honesty.Honest.{well_on}
 use Rattle.law_world_windows.proofs.Fed.{piece, server_heard, server_behind}
-use Rattle.law_world_windows.proofs.Moment.{Laws, NodeLaws, now, known, behind, flowing_behind, well_behind, drawn_before, closes_at, one_behind}
+use Rattle.law_world_windows.proofs.Moment.{now, known, behind, flowing_behind, well_behind, drawn_before, closes_at, one_behind}
 use Rattle.law_world_windows.proofs.OneByte.{AtByte}
 use Rattle.law_world_windows.proofs.Pieces.{FedFronts, fed_fronts}
-use Rattle.law_world_windows.proofs.Stopping.{Readings, StopsAt, Way, stops_at}
+use Rattle.law_world_windows.proofs.Stopping.{StopsAt, Way, stops_at}
+use Rattle.law_world_windows.specs.Known.{Laws, NodeLaws, Readings}
 use Rattle.law_world_windows.specs.Refusing.{refused_by}
 
 module _ {K : Type 0} (m : Makers K InProxy OutProxy)

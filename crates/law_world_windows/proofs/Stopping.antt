@@ -2,26 +2,16 @@
 use Rattle.law_order.proofs.Vocabulary.{◌≡◌, ℕ, List, [], ◌∷◌, ◌++◌, false, Some, None, Err, refl, sym, ◌∙◌, subst, AllByRecursion, Option, IsPrefix}
 use Rattle.rh_sig.specs.declared.fault.SigFault.TheVariants as sig
 use Rattle.rh_shell.specs.declared.reading.PacketFault.TheVariants as unread
-use Rattle.law_moves.proofs.Vocabulary.{prefix_trans, Pipe, Cause, Leg, Refused, Course, Going, NearEnd, Message, Rules, Shell, bytes, bytes_at, bytes_by, end_at, spelled, ClosedWith, ReadsBack, Begins, all_read_of, begin, messages_from, messages_read, reading_after, Answers, ReadsWell, ReadsWellFrom}
+use Rattle.law_moves.proofs.Vocabulary.{prefix_trans, Pipe, Cause, Leg, Refused, Course, Going, NearEnd, Message, Rules, Shell, bytes, bytes_at, bytes_by, end_at, spelled, ClosedWith, ReadsBack, Begins, all_read_of, messages_read, Answers, ReadsWell}
 use Rattle.law_moves.proofs.Lemmas.{leg_is}
 use Rattle.law_node_streams.proofs.Streams.Ends.{end_is, end_leg}
 use Rattle.law_node_streams.specs.Streams.{Seated}
 use Rattle.law_world_windows.proofs.Hop.{IsJoined}
 use Rattle.law_world_windows.proofs.NextRefused.{byte_refused}
+use Rattle.law_world_windows.specs.Known.{Readings}
 use Rattle.law_world_windows.specs.Refusing.{refused_by, RefusesMessage, RefusesNext}
 
--- ---- the laws that this stands on
-
-pub record Readings : Type 0 where
-  pub put : (pipe : Option Pipe) (put : List Message) (drawn heard : List ℕ) → Begins pipe put
-      → AllByRecursion (ReadsBack pipe) put → IsPrefix drawn (spelled put)
-      → IsPrefix heard drawn → IsPrefix (messages_read pipe heard) (all_read_of put)
-  pub parts : (pipe : Option Pipe) (a b : List ℕ)
-      → messages_read pipe (a ++ b)
-      ≡ messages_read pipe a ++ messages_from pipe (reading_after pipe (begin pipe) a) b
-  pub piece : (well : Answers) (pipe : Option Pipe) (heard piece : List ℕ)
-      → ReadsWell well pipe (heard ++ piece)
-      → ReadsWellFrom well pipe (reading_after pipe (begin pipe) heard) piece
+-- ---- what is read
 
 -- the bytes that were heard are of what was put
 pub record Way (pipe : Option Pipe) (put : List Message) (heard : List ℕ) : Type 0 where

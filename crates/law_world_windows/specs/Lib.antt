@@ -1,4 +1,5 @@
 pub mod Hops
+pub mod Known
 pub mod Holding
 pub mod Refusing
 pub mod ClientHops

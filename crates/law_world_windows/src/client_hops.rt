@@ -16,15 +16,8 @@ ghost use Rattle.law_world_order.specs.Premises.{AreDistinct, AtEachMoment, InNe
 ghost use Rattle.law_world_windows.specs.ClientHops.{HasOneWindow};
 ghost use Rattle.law_world_windows.specs.KeptAfar.{ClientHopsAreKept};
 
-use law_moves::{
-    a_piece_reads_well, all_that_was_put_is_read, cuts_change_nothing, first_cause_is_kept,
-    what_is_read_is_fine, what_was_put_is_read,
-};
-use law_node_causes::{
-    a_node_closes_once, causes_come_from_their_events, events_close_with_their_causes,
-};
-use law_node_history::{a_leg_is_read_at_its_ends, what_is_heard_was_drawn};
-use law_node_traces::{a_recording_of_roles_is_known, what_is_heard_was_drawn_before};
+use crate::known::{nodes_keep_their_laws, what_was_put_reads_back, worlds_keep_their_laws};
+use law_node_history::a_leg_is_read_at_its_ends;
 use law_role_client::{
     a_client_acknowledges_what_came, a_client_begins_each_channel_once,
     a_client_receives_within_its_window, a_client_sends_as_it_was_told,
@@ -39,8 +32,6 @@ use law_role_windows::{
     an_in_proxy_tells_its_window, an_in_proxy_tells_within_its_window,
     an_out_proxy_passes_acknowledgements_on, an_out_proxy_tells_what_it_was_told,
 };
-use law_world_honest::what_is_heard_reads_well;
-use law_world_order::what_is_put_is_legible;
 use rh_client::ClientRole;
 use rh_inproxy::InProxyRole;
 use rh_outproxy::OutProxyRole;
@@ -109,30 +100,8 @@ pub fn no_hop_of_a_client_closes_a_node<K>()
     an_out_proxy_sends_within_the_clients_window();
     an_out_proxy_passes_acknowledgements_on();
     an_out_proxy_tells_what_it_was_told();
-    what_is_put_is_legible::<K>();
-    a_recording_of_roles_is_known::<K>();
-    what_is_heard_reads_well::<K>();
-    what_is_heard_was_drawn_before::<K, ClientRole, ServerRole, InProxyRole, OutProxyRole>();
-    what_is_heard_was_drawn::<K, ClientRole, ServerRole, InProxyRole, OutProxyRole>();
+    worlds_keep_their_laws::<K>();
     a_leg_is_read_at_its_ends::<K, ClientRole, ServerRole, InProxyRole, OutProxyRole>();
-    what_was_put_is_read();
-    all_that_was_put_is_read();
-    what_is_read_is_fine();
-    a_piece_reads_well();
-    cuts_change_nothing::<ClientRole>();
-    cuts_change_nothing::<InProxyRole>();
-    cuts_change_nothing::<OutProxyRole>();
-    first_cause_is_kept::<ClientRole>();
-    first_cause_is_kept::<InProxyRole>();
-    first_cause_is_kept::<OutProxyRole>();
-    a_node_closes_once::<ClientRole>();
-    a_node_closes_once::<InProxyRole>();
-    a_node_closes_once::<OutProxyRole>();
-    events_close_with_their_causes::<ClientRole>();
-    events_close_with_their_causes::<InProxyRole>();
-    events_close_with_their_causes::<OutProxyRole>();
-    causes_come_from_their_events::<ClientRole>();
-    causes_come_from_their_events::<ServerRole>();
-    causes_come_from_their_events::<InProxyRole>();
-    causes_come_from_their_events::<OutProxyRole>();
+    what_was_put_reads_back();
+    nodes_keep_their_laws();
 }

@@ -8,23 +8,11 @@ ghost use Rattle.law_world_order.specs.Premises.{AtEachMoment, InNewWorlds};
 ghost use Rattle.law_world_windows.specs.KeptHops.{HopsAreKept, KeepsHops};
 
 use crate::client_hops::no_hop_of_a_client_closes_a_node;
-use crate::in_proxy::an_in_proxy_sends_within_the_servers_window;
+use crate::known::{hops_keep_their_laws, worlds_keep_their_laws};
 use crate::out_proxy::an_out_proxy_receives_within_its_window;
-use crate::server::{a_server_receives_within_its_window, a_server_sends_within_the_proxys_window};
-use law_moves::{
-    a_piece_reads_well, all_that_was_put_is_read, cuts_change_nothing, first_cause_is_kept,
-    what_was_put_is_read,
-};
-use law_node_causes::{a_node_closes_once, a_proxy_refuses_for_a_reason};
-use law_node_history::what_is_heard_was_drawn;
-use law_node_traces::{a_recording_of_roles_is_known, what_is_heard_was_drawn_before};
-use law_world_honest::what_is_heard_reads_well;
-use law_world_order::{cookies_are_drawn_for_channels, what_is_put_is_legible};
+use crate::server::a_server_receives_within_its_window;
+use law_world_order::cookies_are_drawn_for_channels;
 use law_world_reports::windows_hold_in_a_world_of_roles;
-use rh_client::ClientRole;
-use rh_inproxy::InProxyRole;
-use rh_outproxy::OutProxyRole;
-use rh_server::ServerRole;
 use rh_world::WorldConfig;
 
 /// In each world of new roles whose numbers are in their ranges, at every moment that changes of
@@ -37,28 +25,10 @@ pub fn hops_on_one_leg_are_kept<K>()
     ensures { InNewWorlds K (λ m w ours. AtEachMoment m w (λ v by.
         HopsAreKept m w ours v by)) }
 {
+    worlds_keep_their_laws::<K>();
+    hops_keep_their_laws();
     a_server_receives_within_its_window();
-    a_server_sends_within_the_proxys_window();
-    an_in_proxy_sends_within_the_servers_window();
     an_out_proxy_receives_within_its_window();
-    what_is_put_is_legible::<K>();
-    a_recording_of_roles_is_known::<K>();
-    what_is_heard_reads_well::<K>();
-    what_is_heard_was_drawn_before::<K, ClientRole, ServerRole, InProxyRole, OutProxyRole>();
-    what_is_heard_was_drawn::<K, ClientRole, ServerRole, InProxyRole, OutProxyRole>();
-    what_was_put_is_read();
-    all_that_was_put_is_read();
-    a_piece_reads_well();
-    a_proxy_refuses_for_a_reason();
-    cuts_change_nothing::<ServerRole>();
-    cuts_change_nothing::<InProxyRole>();
-    cuts_change_nothing::<OutProxyRole>();
-    first_cause_is_kept::<ServerRole>();
-    first_cause_is_kept::<InProxyRole>();
-    first_cause_is_kept::<OutProxyRole>();
-    a_node_closes_once::<ServerRole>();
-    a_node_closes_once::<InProxyRole>();
-    a_node_closes_once::<OutProxyRole>();
 }
 
 /// So it is at every moment of every recording, which is behind any of its lines; and so it is of

@@ -5,6 +5,7 @@
 pub mod client_hops;
 pub mod in_proxy;
 pub mod kept_hops;
+pub mod known;
 pub mod out_proxy;
 pub mod server;
 pub mod windows;
@@ -13,6 +14,10 @@ pub mod worlds;
 pub use client_hops::no_hop_of_a_client_closes_a_node;
 pub use in_proxy::an_in_proxy_sends_within_the_servers_window;
 pub use kept_hops::{hops_of_a_recording_are_kept, hops_on_one_leg_are_kept};
+pub use known::{
+    a_node_keeps_its_laws, hops_keep_their_laws, nodes_keep_their_laws, what_was_put_reads_back,
+    worlds_keep_their_laws,
+};
 pub use out_proxy::an_out_proxy_receives_within_its_window;
 pub use server::{a_server_receives_within_its_window, a_server_sends_within_the_proxys_window};
 pub use windows::{

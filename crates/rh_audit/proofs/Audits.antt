@@ -1,8 +1,8 @@
 -- an audit of lines that were sorted is that of the lines as they stood
-use Rattle.std.proofs.Common.{◌≡◌, ℕ, ◌<◌, ◌^◌, List, [], ◌∷◌, ◌++◌, length, Bool, true, false, refl, sym, ap, ◌∙◌, subst, arith}
+use Rattle.std.proofs.Common.{◌≡◌, ℕ, ◌<◌, ◌^◌, List, [], ◌∷◌, ◌++◌, length, refl, sym, ap, ◌∙◌, subst, arith}
 use Rattle.std.specs.Prelude.{◌&&◌, not, if◌then◌else◌}
-use Rattle.std.specs.List.{flat_map, list_any}
-use Rattle.std.proofs.lemmas.List.{append-nil, append_assoc}
+use Rattle.std.specs.List.{flat_map}
+use Rattle.std.proofs.lemmas.List.{append-nil}
 use Rattle.std.proofs.lemmas.List.Concat.{flat_map-append}
 use mathlib.Core.Path.{fun_ext}
 use Rattle.rh_line.specs.declared.leg.LegKind.{LegKind}
@@ -10,15 +10,14 @@ use Rattle.rh_line.specs.declared.leg.LegKind.TheVariants.{ClientOut, OutServer,
 use Rattle.rh_audit.specs.declared.auditing.Chains.{Chains}
 use Rattle.rh_audit.specs.declared.fault.AuditFault.{AuditFault}
 use Rattle.rh_audit.specs.declared.fault.AuditFault.TheVariants.{Unchained}
-use Rattle.rh_audit.specs.declared.legs.Begun.{Begun}
 use Rattle.rh_audit.specs.declared.legs.Legs.{Legs}
 use Rattle.rh_audit.specs.declared.prefixed.Prefixed.{Prefixed}
 use Rattle.rh_audit.specs.declared.seen.Seen.{Seen}
-use Rattle.rh_audit.specs.Audits.{AreTags, IsAudit, prefixed, broken_in, carried_by, faults, has, is_empty, is_left, kinds, unchained_by, unchained_in}
+use Rattle.rh_audit.specs.Audits.{AreTags, IsAudit, prefixed, broken_in, carried_by, faults, has, is_empty, kinds, unchained_by, unchained_in}
 use Rattle.rh_audit.specs.Captures.{AreOfLeg, IsCapture, has_tag, of_tag}
 use Rattle.rh_audit.specs.Chains.{Leg, chain, joined, leg_in, legs}
 use Rattle.rh_audit.specs.Links.{legs_of}
-use Rattle.rh_audit.specs.Reads.{IsReading, begun_by, begun_in, chains_of, left_of, links_in}
+use Rattle.rh_audit.specs.Reads.{IsReading, IsTold, begun_by, begun_in, chains_of, left_of, legs_read, read_in}
 use Rattle.rh_audit.proofs.SortLaws.{any_same}
 use Rattle.rh_audit.proofs.Weights.{carried_by_few, tag_few}
 
@@ -115,47 +114,45 @@ carried_short kind seen sorted tags h same are =
 
 -- ---- what the chains of sorted lines tell
 
-module _ (seen sorted : List Seen) (read : Legs) (chains : Chains) (broke : List AuditFault)
-    (same : SameTags sorted seen) (h : IsReading sorted read [] broke)
-    (is : (kind : LegKind)
-    → legs_of (chains_of chains kind) ≡ chain (legs_of (links_in kind read))) where
-  chain_is : (kind : LegKind) → legs_of (chains_of chains kind) ≡ chain (legs kind sorted h.tags)
-  chain_is kind = is kind ∙ ap chain (h.are_legs.links kind)
-
-  joined_is : (kind : LegKind)
-      → joined (legs_of (chains_of chains kind)) ≡ carried_by kind seen h.tags
-  joined_is kind = ap joined (chain_is kind) ∙ same_carried kind sorted seen h.tags same
-
-  pub joined_short : (kind : LegKind) → IsCapture seen
-      → length (joined (legs_of (chains_of chains kind))) < 2 ^ 32
-  joined_short kind capture =
+module _ (seen sorted : List Seen) (read : Legs) (broke : List AuditFault)
+    (same : SameTags sorted seen) (h : IsReading sorted read [] broke) where
+  pub legs_short : IsCapture seen → (kind : LegKind)
+      → length (joined (chain (legs_read (read_in kind read)))) < 2 ^ 32
+  legs_short capture kind =
       omega (
         arith,
         carried_short kind seen sorted h.tags capture same h.are_tags,
-        ap length (ap joined (chain_is kind)),
+        ap length (ap joined (ap chain (h.are_legs.each kind))),
       )
 
-  pub audited : (all : List AuditFault) (up down : Prefixed)
-      → all ≡ broke ++ flat_map (left_of chains) read.begun.items
-      → up ≡ prefixed (joined (legs_of (chains_of chains InServer)))
-      (joined (legs_of (chains_of chains ClientIn)))
-      → down ≡ prefixed (joined (legs_of (chains_of chains ClientOut)))
-      (joined (legs_of (chains_of chains OutServer)))
+  joined_is : (chains : Chains)
+      → ((kind : LegKind) → legs_of (chains_of chains kind) ≡ chain (legs_read (read_in kind read)))
+      → (kind : LegKind)
+      → joined (legs_of (chains_of chains kind)) ≡ carried_by kind seen h.tags
+  joined_is chains is kind =
+      ap joined (is kind ∙ ap chain (h.are_legs.each kind))
+      ∙ same_carried kind sorted seen h.tags same
+
+  pub audited : (all : List AuditFault) (up down : Prefixed) → IsTold read broke all up down
       → IsAudit seen all up down
-  audited all up down told up_told down_told = record {
+  audited all up down t = record {
     tags = h.tags;
     are_tags = same_tags sorted seen h.tags same h.are_tags;
-    faults_are = told
-        ∙ ap (λ x. x ++ flat_map (left_of chains) read.begun.items) h.told
+    faults_are = t.told
+        ∙ ap (λ x. x ++ flat_map (left_of t.chains) read.begun.items) h.told
         ∙ ap (λ x. flat_map (λ tag. broken_in tag (of_tag tag sorted)) h.tags ++ x)
-        (ap (flat_map (left_of chains)) h.are_legs.begun
-        ∙ left_is chains sorted h.tags h.tags chain_is)
+        (ap (flat_map (left_of t.chains)) h.are_legs.begun
+        ∙ left_is t.chains sorted h.tags h.tags
+        (λ kind. t.chained kind ∙ ap chain (h.are_legs.each kind)))
         ∙ same_faults sorted seen h.tags same;
-    up_is = up_told
-        ∙ ap (λ x. prefixed x (joined (legs_of (chains_of chains ClientIn)))) (joined_is InServer)
-        ∙ ap (prefixed (carried_by InServer seen h.tags)) (joined_is ClientIn);
-    down_is = down_told
-        ∙ ap (λ x. prefixed x (joined (legs_of (chains_of chains OutServer))))
-        (joined_is ClientOut)
-        ∙ ap (prefixed (carried_by ClientOut seen h.tags)) (joined_is OutServer);
+    up_is = t.up_told
+        ∙ ap (λ x. prefixed x (joined (legs_of (chains_of t.chains ClientIn))))
+        (joined_is t.chains t.chained InServer)
+        ∙ ap (prefixed (carried_by InServer seen h.tags))
+        (joined_is t.chains t.chained ClientIn);
+    down_is = t.down_told
+        ∙ ap (λ x. prefixed x (joined (legs_of (chains_of t.chains OutServer))))
+        (joined_is t.chains t.chained ClientOut)
+        ∙ ap (prefixed (carried_by ClientOut seen h.tags))
+        (joined_is t.chains t.chained OutServer);
   }

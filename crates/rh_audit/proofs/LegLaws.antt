@@ -1,7 +1,7 @@
 -- a leg by the lines of its tag, which are of one kind
-use Rattle.std.proofs.Common.{◌≡◌, ℕ, List, [], ◌∷◌, ◌++◌, Bool, true, false, None, refl, sym, ap, ◌∙◌, subst, arith}
+use Rattle.std.proofs.Common.{◌≡◌, ℕ, List, [], ◌∷◌, ◌++◌, Bool, true, false, None, refl, sym, ap, ◌∙◌}
 use Rattle.std.specs.Prelude.{if◌then◌else◌}
-use Rattle.std.specs.List.{AllByRecursion, flat_map}
+use Rattle.std.specs.List.{AllByRecursion}
 use Rattle.std.proofs.lemmas.List.{append-nil}
 use Rattle.rh_sig.specs.declared.name.Pipe.{Pipe}
 use Rattle.rh_sig.specs.declared.name.Pipe.TheVariants.{CiU, IsU, IsD, CoU, CoD, OsU, OsD}
@@ -12,8 +12,7 @@ use Rattle.rh_audit.specs.declared.seen.Seen.{Seen}
 use Rattle.rh_audit.specs.Audits.{broken_by, broken_in}
 use Rattle.rh_audit.specs.Captures.{IsOfKind, carried, same_pipe}
 use Rattle.rh_audit.specs.Chains.{Leg, leg_by, leg_in, mets_in, pdus_in, stream_in}
-use Rattle.rh_audit.specs.declared.link.Link.{Link}
-use Rattle.rh_audit.specs.Links.{legs_if, legs_of, same_kind, told_behind}
+use Rattle.rh_audit.specs.Links.{legs_if, same_kind, told_behind}
 use Rattle.rh_audit.specs.Openings.{first_end}
 use Rattle.rh_audit.specs.Pipes.{first_pipe, kind_of, pdu_pipe}
 use Rattle.rh_audit.specs.Streams.{Stream, first_among, is_marked, mets, renewed, stream, stream_is}
@@ -176,12 +175,11 @@ told_all tag ClientOut lines h = told_co tag lines h
 told_all tag OutServer lines h = told_os tag lines h
 
 -- the leg of each kind
-pub leg_any : (any kind : LegKind) (tag : ℕ) (lines : List Seen) (links : List Link)
-    → AllByRecursion (IsOfKind kind) lines → legs_of links ≡ leg_in kind tag lines
-    → leg_in any tag lines ≡ legs_if any kind links
-leg_any any kind tag lines links h is = by (same_kind any kind) refl
+pub leg_any : (any kind : LegKind) (tag : ℕ) (lines : List Seen) (legs : List Leg)
+    → AllByRecursion (IsOfKind kind) lines → legs ≡ leg_in kind tag lines
+    → leg_in any tag lines ≡ legs_if any kind legs
+leg_any any kind tag lines legs h is = by (same_kind any kind) refl
   where
-    by : (t : Bool) → same_kind any kind ≡ t
-        → leg_in any tag lines ≡ (if t then legs_of links else [])
+    by : (t : Bool) → same_kind any kind ≡ t → leg_in any tag lines ≡ (if t then legs else [])
     by true e = ap (λ k. leg_in k tag lines) (same_kind_is any kind e) ∙ sym is
     by false e = no_leg any kind tag lines h e

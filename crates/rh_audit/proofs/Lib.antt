@@ -13,4 +13,6 @@ mod Queues
 mod Waiting
 mod Comparing
 mod Marks
+mod Places
+mod Counts
 mod Audits

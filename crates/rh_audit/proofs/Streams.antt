@@ -13,6 +13,7 @@ use Rattle.rh_pdu.proofs.Framing.{bad_framed, bad_stays, cut_is, frames_behind, 
 use Rattle.rh_sig.specs.declared.name.Pipe.{Pipe}
 use Rattle.rh_audit.specs.Packets.{met}
 use Rattle.rh_audit.specs.Streams.{Stream, broken_behind, counted, framed, framed_by, is_bad, stands, stream_is}
+use Rattle.rh_audit.specs.StreamsLeft.{IsBegun, StreamLeft}
 
 -- ---- pieces
 
@@ -153,3 +154,18 @@ pub framed_none : (pipe : Pipe) (begins : Bool) (place : ℕ)
     → framed pipe begins place [] ≡ stream_is [] None
 framed_none pipe begins place =
     framed_end pipe begins place [] (λ long. absurd (omega (arith, long)))
+
+-- no bytes are left, of whichever stream
+pub begun_empty : (on : Pipe) (all : List ℕ) (is s : Stream) (left : StreamLeft)
+    → left ≡ record { pipe = on; stream = s; frame = []; place = 0; bytes = [] }
+    → s ≡ is
+    → IsBegun on all is left
+begun_empty on all is s left h same = record {
+  pipe_is = ap (λ (v : StreamLeft). v.pipe) h;
+  stream_is = ap (λ (v : StreamLeft). v.stream) h ∙ same;
+  stands = (
+    all,
+    ap (λ (v : StreamLeft). drop v.place all) h
+        ∙ ap (λ (v : StreamLeft). v.bytes ++ all) (sym h),
+  );
+}

@@ -8,6 +8,8 @@ pub mod Streams
 pub mod Chains
 pub mod Audits
 pub mod Tags
+pub mod Places
+pub mod Cursors
 pub mod Summaries
 pub mod Pieces
 pub mod PiecesLeft

@@ -32,9 +32,9 @@ kind_number InServer = 3
 abbrev pub same_kind : LegKind → LegKind → Bool
 same_kind a b = kind_number a == kind_number b
 
--- the links of one kind, as legs of any
-abbrev pub legs_if : LegKind → LegKind → List Link → List Leg
-legs_if any kind links = if same_kind any kind then legs_of links else []
+-- the legs of one kind, as those of any
+abbrev pub legs_if : LegKind → LegKind → List Leg → List Leg
+legs_if any kind legs = if same_kind any kind then legs else []
 
 -- what is told of the stream of a leg's RPC PDUs, where it is not that of its first packet
 abbrev pub told_behind : ℕ → LegKind → List Seen → List AuditFault

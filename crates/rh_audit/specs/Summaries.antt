@@ -1,10 +1,14 @@
 -- what a stream says of its leg
-use Rattle.std.specs.Prelude.{ℕ, ◌||◌, List, [], ◌∷◌, Bool, true, false, if◌then◌else◌, None}
+use Rattle.std.specs.Prelude.{◌≡◌, ℕ, ◌||◌, List, [], ◌∷◌, Bool, false, if◌then◌else◌, None}
 use Rattle.std.specs.declared.option.Option.{Option}
 use Rattle.rh_sig.specs.declared.name.Pipe.{Pipe}
 use Rattle.rh_audit.specs.declared.packet.Met.{Met}
+use Rattle.rh_audit.specs.declared.seen.Seen.{Seen}
+use Rattle.rh_audit.specs.declared.summary.StreamRead.{StreamRead}
 use Rattle.rh_audit.specs.declared.summary.Summary.{Summary}
+use Rattle.rh_audit.specs.Chains.{stream_in}
 use Rattle.rh_audit.specs.Packets.{first_met, is_mark, renewed_by}
+use Rattle.rh_audit.specs.Places.{ArePlaces}
 use Rattle.rh_audit.specs.Streams.{Stream, first_among, is_marked, later, mets, renewed}
 
 abbrev pub summary : Pipe → Stream → Summary
@@ -14,6 +18,11 @@ summary pipe s = record {
   marked = is_marked (mets pipe s);
   broken = s.broken;
 }
+
+-- this is what the stream of a pipe in lines says, and where its RPC PDUs stand
+pub record IsStreamRead (pipe : Pipe) (lines : List Seen) (read : StreamRead) : Type 0 where
+  pub says : read.says ≡ summary pipe (stream_in pipe lines)
+  pub places : ArePlaces pipe lines read.places.items
 
 -- ---- the same, frame by frame
 

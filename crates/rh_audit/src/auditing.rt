@@ -4,9 +4,10 @@ ghost use Rattle.std.specs.Prelude.{◌≡◌, ◌++◌, ◌<◌, ◌^◌, IfOk,
 ghost use Rattle.std.specs.List.{flat_map};
 ghost use Rattle.rh_audit.specs.Audits.{IsAudit, prefixed};
 ghost use Rattle.rh_audit.specs.Captures.{IsCapture};
-ghost use Rattle.rh_audit.specs.Chains.{joined};
+ghost use Rattle.rh_line.specs.declared.leg.LegKind.{LegKind};
+ghost use Rattle.rh_audit.specs.Chains.{chain, joined};
 ghost use Rattle.rh_audit.specs.Links.{legs_of};
-ghost use Rattle.rh_audit.specs.Reads.{left_of};
+ghost use Rattle.rh_audit.specs.Reads.{IsTold, left_of, legs_read, read_in};
 
 use crate::fault::AuditFault;
 use crate::kept::Chain;
@@ -33,12 +34,12 @@ impl<'a> Chains<'a> {
     ghost use Rattle.rh_line.specs.declared.leg.LegKind.{LegKind};
     ghost use Rattle.rh_audit.specs.Chains.{chain};
     ghost use Rattle.rh_audit.specs.Links.{legs_of};
-    ghost use Rattle.rh_audit.specs.Reads.{chains_of, links_in};
+    ghost use Rattle.rh_audit.specs.Reads.{chains_of, legs_read, read_in};
 
     /// The chains of these legs.
-    fn new(alloc: Global, legs: &Legs<'a>) -> Result<Chains<'a>, AllocError>
+    fn new(alloc: Global, legs: &'a Legs<'a>) -> Result<Chains<'a>, AllocError>
         ensures { IfOk result (λ chains. (kind : LegKind)
-            → legs_of (chains_of chains kind) ≡ chain (legs_of (links_in kind legs.now))) }
+            → legs_of (chains_of chains kind) ≡ chain (legs_read (read_in kind legs.now))) }
     {
         Ok(Chains {
             client_in: Chain::new(alloc, &legs.client_in)?,
@@ -91,12 +92,29 @@ fn compare_chains(alloc: Global, far: &Chain<'_>, near: &Chain<'_>) -> Result<Pr
     )
 }
 
+/// What is told of the legs that were read, behind the faults of their streams.
+fn audit_legs(alloc: Global, legs: &Legs<'_>, faults: Vec<AuditFault>) -> Result<Audit, AllocError>
+    requires { (kind : LegKind)
+        → length (joined (chain (legs_read (read_in kind legs.now)))) < 2 ^ 32 }
+    ensures { IfOk result (λ told.
+        IsTold legs.now faults.items told.faults.items told.up told.down) }
+{
+    let mut faults = faults;
+    let chains = Chains::new(alloc, legs)?;
+    tell_unchained(legs.begun.as_slice(), &chains, &mut faults)?;
+    let up = compare_chains(alloc, &chains.in_server, &chains.client_in)?;
+    let down = compare_chains(alloc, &chains.client_out, &chains.out_server)?;
+    Ok(Audit { faults, up, down })
+}
+
 /// Tells of captured legs whether what was seen on the far legs is a front of what was seen on the
 /// near legs, in both directions, and what is wrong with the legs themselves.
 ///
 /// Each tag has one kind of leg, no line is of the pipe `IsD`, and all bytes together are fewer
-/// than 68,719,476,736, so that there are fewer than 4,294,967,296 PDUs. The memory that is taken
-/// is a constant number of bytes for each line, beside the head of one stream at a time.
+/// than 68,719,476,736, so that there are fewer than 4,294,967,296 PDUs. Each stream is cut into
+/// frames once. The memory that is taken is 16 bytes for each PDU, in a list for each tag that
+/// grows by doubling, and a constant number of bytes for each line and tag, beside the head of one
+/// stream and two PDUs at a time.
 ///
 /// Fails where there is no memory.
 pub fn audit(alloc: Global, seen: &[Seen]) -> Result<Audit, AllocError>
@@ -106,9 +124,6 @@ pub fn audit(alloc: Global, seen: &[Seen]) -> Result<Audit, AllocError>
     let lines = by_tag(alloc, seen)?;
     let mut faults = Vec::new(alloc);
     let legs = read_legs(alloc, lines.as_slice(), &mut faults)?;
-    let chains = Chains::new(alloc, &legs)?;
-    tell_unchained(legs.begun.as_slice(), &chains, &mut faults)?;
-    let up = compare_chains(alloc, &chains.in_server, &chains.client_in)?;
-    let down = compare_chains(alloc, &chains.client_out, &chains.out_server)?;
-    Ok(Audit { faults, up, down })
+    let told = audit_legs(alloc, &legs, faults)?;
+    Ok(told)
 }

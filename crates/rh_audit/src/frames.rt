@@ -47,21 +47,7 @@ impl<'a> Frames<'a> {
         ensures { result ≡ left_at (drop count (carried pipe (all_seen lines.now))) }
     {
         let mut pieces = Pieces::new(lines, pipe);
-        let mut left = count;
-        while let Some(piece) = pieces.next_piece() {
-            if left <= piece.len() {
-                let (_, piece) = piece.split_at(left);
-                return Frames::of(pieces, piece);
-            }
-            left -= piece.len();
-        }
-        Frames::of(pieces, &[])
-    }
-
-    /// The frames of a piece and of the pieces behind it.
-    fn of(pieces: Pieces<'a>, piece: &'a [u8]) -> Frames<'a>
-        ensures { result ≡ left_at (piece.now ++ pieces.entry.bytes) }
-    {
+        let piece = pieces.skip(&[], count);
         Frames {
             pieces,
             piece,

@@ -5,9 +5,11 @@ ghost use Rattle.rh_audit.specs.declared.link.Link.{Link};
 ghost use Rattle.rh_audit.specs.Chains.{chain};
 ghost use Rattle.rh_audit.specs.Links.{legs_of};
 ghost use Rattle.rh_audit.specs.Kept.{AreTagsOf};
+ghost use Rattle.rh_audit.specs.Reads.{legs_read};
 
 use crate::chain::chain_of;
 use crate::link::Link;
+use crate::read_leg::ReadLeg;
 use std::alloc::{AllocError, Global};
 use std::marker::Model;
 
@@ -19,15 +21,34 @@ pub(crate) struct Chain<'a> {
 }
 
 impl<'a> Model for Chain<'a> {
-    ghost use Rattle.std.specs.Prelude.{List};
+    ghost use mir.Syntax.{named};
+    ghost use Rattle.std.specs.Prelude.{[], List};
+    ghost use Rattle.std.specs.Coded.{codes};
+    ghost use Rattle.rh_audit.specs.contracts.link.Link as link;
     ghost use Rattle.rh_audit.specs.declared.link.Link.{Link};
     ghost use Rattle.rh_audit.specs.Kept.{AreTagsOf};
 
     ghost Value = { List Link };
 
+    ghost coded = { Prim.hlevel (
+      codes,
+      (link.the_row (record { mir = named 0; lft = [] })).coded,
+    ) };
+
     ghost view = { λ a. a.links.items };
 
     ghost invariant = { λ a. AreTagsOf a.links.items a.tags.items };
+}
+
+/// The legs with their places where they stand.
+fn links_of<'a>(alloc: Global, legs: &'a [ReadLeg<'a>]) -> Result<Vec<Link<'a>>, AllocError>
+    ensures { IfOk result (λ links. legs_of links.items ≡ legs_read legs.now) }
+{
+    let mut links = Vec::with_capacity(alloc, legs.len())?;
+    for leg in legs {
+        links.push(leg.link())?;
+    }
+    Ok(links)
 }
 
 /// The tags of the legs, the least first.
@@ -55,14 +76,15 @@ impl<'a> Chain<'a> {
     ghost use Rattle.rh_audit.specs.Audits.{has};
     ghost use Rattle.rh_audit.specs.Chains.{chain};
     ghost use Rattle.rh_audit.specs.Links.{legs_of};
+    ghost use Rattle.rh_audit.specs.Reads.{legs_read};
 
     /// The chain of the legs of a kind, which come in the order of their tags.
     ///
     /// Fails where there is no memory.
-    pub(crate) fn new(alloc: Global, links: &[Link<'a>]) -> Result<Chain<'a>, AllocError>
-        ensures { IfOk result (λ found. legs_of found ≡ chain (legs_of links.now)) }
+    pub(crate) fn new(alloc: Global, legs: &'a [ReadLeg<'a>]) -> Result<Chain<'a>, AllocError>
+        ensures { IfOk result (λ found. legs_of found ≡ chain (legs_read legs.now)) }
     {
-        let links = chain_of(alloc, links)?;
+        let links = chain_of(alloc, links_of(alloc, legs)?.as_slice())?;
         let tags = sorted_tags(alloc, &links)?;
         Ok(Chain { links, tags })
     }

@@ -5,21 +5,20 @@ ghost use Rattle.std.specs.List.{AllByRecursion};
 ghost use Rattle.rh_line.specs.declared.leg.LegKind.{LegKind};
 ghost use Rattle.rh_audit.specs.Audits.{broken_by, broken_in};
 ghost use Rattle.rh_audit.specs.Captures.{IsOfKind, total};
-ghost use Rattle.rh_audit.specs.Chains.{leg_by, leg_in, mets_in, pdus_in, stream_in};
-ghost use Rattle.rh_audit.specs.Links.{legs_if, legs_of, told_behind};
+ghost use Rattle.rh_audit.specs.Chains.{leg_by, leg_in, pdus_in, stream_in};
+ghost use Rattle.rh_audit.specs.Links.{legs_if, told_behind};
 ghost use Rattle.rh_audit.specs.Pieces.{all_seen};
 ghost use Rattle.rh_audit.specs.Pipes as pipes;
-ghost use Rattle.rh_audit.specs.Streams.{is_marked};
-ghost use Rattle.rh_audit.specs.Summaries.{summary};
+ghost use Rattle.rh_audit.specs.Reads.{legs_read};
+ghost use Rattle.rh_audit.specs.Summaries.{IsStreamRead};
 
 use crate::fault::AuditFault;
-use crate::link::Link;
 use crate::pieces::Piece;
-use crate::stream::Stream;
-use crate::summary::{Summary, summary_of};
+use crate::read_leg::ReadLeg;
+use crate::summary::{StreamRead, Summary, read_frames};
 use rh_line::LegKind;
 use rh_sig::Pipe;
-use std::alloc::AllocError;
+use std::alloc::{AllocError, Global};
 
 /// The kind of leg that has the pipe.
 pub(crate) fn kind_of(pipe: Pipe) -> LegKind
@@ -74,70 +73,70 @@ fn tell_broken(
 
 /// Reads one stream of a tag, and tells the place at which it is broken.
 fn read_stream(
+    alloc: Global,
     tag: u64,
     pipe: Pipe,
     lines: &[Piece<'_>],
     room: &mut Vec<u8>,
     faults: &mut Vec<AuditFault>,
-) -> Result<Summary, AllocError>
+) -> Result<StreamRead, AllocError>
     requires { total (all_seen lines.now) < 2 ^ 36 }
     ensures told { OnOk result (faults.new.items ≡ faults.old.items
         ++ broken_by tag pipe (stream_in pipe (all_seen lines.now)).broken) }
-    ensures summary { IfOk result (λ found.
-        found ≡ summary pipe (stream_in pipe (all_seen lines.now))) }
+    ensures read { IfOk result (λ read. IsStreamRead pipe (all_seen lines.now) read) }
 {
-    let found = summary_of(Stream::begin(lines, pipe, room)?);
-    tell_broken(tag, pipe, found.broken, faults)?;
-    Ok(found)
+    let read = read_frames(alloc, lines, pipe, room)?;
+    tell_broken(tag, pipe, read.says.broken, faults)?;
+    Ok(read)
+}
+
+/// Reads the stream of the RPC PDUs of a leg, where it is another one than that of its first
+/// packet, which was read.
+fn read_carried(
+    alloc: Global,
+    tag: u64,
+    kind: LegKind,
+    lines: &[Piece<'_>],
+    begun: StreamRead,
+    room: &mut Vec<u8>,
+    faults: &mut Vec<AuditFault>,
+) -> Result<StreamRead, AllocError>
+    requires begun { IsStreamRead (pipes.first_pipe kind) (all_seen lines.now) begun }
+    requires short { total (all_seen lines.now) < 2 ^ 36 }
+    ensures told { OnOk result (faults.new.items ≡ faults.old.items
+        ++ told_behind tag kind (all_seen lines.now)) }
+    ensures read { IfOk result (λ read.
+        IsStreamRead (pipes.pdu_pipe kind) (all_seen lines.now) read) }
+{
+    if first_pipe(kind) == pdu_pipe(kind) {
+        return Ok(begun);
+    }
+    read_stream(alloc, tag, pdu_pipe(kind), lines, room, faults)
 }
 
 /// The leg of a tag, where its first packet was seen.
-fn link_of<'a>(
+fn leg_read<'a>(
     tag: u64,
     kind: LegKind,
     lines: &'a [Piece<'a>],
     begun: &Summary,
-    marked: bool,
-) -> Option<Link<'a>>
-    requires { total (all_seen lines.now) < 2 ^ 36 }
-    ensures { legs_of (option_to_list result)
-        ≡ leg_by tag begun.now.anew marked (pdus_in (pipes.pdu_pipe kind) (all_seen lines.now))
-        begun.now.first }
+    carried: StreamRead,
+) -> Option<ReadLeg<'a>>
+    requires { IsStreamRead (pipes.pdu_pipe kind) (all_seen lines.now) carried }
+    ensures { legs_read (option_to_list result)
+        ≡ leg_by tag begun.now.anew carried.says.marked
+        (pdus_in (pipes.pdu_pipe kind) (all_seen lines.now)) begun.now.first }
 {
     let first = begun.first?;
-    Some(Link {
+    Some(ReadLeg {
         tag,
         kind,
         predecessor: first.predecessor,
         newest: begun.anew.unwrap_or(first.own),
-        marked,
+        marked: carried.says.marked,
         lines,
+        places: carried.places,
     })
-}
-
-/// Whether the handover mark of a leg was seen. Where it goes on another pipe than the first packet,
-/// that stream is read, and it is told where it is broken.
-fn read_mark(
-    tag: u64,
-    kind: LegKind,
-    lines: &[Piece<'_>],
-    begun: &Summary,
-    room: &mut Vec<u8>,
-    faults: &mut Vec<AuditFault>,
-) -> Result<bool, AllocError>
-    requires begun { begun.now
-        ≡ summary (pipes.first_pipe kind) (stream_in (pipes.first_pipe kind) (all_seen lines.now)) }
-    requires short { total (all_seen lines.now) < 2 ^ 36 }
-    ensures told { OnOk result (faults.new.items ≡ faults.old.items
-        ++ told_behind tag kind (all_seen lines.now)) }
-    ensures marked { IfOk result (λ marked.
-        marked ≡ is_marked (mets_in (pipes.pdu_pipe kind) (all_seen lines.now))) }
-{
-    if first_pipe(kind) == pdu_pipe(kind) {
-        return Ok(begun.marked);
-    }
-    let found = read_stream(tag, pdu_pipe(kind), lines, room, faults)?;
-    Ok(found.marked)
 }
 
 /// Reads the lines of a tag, which are of one kind of leg, and tells the places at which its
@@ -145,20 +144,22 @@ fn read_mark(
 ///
 /// Fails where there is no memory.
 pub(crate) fn read_leg<'a>(
+    alloc: Global,
     tag: u64,
     kind: LegKind,
     lines: &'a [Piece<'a>],
     room: &mut Vec<u8>,
     faults: &mut Vec<AuditFault>,
-) -> Result<Option<Link<'a>>, AllocError>
+) -> Result<Option<ReadLeg<'a>>, AllocError>
     requires kind { AllByRecursion (IsOfKind kind) (all_seen lines.now) }
     requires short { total (all_seen lines.now) < 2 ^ 36 }
     ensures told { OnOk result (faults.new.items ≡ faults.old.items
         ++ broken_in tag (all_seen lines.now)) }
-    ensures legs { IfOk result (λ link. (any : LegKind)
-        → leg_in any tag (all_seen lines.now) ≡ legs_if any kind (option_to_list link)) }
+    ensures legs { IfOk result (λ leg. (any : LegKind)
+        → leg_in any tag (all_seen lines.now) ≡ legs_if any kind (legs_read (option_to_list leg))) }
 {
-    let begun = read_stream(tag, first_pipe(kind), lines, room, faults)?;
-    let marked = read_mark(tag, kind, lines, &begun, room, faults)?;
-    Ok(link_of(tag, kind, lines, &begun, marked))
+    let begun = read_stream(alloc, tag, first_pipe(kind), lines, room, faults)?;
+    let says = begun.says;
+    let carried = read_carried(alloc, tag, kind, lines, begun, room, faults)?;
+    Ok(leg_read(tag, kind, lines, &says, carried))
 }

@@ -8,8 +8,8 @@ ghost use Rattle.rh_audit.specs.Tags.{IsRising};
 
 use crate::fault::AuditFault;
 use crate::leg::read_leg;
-use crate::link::Link;
 use crate::pieces::Piece;
+use crate::read_leg::ReadLeg;
 use crate::sorting::first_run;
 use rh_line::LegKind;
 use std::alloc::{AllocError, Global};
@@ -24,21 +24,21 @@ pub(crate) struct Begun {
 /// The legs of each kind, and all of them, in the order of their tags.
 #[derive(Drop)]
 pub(crate) struct Legs<'a> {
-    pub(crate) client_in: Vec<Link<'a>>,
-    pub(crate) in_server: Vec<Link<'a>>,
-    pub(crate) client_out: Vec<Link<'a>>,
-    pub(crate) out_server: Vec<Link<'a>>,
+    pub(crate) client_in: Vec<ReadLeg<'a>>,
+    pub(crate) in_server: Vec<ReadLeg<'a>>,
+    pub(crate) client_out: Vec<ReadLeg<'a>>,
+    pub(crate) out_server: Vec<ReadLeg<'a>>,
     pub(crate) begun: Vec<Begun>,
 }
 
 impl<'a> Legs<'a> {
     ghost use Rattle.std.specs.Prelude.{◌≡◌, ◌++◌, [], OnOk, option_to_list};
     ghost use Rattle.rh_line.specs.declared.leg.LegKind.{LegKind};
-    ghost use Rattle.rh_audit.specs.Reads.{begun_if, links_if, links_in};
+    ghost use Rattle.rh_audit.specs.Reads.{begun_if, read_if, read_in};
 
     /// No leg.
     fn new(alloc: Global) -> Legs<'a>
-        ensures links { (kind : LegKind) → links_in kind result ≡ [] }
+        ensures each { (kind : LegKind) → read_in kind result ≡ [] }
         ensures begun { result.begun.items ≡ [] }
     {
         Legs {
@@ -51,20 +51,20 @@ impl<'a> Legs<'a> {
     }
 
     /// Adds the leg of a later tag, where its first packet was seen.
-    fn add(&mut self, tag: u64, kind: LegKind, link: Option<Link<'a>>) -> Result<(), AllocError>
-        ensures links { OnOk result ((any : LegKind) → links_in any self.new
-            ≡ links_in any self.old ++ links_if any kind (option_to_list link.entry)) }
+    fn add(&mut self, tag: u64, kind: LegKind, leg: Option<ReadLeg<'a>>) -> Result<(), AllocError>
+        ensures each { OnOk result ((any : LegKind) → read_in any self.new
+            ≡ read_in any self.old ++ read_if any kind (option_to_list leg.entry)) }
         ensures begun { OnOk result (self.new.begun.items
-            ≡ self.old.begun.items ++ begun_if tag kind link.entry) }
+            ≡ self.old.begun.items ++ begun_if tag kind leg.entry) }
     {
-        let Some(link) = link else {
+        let Some(leg) = leg else {
             return Ok(());
         };
         match kind {
-            LegKind::ClientIn => self.client_in.push(link)?,
-            LegKind::InServer => self.in_server.push(link)?,
-            LegKind::ClientOut => self.client_out.push(link)?,
-            LegKind::OutServer => self.out_server.push(link)?,
+            LegKind::ClientIn => self.client_in.push(leg)?,
+            LegKind::InServer => self.in_server.push(leg)?,
+            LegKind::ClientOut => self.client_out.push(leg)?,
+            LegKind::OutServer => self.out_server.push(leg)?,
         }
         self.begun.push(Begun { tag, kind })?;
         Ok(())
@@ -90,8 +90,8 @@ pub(crate) fn read_legs<'a>(
     'tags: while from < lines.len() {
         let (_, rest) = lines.split_at(from);
         let run = first_run(rest);
-        let link = read_leg(run.tag, run.kind, run.lines, &mut room, faults)?;
-        legs.add(run.tag, run.kind, link)?;
+        let leg = read_leg(alloc, run.tag, run.kind, run.lines, &mut room, faults)?;
+        legs.add(run.tag, run.kind, leg)?;
         from += run.lines.len();
     }
     Ok(legs)

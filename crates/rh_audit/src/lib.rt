@@ -4,6 +4,7 @@
 
 pub mod auditing;
 mod chain;
+mod cursor;
 pub mod fault;
 mod frames;
 mod kept;
@@ -14,7 +15,9 @@ pub mod numerals;
 mod opening;
 mod packet;
 mod pieces;
+mod place;
 pub mod prefixed;
+mod read_leg;
 pub mod reading;
 pub mod seen;
 mod sorting;

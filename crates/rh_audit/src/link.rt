@@ -1,10 +1,11 @@
-//! A leg with its lines where they stand.
+//! A leg with its lines and its places where they stand.
 
-ghost use Rattle.std.specs.Prelude.{◌<◌, ◌^◌};
-ghost use Rattle.rh_audit.specs.Captures.{total};
 ghost use Rattle.rh_audit.specs.Pieces.{all_seen};
+ghost use Rattle.rh_audit.specs.Pipes.{pdu_pipe};
+ghost use Rattle.rh_audit.specs.Places.{AreBehind, AreIn, behind_prop};
 
 use crate::pieces::Piece;
+use crate::place::Place;
 use rh_line::LegKind;
 use rh_rts::Cookie;
 
@@ -20,5 +21,8 @@ pub(crate) struct Link<'a> {
     /// Whether its handover mark was seen.
     pub(crate) marked: bool,
     pub(crate) lines: &'a [Piece<'a>],
-    ghost short: { total (all_seen lines.now) < 2 ^ 36 },
+    /// Where its RPC PDUs stand.
+    pub(crate) places: &'a [Place],
+    ghost rising: { AreBehind 0 places.now } by { behind_prop 0 places.now },
+    ghost are: { AreIn (pdu_pipe kind) (all_seen lines.now) places.now },
 }

@@ -35,7 +35,7 @@ impl<'a> Model for Pieces<'a> {
 }
 
 impl<'a> Pieces<'a> {
-    ghost use Rattle.std.specs.Prelude.{◌≡◌, ◌<◌, ◌++◌, [], MatchOption, OnSome};
+    ghost use Rattle.std.specs.Prelude.{◌≡◌, ◌<◌, ◌++◌, [], MatchOption, IfOk, OnOk, OnSome, drop, take};
     ghost use Rattle.rh_audit.specs.PiecesLeft.{left_in};
 
     /// All bytes of the pipe.
@@ -59,6 +59,57 @@ impl<'a> Pieces<'a> {
         }
         None
     }
+
+    /// Goes on behind so many bytes, of which the piece is the front; gives what is left of the
+    /// piece that it comes to.
+    pub(crate) fn skip(&mut self, piece: &'a [u8], count: usize) -> &'a [u8]
+        ensures { result.now ++ self.new.bytes ≡ drop count (piece.now ++ self.old.bytes) }
+    {
+        let mut piece = piece;
+        let mut left = count;
+        'pieces: loop {
+            if left <= piece.len() {
+                let (_, behind) = piece.split_at(left);
+                return behind;
+            }
+            left -= piece.len();
+            match self.next_piece() {
+                Some(next) => piece = next,
+                None => return &[],
+            }
+        }
+    }
+
+    /// As `skip`, and puts the bytes that it passes into a room.
+    ///
+    /// Fails where there is no memory for them.
+    pub(crate) fn put(
+        &mut self,
+        piece: &'a [u8],
+        count: usize,
+        room: &mut Vec<u8>,
+    ) -> Result<&'a [u8], AllocError>
+        ensures room { OnOk result (room.new.items ≡ take count (piece.now ++ self.old.bytes)) }
+        ensures left { IfOk result (λ left. left.now ++ self.new.bytes
+            ≡ drop count (piece.now ++ self.old.bytes)) }
+    {
+        room.clear();
+        let mut piece = piece;
+        let mut left = count;
+        'pieces: loop {
+            if left <= piece.len() {
+                let (front, behind) = piece.split_at(left);
+                room.extend_from_slice(front)?;
+                return Ok(behind);
+            }
+            room.extend_from_slice(piece)?;
+            left -= piece.len();
+            match self.next_piece() {
+                Some(next) => piece = next,
+                None => return Ok(&[]),
+            }
+        }
+    }
 }
 
 /// Puts the first bytes of the pipe into a room, at most 16,384.
@@ -72,15 +123,6 @@ pub(crate) fn put_front(
     ensures bytes { OnOk result (room.new.items
         ≡ take greatest_head (carried pipe (all_seen lines.now))) }
 {
-    room.clear();
-    let mut pieces = Pieces::new(lines, pipe);
-    while let Some(piece) = pieces.next_piece() {
-        let count = (GREATEST_HEAD - room.len()).min(piece.len());
-        let (front, _) = piece.split_at(count);
-        room.extend_from_slice(front)?;
-        if room.as_slice().len() == GREATEST_HEAD {
-            return Ok(());
-        }
-    }
+    Pieces::new(lines, pipe).put(&[], GREATEST_HEAD, room)?;
     Ok(())
 }

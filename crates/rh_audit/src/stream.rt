@@ -12,6 +12,7 @@ use crate::frames::{Cut, Frames};
 use crate::opening::{Begins, Opening, begins_with, opening_of};
 use crate::packet::{Met, meet};
 use crate::pieces::{Piece, put_front};
+use crate::place::Place;
 use rh_sig::Pipe;
 use std::alloc::AllocError;
 use std::marker::Model;
@@ -19,8 +20,8 @@ use std::marker::Model;
 /// What comes next of a stream.
 #[derive(Clone, Copy)]
 pub(crate) enum Next {
-    /// A frame that counts.
-    Frame(Met),
+    /// A frame that counts, and where it stands.
+    Frame { met: Met, place: Place },
     /// Nothing is left but perhaps a part of a frame.
     End,
     /// It is broken behind so many bytes.
@@ -33,7 +34,7 @@ pub(crate) struct Stream<'a> {
     frames: Frames<'a>,
     pipe: Pipe,
     begins: bool,
-    place: u64,
+    place: usize,
     broken: Option<u64>,
 }
 
@@ -47,6 +48,8 @@ impl<'a> Model for Stream<'a> {
       pipe = a.pipe;
       stream = left.stream_left a.broken a.pipe a.begins a.place a.frames.bytes;
       frame = a.frames.frame;
+      place = a.place;
+      bytes = a.frames.bytes;
     } };
 
     ghost invariant = { λ a. a.place + length a.frames.bytes < 2 ^ 64 };
@@ -88,13 +91,13 @@ fn opening(lines: &[Piece<'_>], pipe: Pipe, room: &mut Vec<u8>) -> Result<Openin
 }
 
 impl<'a> Stream<'a> {
-    ghost use Rattle.std.specs.Prelude.{◌≡◌, ◌+◌, ◌<◌, ◌≤◌, ◌^◌, [], length, true, IfOk, None};
+    ghost use Rattle.std.specs.Prelude.{◌≡◌, ◌+◌, ◌<◌, ◌≤◌, ◌^◌, length, true, IfOk};
     ghost use Rattle.rh_http.specs.Reading.{greatest_head};
     ghost use Rattle.rh_audit.specs.Openings.{extent};
-    ghost use Rattle.rh_audit.specs.Streams.{opened, stream_is};
+    ghost use Rattle.rh_audit.specs.Streams.{opened, stream};
     ghost use Rattle.rh_audit.specs.Captures.{carried};
     ghost use Rattle.rh_audit.specs.Pieces.{all_seen};
-    ghost use Rattle.rh_audit.specs.StreamsLeft.{IsNext, IsPduStep, stream_begun, stream_left};
+    ghost use Rattle.rh_audit.specs.StreamsLeft.{IsBegun, IsNext, stream_left};
 
     /// The stream of the pipe in these lines, of fewer than 2^63 bytes. The room is for its head.
     ///
@@ -105,35 +108,22 @@ impl<'a> Stream<'a> {
         room: &mut Vec<u8>,
     ) -> Result<Stream<'a>, AllocError>
         requires { length (carried pipe (all_seen lines.now)) < 2 ^ 63 }
-        ensures { IfOk result (λ begun.
-            begun ≡ stream_begun pipe (carried pipe (all_seen lines.now))) }
+        ensures { IfOk result (λ begun. let bytes = carried pipe (all_seen lines.now) in
+            IsBegun pipe bytes (stream pipe bytes) begun) }
     {
         Ok(Stream::behind(lines, pipe, opening(lines, pipe, room)?))
-    }
-
-    /// A stream of no bytes.
-    pub(crate) fn nothing() -> Stream<'a>
-        ensures stream { result.stream ≡ stream_is [] None }
-        ensures frame { result.frame ≡ [] }
-    {
-        Stream::at(Frames::behind(&[], Pipe::IsD, 0), Pipe::IsD, 0, None)
     }
 
     /// What stands behind such an opening of the stream.
     fn behind(lines: &'a [Piece<'a>], pipe: Pipe, opening: Opening) -> Stream<'a>
         requires short { length (carried pipe (all_seen lines.now)) < 2 ^ 63 }
         requires most { extent opening ≤ greatest_head }
-        ensures { result ≡ record {
-          pipe = pipe;
-          stream = opened pipe (carried pipe (all_seen lines.now)) opening;
-          frame = [];
-        } }
+        ensures { let bytes = carried pipe (all_seen lines.now) in
+            IsBegun pipe bytes (opened pipe bytes opening) result }
     {
         match opening {
             Opening::Waits => Stream::at(Frames::behind(&[], pipe, 0), pipe, 0, None),
-            Opening::Opens(len) => {
-                Stream::at(Frames::behind(lines, pipe, len), pipe, len as u64, None)
-            }
+            Opening::Opens(len) => { Stream::at(Frames::behind(lines, pipe, len), pipe, len, None) }
             Opening::Fails(place) => {
                 Stream::at(Frames::behind(&[], pipe, 0), pipe, 0, Some(place as u64))
             }
@@ -141,12 +131,14 @@ impl<'a> Stream<'a> {
     }
 
     /// The frames that count; and the place at which the stream is broken, where that is known.
-    fn at(frames: Frames<'a>, pipe: Pipe, place: u64, broken: Option<u64>) -> Stream<'a>
+    fn at(frames: Frames<'a>, pipe: Pipe, place: usize, broken: Option<u64>) -> Stream<'a>
         requires { place + length frames.bytes < 2 ^ 64 }
         ensures { result ≡ record {
           pipe = pipe;
           stream = stream_left broken pipe true place frames.entry.bytes;
           frame = frames.entry.frame;
+          place = place;
+          bytes = frames.entry.bytes;
         } }
     {
         Stream {
@@ -156,13 +148,6 @@ impl<'a> Stream<'a> {
             place,
             broken,
         }
-    }
-
-    /// The frame that the last `next` found; empty before the first.
-    pub(crate) fn frame(&self) -> &[u8]
-        ensures { result.now ≡ self.now.frame }
-    {
-        self.frames.frame()
     }
 
     /// Takes the next frame that counts, and tells what it is; or how the stream ends.
@@ -176,31 +161,22 @@ impl<'a> Stream<'a> {
         match self.frames.next_frame() {
             Cut::End => Next::End,
             Cut::Bad => {
-                self.broken = Some(self.place);
-                Next::Broken(self.place)
+                self.broken = Some(self.place as u64);
+                Next::Broken(self.place as u64)
             }
             Cut::Frame => {
                 let met = meet(self.frames.frame(), self.pipe);
                 if stands(self.pipe, self.begins, &met) {
+                    let place = Place {
+                        at: self.place,
+                        len: self.frames.frame().len(),
+                    };
                     self.begins = false;
-                    self.place += self.frames.frame().len() as u64;
-                    return Next::Frame(met);
+                    self.place += place.len;
+                    return Next::Frame { met, place };
                 }
-                self.broken = Some(self.place);
-                Next::Broken(self.place)
-            }
-        }
-    }
-
-    /// Finds the next RPC PDU that counts; `false` where none is left.
-    pub(crate) fn next_pdu(&mut self) -> bool
-        ensures { IsPduStep result self.old self.new }
-    {
-        'frames: loop {
-            match self.next() {
-                Next::Frame(Met::Pdu) => return true,
-                Next::Frame(Met::Nameless | Met::Packet(_)) => {}
-                Next::End | Next::Broken(_) => return false,
+                self.broken = Some(self.place as u64);
+                Next::Broken(self.place as u64)
             }
         }
     }

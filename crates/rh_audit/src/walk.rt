@@ -6,34 +6,38 @@ ghost use Rattle.rh_audit.specs.Chains.{joined};
 ghost use Rattle.rh_audit.specs.Links.{legs_of};
 ghost use Rattle.rh_audit.specs.Walks.{all_pdus};
 
+use crate::cursor::Cursor;
 use crate::leg::pdu_pipe;
 use crate::link::Link;
-use crate::packet::Met;
+use crate::place::Place;
 use crate::prefixed::Prefixed;
-use crate::stream::{Next, Stream};
 use std::alloc::{AllocError, Global};
 use std::marker::Model;
 
 /// The RPC PDUs that are left of a chain.
 #[derive(Drop)]
 pub(crate) struct Walk<'a> {
-    stream: Stream<'a>,
+    cursor: Cursor<'a>,
+    places: &'a [Place],
     links: &'a [Link<'a>],
-    room: Vec<u8>,
 }
 
 impl<'a> Model for Walk<'a> {
     ghost use Rattle.std.specs.Prelude.{◌++◌};
+    ghost use Rattle.rh_audit.specs.Cursors.{all_left_at};
     ghost use Rattle.rh_audit.specs.Links.{legs_of};
-    ghost use Rattle.rh_audit.specs.Streams.{pdus};
+    ghost use Rattle.rh_audit.specs.Places.{AreBehind};
     ghost use Rattle.rh_audit.specs.Walks as walks;
 
     ghost Value = { walks.WalkLeft };
 
     ghost view = { λ a. record {
-      pdus = pdus a.stream.pipe a.stream.stream.frames ++ walks.all_pdus (legs_of a.links.now);
-      frame = a.stream.frame;
+      pdus = all_left_at a.cursor.at a.cursor.bytes a.places.now
+          ++ walks.all_pdus (legs_of a.links.now);
+      frame = a.cursor.pdu;
     } };
+
+    ghost invariant = { λ a. AreBehind a.cursor.at a.places.now };
 }
 
 /// The legs up to and with the first whose handover mark was not seen.
@@ -49,7 +53,7 @@ fn up_to_unmarked<'a>(links: &'a [Link<'a>]) -> &'a [Link<'a>]
 }
 
 impl<'a> Walk<'a> {
-    ghost use Rattle.std.specs.Prelude.{◌≡◌, [], IfOk};
+    ghost use Rattle.std.specs.Prelude.{◌≡◌, ◌<◌, ◌^◌, IfOk, length};
     ghost use Rattle.rh_audit.specs.Chains.{joined};
     ghost use Rattle.rh_audit.specs.Links.{legs_of};
     ghost use Rattle.rh_audit.specs.Walks.{IsStep};
@@ -59,9 +63,9 @@ impl<'a> Walk<'a> {
         ensures pdus { result.pdus ≡ joined (legs_of links.now) }
     {
         Walk {
-            stream: Stream::nothing(),
+            cursor: Cursor::new(alloc),
+            places: &[],
             links: up_to_unmarked(links),
-            room: Vec::new(alloc),
         }
     }
 
@@ -69,47 +73,47 @@ impl<'a> Walk<'a> {
     pub(crate) fn frame(&self) -> &[u8]
         ensures { result.now ≡ self.now.frame }
     {
-        self.stream.frame()
+        self.cursor.pdu()
     }
 
     /// Finds the next PDU; `false` where none is left.
     ///
-    /// Fails where there is no memory for the head of a stream.
+    /// Fails where there is no memory for a PDU that stands in more than one line.
     pub(crate) fn next_pdu(&mut self) -> Result<bool, AllocError>
         ensures { IfOk result (λ found. IsStep found self.old self.new) }
     {
         'links: loop {
-            if self.stream.next_pdu() {
+            if let [place, behind @ ..] = self.places {
+                self.places = behind;
+                self.cursor.find(*place)?;
                 return Ok(true);
             }
             let [link, behind @ ..] = self.links else {
                 return Ok(false);
             };
-            self.stream = Stream::begin(link.lines, pdu_pipe(link.kind), &mut self.room)?;
+            self.cursor.enter(link.lines, pdu_pipe(link.kind));
+            self.places = link.places;
             self.links = behind;
         }
     }
-}
 
-/// Counts the PDUs that are left.
-fn count_left(walk: Walk<'_>) -> Result<u32, AllocError>
-    requires { length walk.pdus < 2 ^ 32 }
-    ensures { IfOk result (λ count. count ≡ length walk.entry.pdus) }
-{
-    let mut left = walk;
-    let mut count = 0;
-    'pdus: loop {
-        if !left.next_pdu()? {
-            return Ok(count);
+    /// How many PDUs are left.
+    fn count(&self) -> u32
+        requires { length self.now.pdus < 2 ^ 32 }
+        ensures { result ≡ length self.now.pdus }
+    {
+        let mut count = self.places.len();
+        for link in self.links {
+            count += link.places.len();
         }
-        count += 1;
+        count as u32
     }
 }
 
 /// Whether what was seen on the far legs is a front of what was seen on the near ones, or at which
 /// place it is not.
 ///
-/// Fails where there is no memory for the head of a stream.
+/// Fails where there is no memory for a PDU that stands in more than one line.
 pub(crate) fn compare(far: Walk<'_>, near: Walk<'_>) -> Result<Prefixed, AllocError>
     requires far { length far.pdus < 2 ^ 32 }
     requires near { length near.pdus < 2 ^ 32 }
@@ -120,10 +124,9 @@ pub(crate) fn compare(far: Walk<'_>, near: Walk<'_>) -> Result<Prefixed, AllocEr
     let mut place = 0;
     'pdus: loop {
         if !far.next_pdu()? {
-            let rest = count_left(near)?;
             return Ok(Prefixed::Yes {
                 far: place,
-                near: place + rest,
+                near: place + near.count(),
             });
         }
         if !near.next_pdu()? || far.frame() != near.frame() {

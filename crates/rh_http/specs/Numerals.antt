@@ -1,5 +1,6 @@
 -- the numbers of heads, written out
 use Rattle.std.specs.Prelude.{◌≡◌}
+use Rattle.rh_http.specs.declared.config.TheConstants.{KEEPALIVE}
 use Rattle.rh_http.specs.declared.got.TheConstants.{GREATEST_HEAD, GREATEST_FIELDS}
 use Rattle.rh_http.specs.declared.host.TheConstants.{GREATEST_HOST}
 use Rattle.rh_http.specs.declared.numbers.TheConstants.{LEAST_PORT, GREATEST_PORT, MOST_DIGITS}
@@ -33,3 +34,5 @@ pub record AreFixed : Type 0 where
   pub bad_request : BAD_REQUEST ≡ 400
   pub not_found : NOT_FOUND ≡ 404
   pub service_unavailable : SERVICE_UNAVAILABLE ≡ 503
+  -- a client's keepalive where nothing else is said, in milliseconds (profile)
+  pub keepalive : KEEPALIVE ≡ 300_000

@@ -1,7 +1,12 @@
 //! What a client is to know before it opens a virtual connection.
 
 use crate::host::Host;
+use rh_keep::DEFAULT_LIFETIME;
 use rh_rts::Cookie;
+use rh_window::DEFAULT_WINDOW;
+
+/// A client's keepalive where nothing else is said, in milliseconds (profile).
+pub const KEEPALIVE: u32 = 300_000;
 
 /// A client's virtual connection: its cookies, its limits, its server and its proxy.
 #[derive(Clone, Copy, Debug, PartialEq, Eq)]
@@ -22,4 +27,38 @@ pub struct ClientConfig {
     pub port: u16,
     /// The proxy.
     pub proxy_host: Host,
+}
+
+impl ClientConfig {
+    ghost use Rattle.std.specs.Prelude.{◌≡◌};
+    ghost use Rattle.rh_keep.specs.Lifetimes.{IsLifetime};
+    ghost use Rattle.rh_window.specs.Sides.{IsWindow};
+
+    /// A virtual connection of these cookies to a port of the host by the proxy, with the window,
+    /// the lifetime and the keepalive that stand where nothing else is said (profile).
+    pub fn new(
+        connection: Cookie,
+        group: Cookie,
+        host: Host,
+        port: u16,
+        proxy_host: Host,
+    ) -> ClientConfig
+        ensures cookies { (result.connection ≡ connection) × (result.group ≡ group) }
+        ensures server { (result.host ≡ host) × (result.port ≡ port) }
+        ensures proxy { result.proxy_host ≡ proxy_host }
+        ensures window { (result.window ≡ DEFAULT_WINDOW) × IsWindow result.window }
+        ensures lifetime { (result.lifetime ≡ DEFAULT_LIFETIME) × IsLifetime result.lifetime }
+        ensures keepalive { result.keepalive ≡ KEEPALIVE }
+    {
+        ClientConfig {
+            connection,
+            group,
+            window: DEFAULT_WINDOW,
+            lifetime: DEFAULT_LIFETIME,
+            keepalive: KEEPALIVE,
+            host,
+            port,
+            proxy_host,
+        }
+    }
 }

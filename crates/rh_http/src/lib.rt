@@ -20,7 +20,7 @@ pub mod response;
 mod target;
 pub mod writing;
 
-pub use config::ClientConfig;
+pub use config::{ClientConfig, KEEPALIVE};
 pub use end::HeadEnd;
 pub use fault::{HostFault, HttpFault};
 pub use got::Got;

@@ -7,7 +7,8 @@ use rh_http::Host;
 use rh_line::{Leg, LegKind, RecvLine, Which};
 use rh_rts::{Cookie, NO_COOKIE};
 use rh_shell::{FORWARDED_ROOM, Waiting};
-use rh_window::SendWindow;
+use rh_sig::ranges::DEFAULT_TIMEOUT;
+use rh_window::{DEFAULT_WINDOW, SendWindow};
 use std::alloc::{AllocError, Global};
 use std::marker::Model;
 
@@ -22,6 +23,29 @@ pub struct InProxyConfig {
     pub timeout: u32,
     /// The address of the client.
     pub address: [u8; 4],
+}
+
+impl InProxyConfig {
+    ghost use Rattle.std.specs.Prelude.{◌≡◌, ◌≤◌};
+    ghost use Rattle.rh_inproxy.specs.State.{IsConfig};
+
+    /// That of the channel `number` and of a client there, with the window and the timeout that
+    /// stand where nothing else is said (profile).
+    pub fn new(number: u32, address: [u8; 4]) -> InProxyConfig
+        requires { 1 ≤ number }
+        ensures number { result.number ≡ number }
+        ensures address { result.address ≡ address }
+        ensures window { result.window ≡ DEFAULT_WINDOW }
+        ensures timeout { result.timeout ≡ DEFAULT_TIMEOUT }
+        ensures in_range { IsConfig result }
+    {
+        InProxyConfig {
+            number,
+            window: DEFAULT_WINDOW,
+            timeout: DEFAULT_TIMEOUT,
+            address,
+        }
+    }
 }
 
 /// The server that the first request names.

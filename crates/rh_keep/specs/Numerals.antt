@@ -2,6 +2,7 @@
 use Rattle.std.specs.Prelude.{◌≡◌}
 use Rattle.rh_keep.specs.declared.meter.TheConstants.{RESERVE, REPLACED_BEFORE}
 use Rattle.rh_keep.specs.declared.range.TheConstants.{LEAST_LIFETIME, GREATEST_LIFETIME}
+use Rattle.rh_keep.specs.declared.range.TheConstants.{DEFAULT_LIFETIME}
 
 pub record AreFixed : Type 0 where
   -- what is kept for the packets of replacement and of the end (profile)
@@ -11,3 +12,5 @@ pub record AreFixed : Type 0 where
   -- the range of a lifetime (profile)
   pub least_lifetime : LEAST_LIFETIME ≡ 131_072
   pub greatest_lifetime : GREATEST_LIFETIME ≡ 2_147_483_648
+  -- the lifetime where nothing else is said (profile)
+  pub default_lifetime : DEFAULT_LIFETIME ≡ 1_073_741_824

@@ -11,4 +11,4 @@ pub use idle::Idle;
 pub use laws::meter_adds_up;
 pub use meter::{Meter, REPLACED_BEFORE, RESERVE};
 pub use numerals::numbers_are_fixed;
-pub use range::{GREATEST_LIFETIME, LEAST_LIFETIME};
+pub use range::{DEFAULT_LIFETIME, GREATEST_LIFETIME, LEAST_LIFETIME};

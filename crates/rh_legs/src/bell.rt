@@ -6,17 +6,17 @@ ghost use Rattle.rh_machines.specs.declared.event.NodeEvent.TheVariants as event
 ghost use Rattle.rh_machines.specs.declared.event.NodeReply.{NodeReply as Reply};
 ghost use Rattle.rh_machines.specs.declared.event.NodeReply.TheVariants as reply;
 
-use crate::called::{ALL, Called, Concern, NONE, WRITERS, concern_behind, concern_of};
+use crate::called::{ALL, Called, Concern, NONE, WORKERS, concern_behind, concern_of};
 use rh_line::{Leg, LegKind, State};
 use rh_machines::{Node, NodeEvent, NodeReply};
 use rh_turn::{Seat, Turn};
 use std::sync::{Condvar, CondvarTimeouts, Mutex, Wait};
 use std::time::{Clock, Duration};
 
-/// For how many events behind one that concerns everybody all writers are called at each.
+/// For how many events behind one that concerns everybody all but the keeper are called at each.
 const ATTENTIVE: u32 = 64;
 
-/// At how many events behind each other writers are passed over at most.
+/// At how many events behind each other jobs are passed over at most.
 const PASSED_OVER: u32 = 16;
 
 /// What a job waits for.
@@ -46,7 +46,7 @@ struct Counts {
     owed: Called,
     // How many events came behind the last one that concerned everybody.
     calm: u32,
-    // At how many events writers were passed over since all of them were called.
+    // At how many events jobs were passed over since all of them were called.
     passed_over: u32,
     // Whether the keeper looks at the node again.
     is_kept: bool,
@@ -102,7 +102,7 @@ impl Counts {
                 self.passed_over = self.passed_over.saturating_add(1);
                 if self.is_attentive() {
                     self.passed_over = 0;
-                    called.and(WRITERS)
+                    called.and(WORKERS)
                 } else {
                     called
                 }
@@ -115,12 +115,12 @@ impl Counts {
         }
     }
 
-    // Whether all writers are called, whomever an event mostly concerns.
+    // Whether all but the keeper are called, whomever an event mostly concerns.
     fn is_attentive(&self) -> bool {
         self.calm <= ATTENTIVE || PASSED_OVER <= self.passed_over || !self.is_kept
     }
 
-    // The keeper looks, and finds this. It calls the writers that were passed over.
+    // The keeper looks, and finds this. It calls the jobs that were passed over.
     fn looked(&mut self, found: &NodeReply) -> Called {
         if matches!(found, NodeReply::State(State::Ended | State::Closed(_))) {
             self.is_kept = false;
@@ -129,7 +129,7 @@ impl Counts {
             return NONE;
         }
         self.passed_over = 0;
-        WRITERS
+        WORKERS
     }
 
     // Whom an event of this concern calls, which was replied so to a job that waits for `call`.
@@ -148,9 +148,9 @@ impl Counts {
 /// looks again and again. It learns under the same lock how often it was called up to its event,
 /// and sleeps only where it wasn't called since; so it misses no call.
 ///
-/// While PDUs pass, most events concern one writer, and only that one is called. The others are
-/// called at each 16th of these events, and when the keeper looks at the node; and at each event at
-/// first, behind one that concerns everybody, as that a leg is up.
+/// While PDUs pass, most events concern one writer, the taker or the giver, and the keeper, and only
+/// those are called. The others are called at each 16th of these events, and when the keeper looks at
+/// the node; and at each event at first, behind one that concerns everybody, as that a leg is up.
 #[derive(Drop)]
 pub struct Bell {
     counts: Mutex<Counts>,

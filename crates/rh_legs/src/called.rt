@@ -26,21 +26,21 @@ pub(crate) const NONE: Called = Called {
     keeps: false,
 };
 
-/// All writers.
-pub(crate) const WRITERS: Called = Called {
+/// Everybody but the keeper.
+pub(crate) const WORKERS: Called = Called {
     client_out: true,
     out_server: true,
     client_in: true,
     in_server: true,
+    takes: true,
+    gives: true,
     ..NONE
 };
 
 /// Everybody.
 pub(crate) const ALL: Called = Called {
-    takes: true,
-    gives: true,
     keeps: true,
-    ..WRITERS
+    ..WORKERS
 };
 
 impl Called {
@@ -91,6 +91,22 @@ pub(crate) enum Concern {
     Everybody,
 }
 
+/// On legs of which kind the PDUs come that an end takes.
+fn kind_of_taken(role: Role) -> LegKind {
+    match role {
+        Role::Server => LegKind::InServer,
+        _ => LegKind::ClientOut,
+    }
+}
+
+/// On legs of which kind the PDUs go that an end is given.
+fn kind_of_given(role: Role) -> LegKind {
+    match role {
+        Role::Server => LegKind::OutServer,
+        _ => LegKind::ClientIn,
+    }
+}
+
 /// The writers who mostly have something to draw behind a piece that came on a leg: PDUs, or the
 /// acknowledgements that it brought.
 fn writers_behind_bytes(role: Role, leg: Leg) -> Called {
@@ -122,14 +138,6 @@ fn writers_behind_take(role: Role) -> Called {
     }
 }
 
-/// On which leg an end puts the PDUs that it is given.
-fn writers_behind_give(role: Role) -> Called {
-    match role {
-        Role::Server => writers(LegKind::OutServer),
-        _ => writers(LegKind::ClientIn),
-    }
-}
-
 /// Whom an event concerns, before its reply is known.
 pub(crate) fn concern_of(role: Role, event: &NodeEvent) -> Concern {
     match event {
@@ -140,13 +148,12 @@ pub(crate) fn concern_of(role: Role, event: &NodeEvent) -> Concern {
         | NodeEvent::Close
         | NodeEvent::Recycle => Concern::Everybody,
         NodeEvent::Bytes { leg, .. } => Concern::Mostly(Called {
-            takes: true,
-            gives: true,
+            takes: leg.kind == kind_of_taken(role),
             keeps: true,
             ..writers_behind_bytes(role, *leg)
         }),
         NodeEvent::Draw { leg, .. } => Concern::Mostly(Called {
-            gives: true,
+            gives: leg.kind == kind_of_given(role),
             keeps: true,
             ..writers_behind_draw(role, *leg)
         }),
@@ -154,7 +161,7 @@ pub(crate) fn concern_of(role: Role, event: &NodeEvent) -> Concern {
             keeps: true,
             ..writers_behind_take(role)
         }),
-        NodeEvent::Give(_) => Concern::Mostly(writers_behind_give(role)),
+        NodeEvent::Give(_) => Concern::Mostly(writers(kind_of_given(role))),
         NodeEvent::Wants(_) | NodeEvent::Finished(_) | NodeEvent::State | NodeEvent::Target => {
             Concern::Nobody
         }

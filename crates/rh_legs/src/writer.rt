@@ -92,7 +92,7 @@ fn draw<M: Node, R: Wait>(
 ) -> (Piece, u64)
     requires { seat.old.turn ≡ turn.now.id }
     ensures acts { Acts M.next M.reply turn.now.first
-        (event.Draw leg 4096) (reply.Drawn result.0) seat.old seat.new }
+        (event.Draw leg 32768) (reply.Drawn result.0) seat.old seat.new }
     ensures turn { seat.new.turn ≡ seat.old.turn }
 {
     let room = DrawRoom::new(PIECE_ROOM as u16, room);

@@ -6,7 +6,7 @@ use std::alloc::{AllocError, Global};
 use std::marker::Model;
 
 /// The most bytes of a piece.
-pub const PIECE_ROOM: usize = 4096;
+pub const PIECE_ROOM: usize = 32768;
 
 /// The room of a piece, on the heap.
 pub type PieceRoom = Box<[u8; PIECE_ROOM]>;
@@ -18,7 +18,7 @@ pub fn piece_room(alloc: Global) -> Result<PieceRoom, AllocError> {
     Ok(Box::new(alloc, [0; PIECE_ROOM])?)
 }
 
-/// Bytes that came on a leg or go there, 4,096 at most. Contracts see the bytes.
+/// Bytes that came on a leg or go there, 32,768 at most. Contracts see the bytes.
 #[derive(Drop)]
 pub struct Piece {
     len: u16,
@@ -32,13 +32,13 @@ impl Model for Piece {
 
     ghost view = { λ p. take p.len p.room.value };
 
-    ghost invariant = { λ p. p.len ≤ 4096 };
+    ghost invariant = { λ p. p.len ≤ 32768 };
 }
 
 impl Piece {
     /// The first `len` bytes of a room.
     pub fn new(len: usize, room: PieceRoom) -> Piece
-        requires { len ≤ 4096 }
+        requires { len ≤ 32768 }
         ensures { result ≡ take len room.value }
     {
         Piece {
@@ -74,13 +74,13 @@ impl Model for DrawRoom {
 
     ghost view = { λ r. r.most };
 
-    ghost invariant = { λ r. r.most ≤ 4096 };
+    ghost invariant = { λ r. r.most ≤ 32768 };
 }
 
 impl DrawRoom {
-    /// A room for `most` bytes, or for 4,096 where that is fewer.
+    /// A room for `most` bytes, or for 32,768 where that is fewer.
     pub fn new(most: u16, room: PieceRoom) -> DrawRoom
-        ensures { result ≡ min most 4096 }
+        ensures { result ≡ min most 32768 }
     {
         DrawRoom {
             most: most.min(PIECE_ROOM as u16),
@@ -91,7 +91,7 @@ impl DrawRoom {
     /// How many bytes may be drawn, and the room.
     pub fn into_parts(self) -> (usize, PieceRoom)
         ensures most { result.0 ≡ self }
-        ensures fits { result.0 ≤ 4096 }
+        ensures fits { result.0 ≤ 32768 }
     {
         (usize::from(self.most), self.room)
     }

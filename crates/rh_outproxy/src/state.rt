@@ -1,10 +1,12 @@
 //! What an out proxy keeps, without the bytes of its legs.
 
 use rh_http::{Host, Request};
+use rh_keep::DEFAULT_LIFETIME;
 use rh_line::{Leg, LegKind, RecvLine, Which};
 use rh_rts::Cookie;
 use rh_shell::{FORWARDED_ROOM, Phase, Waiting};
-use rh_window::SendWindow;
+use rh_sig::ranges::DEFAULT_TIMEOUT;
+use rh_window::{DEFAULT_WINDOW, SendWindow};
 use std::alloc::{AllocError, Global};
 use std::marker::Model;
 
@@ -19,6 +21,28 @@ pub struct OutProxyConfig {
     pub lifetime: u32,
     /// Its connection timeout, in milliseconds: 120,000 to 14,400,000.
     pub timeout: u32,
+}
+
+impl OutProxyConfig {
+    ghost use Rattle.std.specs.Prelude.{◌≡◌};
+    ghost use Rattle.rh_sig.specs.Values.{IsLifetime, IsTimeout};
+    ghost use Rattle.rh_window.specs.Sides.{IsWindow};
+
+    /// That of the channel `number`, with the window, the lifetime and the timeout that stand
+    /// where nothing else is said (profile).
+    pub fn new(number: u32) -> OutProxyConfig
+        ensures number { result.number ≡ number }
+        ensures window { (result.window ≡ DEFAULT_WINDOW) × IsWindow result.window }
+        ensures lifetime { (result.lifetime ≡ DEFAULT_LIFETIME) × IsLifetime result.lifetime }
+        ensures timeout { (result.timeout ≡ DEFAULT_TIMEOUT) × IsTimeout result.timeout }
+    {
+        OutProxyConfig {
+            number,
+            window: DEFAULT_WINDOW,
+            lifetime: DEFAULT_LIFETIME,
+            timeout: DEFAULT_TIMEOUT,
+        }
+    }
 }
 
 /// The leg from the client.

@@ -2,7 +2,6 @@
 use Rattle.std.specs.Prelude.{◌≡◌}
 use Rattle.rh_role_words.specs.declared.form.TheConstants.{MOST_CHANNELS}
 use Rattle.rh_role_words.specs.declared.addresses.TheConstants.{COLON, COMMA, MOST_MORE}
-use Rattle.rh_role_words.specs.declared.configs.TheConstants.{WINDOW, LIFETIME, TIMEOUT, KEEPALIVE}
 
 pub record AreFixed : Type 0 where
   -- the most channels of a proxy, and addresses of a word behind the first (profile)
@@ -11,9 +10,3 @@ pub record AreFixed : Type 0 where
   -- what stands between a host and its port, and between two addresses: `:` and `,` (profile)
   pub colon : COLON ≡ 58
   pub comma : COMMA ≡ 44
-  -- the numbers of a role by default: bytes of a window and of a lifetime, milliseconds of a
-  -- connection timeout and of a keepalive (profile)
-  pub window : WINDOW ≡ 65_536
-  pub lifetime : LIFETIME ≡ 1_073_741_824
-  pub timeout : TIMEOUT ≡ 120_000
-  pub keepalive : KEEPALIVE ≡ 300_000

@@ -8,25 +8,19 @@ ghost use Rattle.rh_window.specs.Sides.{IsWindow};
 ghost use Rattle.rh_sig.specs.Values.{IsLifetime, IsTimeout};
 
 use crate::addresses::HostPort;
-use rh_http::{ClientConfig, Host};
+use rh_http::{ClientConfig, Host, KEEPALIVE};
 use rh_inproxy::InProxyConfig;
 use rh_io::NoMemory;
+use rh_keep::DEFAULT_LIFETIME;
 use rh_outproxy::OutProxyConfig;
 use rh_rts::Cookie;
 use rh_server::ServerConfig;
+use rh_sig::ranges::DEFAULT_TIMEOUT;
+use rh_window::DEFAULT_WINDOW;
 use std::alloc::Global;
 
 /// The address of a client that a running in proxy tells: it knows none.
 const UNKNOWN_ADDRESS: [u8; 4] = [0; 4];
-
-/// The size of a receive window by default, in bytes.
-pub const WINDOW: u32 = 65_536;
-/// The lifetime of a channel by default, in bytes.
-pub const LIFETIME: u32 = 1_073_741_824;
-/// The connection timeout of a proxy by default, in milliseconds.
-pub const TIMEOUT: u32 = 120_000;
-/// The keepalive of a client by default, in milliseconds.
-pub const KEEPALIVE: u32 = 300_000;
 
 /// The numbers of a node.
 #[derive(Clone, Copy, Debug)]
@@ -47,15 +41,15 @@ pub struct Limits {
 impl Limits {
     /// The numbers that a role has where nothing else is said (profile).
     pub fn by_default() -> Limits
-        ensures window { result.window ≡ WINDOW }
-        ensures lifetime { result.lifetime ≡ LIFETIME }
-        ensures timeout { result.timeout ≡ TIMEOUT }
+        ensures window { result.window ≡ DEFAULT_WINDOW }
+        ensures lifetime { result.lifetime ≡ DEFAULT_LIFETIME }
+        ensures timeout { result.timeout ≡ DEFAULT_TIMEOUT }
         ensures keepalive { result.keepalive ≡ KEEPALIVE }
     {
         Limits {
-            window: WINDOW,
-            lifetime: LIFETIME,
-            timeout: TIMEOUT,
+            window: DEFAULT_WINDOW,
+            lifetime: DEFAULT_LIFETIME,
+            timeout: DEFAULT_TIMEOUT,
             keepalive: KEEPALIVE,
         }
     }

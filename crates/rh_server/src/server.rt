@@ -65,6 +65,7 @@ use rh_shell::{
     Role, Rooms, Shell,
 };
 use rh_sig::{Named, Pipe};
+use rh_window::DEFAULT_WINDOW;
 use std::alloc::{AllocError, Global};
 use std::marker::Model;
 
@@ -73,6 +74,20 @@ use std::marker::Model;
 pub struct ServerConfig {
     /// The size of the receive window of each IN channel, in bytes: 8,192 to 262,144.
     pub window: u32,
+}
+
+impl ServerConfig {
+    ghost use Rattle.std.specs.Prelude.{◌≡◌};
+    ghost use Rattle.rh_window.specs.Sides.{IsWindow};
+
+    /// With the window that stands where nothing else is said (profile).
+    pub fn new() -> ServerConfig
+        ensures { (result.window ≡ DEFAULT_WINDOW) × IsWindow result.window }
+    {
+        ServerConfig {
+            window: DEFAULT_WINDOW,
+        }
+    }
 }
 
 /// Four legs of each kind that a server has may be unfinished.

@@ -10,6 +10,7 @@ use Rattle.rh_sig.specs.declared.lengths.TheConstants.{OUT_R1_A1_LEN, OUT_R1_A5_
 use Rattle.rh_sig.specs.declared.lengths.TheConstants.{OUT_R1_A9_LEN, END_A1_LEN, END_B1_LEN}
 use Rattle.rh_sig.specs.declared.lengths.TheConstants.{ACK_TO_LEN, PING_LEN, GREATEST_NAMED_LEN}
 use Rattle.rh_sig.specs.declared.ranges.TheConstants.{LEAST_TIMEOUT, GREATEST_TIMEOUT}
+use Rattle.rh_sig.specs.declared.ranges.TheConstants.{DEFAULT_TIMEOUT}
 use Rattle.rh_sig.specs.declared.ranges.TheConstants.{DEFAULT_KEEPALIVE, LEAST_KEEPALIVE}
 use Rattle.rh_sig.specs.declared.ranges.TheConstants.{GREATEST_KEEPALIVE, PROTOCOL_VERSION}
 use Rattle.rh_sig.specs.declared.name.Name.{Name}
@@ -63,6 +64,7 @@ pub record AreFixed : Type 0 where
   -- timeouts and keepalives, in milliseconds; 0 stands for the keepalive by default (profile)
   pub least_timeout : LEAST_TIMEOUT ≡ 120_000
   pub greatest_timeout : GREATEST_TIMEOUT ≡ 14_400_000
+  pub default_timeout : DEFAULT_TIMEOUT ≡ 120_000
   pub default_keepalive : DEFAULT_KEEPALIVE ≡ 0
   pub least_keepalive : LEAST_KEEPALIVE ≡ 60_000
   pub greatest_keepalive : GREATEST_KEEPALIVE ≡ 4_294_967_295

@@ -17,6 +17,8 @@ use rh_window::{GREATEST_WINDOW, LEAST_WINDOW};
 pub const LEAST_TIMEOUT: u32 = 120_000;
 /// The greatest connection timeout, in milliseconds.
 pub const GREATEST_TIMEOUT: u32 = 14_400_000;
+/// The connection timeout where nothing else is said, in milliseconds.
+pub const DEFAULT_TIMEOUT: u32 = 120_000;
 /// The keepalive interval that stands for the one agreed by default.
 pub const DEFAULT_KEEPALIVE: u32 = 0;
 /// The least other keepalive interval, in milliseconds.

@@ -7,7 +7,7 @@ ghost use Rattle.rh_io.specs.Counts.{Rose};
 use rh_io::{Source, SourceFailed};
 use std::marker::Model;
 
-/// The most bytes that are read of a leg before it is up: as many as a piece has.
+/// The most bytes that are read of a leg before it is up. A piece has room for them.
 pub const FIRST_ROOM: usize = 4096;
 
 /// What was read of a leg before it is up, at most 4,096 bytes. Contracts see the bytes.

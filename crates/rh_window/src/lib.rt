@@ -12,6 +12,6 @@ pub mod send_window;
 pub use fault::{BadAck, WindowExceeded};
 pub use laws::{hop_goes_on, hop_is_announced, hop_is_honest, hop_is_kept};
 pub use numerals::numbers_are_fixed;
-pub use range::{GREATEST_WINDOW, LEAST_WINDOW};
+pub use range::{DEFAULT_WINDOW, GREATEST_WINDOW, LEAST_WINDOW};
 pub use recv_window::{Ack, RecvWindow};
 pub use send_window::SendWindow;

@@ -4,3 +4,5 @@
 pub const LEAST_WINDOW: u32 = 8_192;
 /// The greatest receive window, in bytes.
 pub const GREATEST_WINDOW: u32 = 262_144;
+/// The receive window where nothing else is said, in bytes.
+pub const DEFAULT_WINDOW: u32 = 65_536;

@@ -1,11 +1,13 @@
 -- the numbers of a world (profile)
 use Rattle.std.specs.Prelude.{ℕ, true, false, IsTrue, if◌then◌else◌, ◌==◌}
+use Rattle.rh_window.specs.declared.range.TheConstants.{DEFAULT_WINDOW}
+use Rattle.rh_keep.specs.declared.range.TheConstants.{DEFAULT_LIFETIME}
+use Rattle.rh_sig.specs.declared.ranges.TheConstants.{DEFAULT_TIMEOUT}
+use Rattle.rh_http.specs.declared.config.TheConstants.{KEEPALIVE}
 use Rattle.rh_record.specs.declared.line.Key.{Key}
 use Rattle.rh_record.specs.declared.line.Key.TheVariants.{Cwin, Iwin, Owin, Swin, Ilife, Olife, Itime, Otime, Keep, Same}
 use Rattle.rh_record.specs.Words.{takes}
 use Rattle.rh_world.specs.declared.config.WorldConfig.{WorldConfig}
-use Rattle.rh_world.specs.declared.config.TheConstants.{DEFAULT_WINDOW, DEFAULT_LIFETIME}
-use Rattle.rh_world.specs.declared.config.TheConstants.{DEFAULT_TIMEOUT, KEEPALIVE}
 
 -- each number is a value of its key
 pub record AreInRange (config : WorldConfig) : Type 0 where

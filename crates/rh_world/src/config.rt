@@ -1,18 +1,10 @@
 //! What a world is made by.
 
+use rh_http::KEEPALIVE;
+use rh_keep::DEFAULT_LIFETIME;
 use rh_record::Key;
-
-/// The receive window that stands where no line sets one, in bytes.
-pub const DEFAULT_WINDOW: u32 = 65_536;
-
-/// The channel lifetime that stands where no line sets one, in bytes.
-pub const DEFAULT_LIFETIME: u32 = 1_073_741_824;
-
-/// The connection timeout that stands where no line sets one, in milliseconds.
-pub const DEFAULT_TIMEOUT: u32 = 120_000;
-
-/// The client's keepalive where no line sets one, in milliseconds.
-pub const KEEPALIVE: u32 = 300_000;
+use rh_sig::ranges::DEFAULT_TIMEOUT;
+use rh_window::DEFAULT_WINDOW;
 
 /// The numbers of a world, each named by its key, and whether it is a direct one. A direct world
 /// uses none of the numbers.

@@ -7,13 +7,12 @@ use Rattle.rh_server.specs.declared.state.Replacement.TheVariants as replacement
 use Rattle.rh_server.specs.declared.state.Stage.TheVariants as stage
 use Rattle.rh_server.specs.declared.out_line.Kind.TheVariants as kinds
 use Rattle.rh_server.specs.OutLines as lines
-use Rattle.law_moves.proofs.Vocabulary.{by_test, Cookie, Named, front_length, LegKind, ClientOut, OutServer, ClientIn, InServer, Which, Current, Next, after_finish, after_take, Count, Due, RecycleRefused, Message, Waiting, added, with_due, without_first}
+use Rattle.law_moves.proofs.Vocabulary.{by_test, Cookie, Named, front_length, Leg, LegKind, ClientOut, OutServer, ClientIn, InServer, Which, Current, Next, after_finish, after_take, Count, Due, RecycleRefused, Message, Waiting, added, with_due, without_first}
 use Rattle.law_role_server.proofs.Vocabulary.{Shut, InLeg, InStage, OutLeg, Replacement, Stage, Kind, is_ack_of, kind_of, lets, Server, in_leg, is_due, is_fresh, is_open, is_steady, out_at, out_place, out_cookie, same_cookie, with_in, without_in, without_out, Done, took, refuse, unexpected, is_first, opens, with_first_in, with_first_out, conn_a2_at, on_conn_a2, conn_b2_at, on_conn_b2, channel_at, announced, becomes_current, first_waiting, hands_over, has_fresh_below}
 use Rattle.law_role_server.proofs.Vocabulary.{in_r1_a2_at, in_r1_a2_by, in_r2_a2_on, leaves_by, moved_if, next_opened, on_in_r1_a2, on_in_r1_a6, on_in_r2_a2, opens_leg, opens_next, take, answered_by, answered_on, asks, confirms, is_asked, is_under_way, last_number, may_answer, on_out_r1_a4, on_out_r1_a8, out_r1_a4_at, out_r1_a4_by, out_r1_a8_at, recycle, wishes, completed, drawn_by, in_is_drawn, lost_in, mark_by, settled, with_ack_dropped, without_ack_of, Pick, or_else}
-use Rattle.law_role_server.proofs.Vocabulary.{counts, gate, gate_at, is_end_due, may_end_at, may_go_at, next_out, out_greeting_at, pdu_by, put_by as put_by_kind, put_end, put_in, put_open, put_out_at, put_out_greeting, put_pdu, put_pdu_or_end, put_waiting, settled_pick, waiting_at, waiting_by, was_put, on_is, on_os, waiting_of}
+use Rattle.law_role_server.proofs.Vocabulary.{counts, counts_at, up, give, pdu, gate, gate_at, is_end_due, may_end_at, may_go_at, next_out, out_greeting_at, pdu_by, put_by as put_by_kind, put_end, put_in, put_open, put_out_at, put_out_greeting, put_pdu, put_pdu_or_end, put_waiting, settled_pick, waiting_at, waiting_by, was_put, on_is, on_os, waiting_of}
 use Rattle.law_role_server.proofs.Counted.Dues.{Went, first_goes}
 use Rattle.law_role_server.proofs.Counted.Adding.{first_out_same, completed_same, first_in_same}
-use Rattle.law_peers_room.proofs.ServerRoom.Forwarded.{counts_same, in_same}
 
 -- ---- where none of a kind waits
 
@@ -38,6 +37,31 @@ fewer test may_go dues = by (find may_go dues) (first_goes test may_go dues)
         → waiting_of test (without_first may_go dues) ≤ waiting_of test dues
     by None same = omega (arith, same)
     by (Some due) less = omega (arith, less)
+
+-- ---- what leaves alone what waits
+
+pub counts_same : (s : Server) (place len : ℕ) → (counts s place len).waiting ≡ s.waiting
+counts_same s place len = by (slice_get s.outs place)
+  where
+    by : (o : Option OutLeg) → (counts_at s place len o).waiting ≡ s.waiting
+    by None = refl
+    by (Some leg) = refl
+
+pub in_same : (s : Server) (n : ℕ)
+    → IfSome (put_in s n) (λ (one : Server × Message). one.0.waiting ≡ s.waiting)
+in_same s n = search rules
+
+pub up_same : (s : Server) (leg : Leg) (cookie : Cookie) → (up s leg cookie).waiting ≡ s.waiting
+up_same s leg cookie = search rules
+
+pub pdu_same : (s : Server) (leg : Leg) (count : Count) (bytes : List ℕ)
+    → (pdu s leg count bytes).0.waiting ≡ s.waiting
+pdu_same s leg count bytes = search rules
+
+pub give_same : (s : Server) (bytes : List ℕ) → (give s bytes).0.waiting ≡ s.waiting
+give_same s bytes = search rules
+
+-- ---- rows
 
 -- a packet of the server's own becomes due where none of its kind waits, and one may go
 pub record Keeps (Right : Waiting → Type 0) : Type 0 where

@@ -4,7 +4,7 @@ use Rattle.law_moves.proofs.Vocabulary.{EndMove, Passage}
 use Rattle.law_role_server.proofs.Vocabulary.{Server, is_in_r1_a3, is_in_r2_a3, out_put, waits_for}
 use Rattle.law_role_server_in.specs.Handovers.{passed}
 use Rattle.law_peers_room.specs.ServerRoom.Overtaking.{AreLong, FewOvertake, answer_bytes, due_bytes, is_ack_for}
-use Rattle.law_peers_forwarding.proofs.ServerFull.Longest.{put_grows}
+use Rattle.law_peers_forwarding.proofs.ServerFull.Grows.{put_grows}
 use Rattle.law_peers_forwarding.specs.ServerFull.Oldest.{Oldest}
 use Rattle.law_peers_forwarding.specs.ServerFull.Taken.{FewAreTaken}
 

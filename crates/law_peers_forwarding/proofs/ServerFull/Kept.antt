@@ -12,9 +12,8 @@ use Rattle.law_role_server.proofs.Counted.Dues.{Went, alone_none, first_goes, on
 use Rattle.law_node_streams.proofs.Streams.EndMoves.{all_end_moved_append}
 use Rattle.law_role_server_in.specs.Handovers.{passed}
 use Rattle.law_peers_room.proofs.InRoom.Turns.{one_is as same_keys}
-use Rattle.law_peers_room.proofs.ServerRoom.Forwarded.{counts_same, give_same, in_same, pdu_same, up_same}
 use Rattle.law_peers_room.specs.ServerRoom.Overtaking.{is_ack_for}
-use Rattle.law_peers_forwarding.proofs.ServerFull.Adding.{Keeps, drawn_serves, fewer, is_row, mark_serves, os_row, recycle_serves, same_serves, settled_serves, take_serves}
+use Rattle.law_peers_forwarding.proofs.ServerFull.Adding.{Keeps, counts_same, drawn_serves, fewer, give_same, in_same, is_row, mark_serves, os_row, pdu_same, recycle_serves, same_serves, settled_serves, take_serves, up_same}
 use Rattle.law_peers_forwarding.specs.ServerFull.Keeping.{ForwardsWhatCame}
 
 -- ---- what waits

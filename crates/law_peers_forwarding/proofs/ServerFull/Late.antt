@@ -1,17 +1,17 @@
 -- of which channels acknowledgements to the client came at a server since a front of its moves
-use Rattle.law_order.proofs.Vocabulary.{◌≡◌, ◌⊎◌, inl, inr, ℕ, suc, ◌+◌, ◌<◌, ◌≤◌, Bool, true, false, if◌then◌else◌, List, [], ◌∷◌, ◌++◌, append_assoc, Ok, Err, Some, None, refl, sym, ap, ◌∙◌, subst, arith, IsPrefix}
-use Rattle.law_moves.proofs.Vocabulary.{test_same, prefix_self, prefix_more, prefix_trans, Cookie, Named, AckTo, Leg, LegKind, ClientOut, OutServer, ClientIn, InServer, Message, Row, Text, Pdu, Packet, count_of, of_kind, EndMove, EndPassage, OnLeg, Passage, all_end_moved, end_started, of_leg, all_read_of}
-use Rattle.law_moves.proofs.Lemmas.{ActsKeep, PutKeeps, RowKeeps, StepsKeep, end_moves_keep, count_append, of_append as leg_append}
+use Rattle.law_order.proofs.Vocabulary.{◌≡◌, ◌⊎◌, inl, inr, ℕ, suc, ◌+◌, ◌<◌, ◌≤◌, Bool, true, false, if◌then◌else◌, List, [], ◌∷◌, ◌++◌, append_assoc, refl, sym, ap, ◌∙◌, subst, arith, IsPrefix}
+use Rattle.law_moves.proofs.Vocabulary.{test_same, prefix_self, prefix_trans, Cookie, Named, AckTo, LegKind, ClientOut, OutServer, ClientIn, InServer, Message, Text, Pdu, Packet, count_of, of_kind, EndMove, OnLeg, Passage, of_leg, all_read_of}
+use Rattle.law_moves.proofs.Lemmas.{count_append, of_append as leg_append}
 use Rattle.law_role_inproxy.proofs.Vocabulary.{InProxy, IsStream, PutsInOrder, is_leg}
-use Rattle.law_role_server.proofs.Vocabulary.{Server, Pick, acts, first, rules, in_came, is_conn_b2, is_in_r1_a2, is_in_r1_a6, is_in_r2_a2, leg_at, often}
+use Rattle.law_role_server.proofs.Vocabulary.{Server, in_came, is_conn_b2, is_in_r1_a2, is_in_r1_a6, is_in_r2_a2, leg_at, often}
 use Rattle.law_role_server_rows.proofs.InTurn.Splits.{kind_append}
-use Rattle.law_node_streams.proofs.Streams.EndMoves.{all_end_moved_append}
 use Rattle.law_peers_moments.proofs.Joining.{is_front}
 use Rattle.law_peers_moments.specs.Moments.{IsJoined, Moves, Numbers, in_behind, passages, server_behind}
 use Rattle.law_peers_expects.proofs.InProxyExpects.Untold.{reader_most as reads_before}
 use Rattle.law_peers_in_channels.specs.InChannels.{passed}
 use Rattle.law_peers_room.specs.ServerRoom.Answered.{AreAnsweredFirst}
 use Rattle.law_peers_room.specs.ServerRoom.Overtaking.{is_ack_for}
+use Rattle.law_peers_forwarding.proofs.ServerFull.Grows.{came_grows}
 use Rattle.law_peers_forwarding.proofs.ServerFull.Longest.{is_for}
 use Rattle.law_peers_forwarding.proofs.ServerFull.Streams.{open_before}
 use Rattle.law_peers_forwarding.specs.ServerFull.Numbered.{AreLate, IsLate}
@@ -61,56 +61,6 @@ stands test (one ∷ log) h = by one.0.number one.0.kind one.1 h (stands test lo
     by n OutServer x h rest = behind_one test (leg_at OutServer n, x) log (rest h)
     by n ClientIn x h rest = behind_one test (leg_at ClientIn n, x) log (rest h)
     by n ClientOut x h rest = behind_one test (leg_at ClientOut n, x) log (rest h)
-
--- ---- what came stays
-
-module _ (all : List OnLeg) where
-  abbrev Holds : Server → List OnLeg → List OnLeg → Type 0
-  Holds s came put = IsPrefix all came
-
-  row_keeps : (one : OnLeg) (came put : List OnLeg) (x : Server × Row) → IsPrefix all came
-      → RowKeeps Holds one came put x
-  row_keeps one came put (t, Ok taken) h =
-      prefix_trans all came (came ++ one ∷ []) h (prefix_more came (one ∷ []))
-  row_keeps one came put (t, Err why) h = h
-
-  put_keeps : (leg : Leg) (came put : List OnLeg) (pick : Pick) → IsPrefix all came
-      → PutKeeps Holds leg came put pick
-  put_keeps leg came put None h = tt
-  put_keeps leg came put (Some one) h = h
-
-  steps : StepsKeep rules Holds
-  steps = record {
-    up = λ s leg cookie came put h. h;
-    head = λ s leg text came put h. h;
-    pdu = λ s leg count bytes came put h.
-        row_keeps (leg, Pdu bytes) came put (rules.pdu s leg count bytes) h;
-    packet = λ s leg count m came put h.
-        row_keeps (leg, Packet m) came put (rules.packet s leg count m) h;
-    put = λ s leg came put h. put_keeps leg came put (rules.put s leg) h;
-    drawn = λ s leg came put h. h;
-    mark = λ s leg came put h. h;
-    ping = λ s leg came put h. h;
-  }
-
-  calls : ActsKeep acts Holds
-  calls = record {
-    give = λ s bytes came put h. h;
-    take = λ s came put h. h;
-    close = λ s came put h. h;
-    recycle = λ s came put h. h;
-  }
-
-pub came_grows : (numbers : Numbers) (front later : List EndMove)
-    → IsPrefix (passed numbers front).came (passed numbers (front ++ later)).came
-came_grows numbers front later =
-    subst (λ (q : Passage Server). IsPrefix (passed numbers front).came q.came)
-    (sym (ap (λ (e : EndPassage Server). e.passage)
-    (all_end_moved_append rules acts (end_started (first numbers.window)) front later)))
-    (end_moves_keep rules (Holds (passed numbers front).came) (steps (passed numbers front).came)
-    acts (calls (passed numbers front).came)
-    (all_end_moved rules acts (end_started (first numbers.window)) front) later
-    (prefix_self (passed numbers front).came))
 
 -- ---- the law
 

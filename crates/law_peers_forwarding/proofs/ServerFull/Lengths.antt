@@ -13,8 +13,7 @@ use Rattle.law_role_server.proofs.Counted.Dues.{Apart, HasOrigin, HaveOrigins, I
 use Rattle.law_peers_moments.proofs.GoingRound.Rounding.{once as once_if}
 use Rattle.law_role_server_in.specs.Handovers.{passed}
 use Rattle.law_peers_room.proofs.ServerRoom.Apart.{one_more}
-use Rattle.law_peers_room.proofs.ServerRoom.Forwarded.{give_same, pdu_same, up_same}
-use Rattle.law_peers_forwarding.proofs.ServerFull.Adding.{Goes, Keeps, all_go, drawn_serves, fewer, is_row, mark_serves, os_row, recycle_serves, same_serves, take_serves}
+use Rattle.law_peers_forwarding.proofs.ServerFull.Adding.{Goes, Keeps, all_go, drawn_serves, fewer, give_same, is_row, mark_serves, os_row, pdu_same, recycle_serves, same_serves, take_serves, up_same}
 
 -- ---- kinds of the server's own packets
 

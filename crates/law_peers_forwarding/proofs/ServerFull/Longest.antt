@@ -1,12 +1,10 @@
 -- the acknowledgement to the client that waits longest at a server
-use Rattle.law_order.proofs.Vocabulary.{◌≡◌, ℕ, zero, suc, ◌+◌, ◌<◌, ◌≤◌, ◌==◌, ◌&&◌, Bool, true, false, if◌then◌else◌, List, [], ◌∷◌, ◌++◌, Some, None, Ok, Err, refl, sym, ap, ◌∙◌, subst, arith, and_parts, false≢true, nat_tests, bytes_eq-Decides, nat_le, bytes_eq}
+use Rattle.law_order.proofs.Vocabulary.{◌≡◌, ℕ, zero, suc, ◌+◌, ◌<◌, ◌≤◌, ◌==◌, ◌&&◌, Bool, true, false, if◌then◌else◌, List, [], ◌∷◌, ◌++◌, refl, sym, ap, ◌∙◌, subst, arith, and_parts, false≢true, nat_tests, bytes_eq-Decides, nat_le, bytes_eq}
 use Rattle.rh_sig.specs.declared.named.Named.TheVariants as named
-use Rattle.law_moves.proofs.Vocabulary.{same_number, Cookie, Named, Leg, OutServer, Due, Row, Pdu, Packet, count_of, of_kind, EndMove, EndPassage, OnLeg, Passage, all_end_moved, end_moved, end_started}
-use Rattle.law_moves.proofs.Lemmas.{ActsKeep, PutKeeps, RowKeeps, StepsKeep, end_moves_keep, count_append, kind_more}
+use Rattle.law_moves.proofs.Vocabulary.{same_number, Cookie, Named, Due, EndMove, EndPassage, Passage, all_end_moved, end_moved, end_started}
 use Rattle.law_role_inproxy.proofs.LegibleKeeps.{at_most as at_least}
-use Rattle.law_role_server.proofs.Vocabulary.{Server, Pick, acts, first, rules, in_came, is_ack_to, often, out_put, waiting_of, waits_for}
+use Rattle.law_role_server.proofs.Vocabulary.{Server, acts, first, rules, in_came, is_ack_to, out_put, waiting_of, waits_for}
 use Rattle.law_node_causes.proofs.InProxyLegs.{within as at_most_then}
-use Rattle.law_node_streams.proofs.Streams.EndMoves.{all_end_moved_append}
 use Rattle.law_peers_moments.specs.GoingRound.{taken_in}
 use Rattle.law_role_server_in.specs.Handovers.{passed}
 use Rattle.law_peers_in_channels.proofs.ServerExpects.Fronts.{behind_all}
@@ -14,63 +12,10 @@ use Rattle.law_peers_in_channels.proofs.InHandovers.Crossing.{Crossing, crossing
 use Rattle.law_peers_room.proofs.ServerRoom.Ahead.{same_cookies}
 use Rattle.law_peers_room.specs.ServerRoom.Forwarding.{ForwardsAcks}
 use Rattle.law_peers_room.specs.ServerRoom.Overtaking.{is_ack_for}
+use Rattle.law_peers_forwarding.proofs.ServerFull.Grows.{put_grows}
 use Rattle.law_peers_forwarding.proofs.ServerFull.Kept.{what_came}
 use Rattle.law_peers_forwarding.proofs.ServerFull.Quiet.{quiet_by}
 use Rattle.law_peers_forwarding.specs.ServerFull.Oldest.{HasOldest, Oldest, due_in}
-
--- ---- no less was put later
-
-module _ (test : Named → Bool) (least : ℕ) where
-  abbrev Holds : Server → List OnLeg → List OnLeg → Type 0
-  Holds s came put = least ≤ often test OutServer put
-
-  row_keeps : (one : OnLeg) (came put : List OnLeg) (x : Server × Row)
-      → least ≤ often test OutServer put → RowKeeps Holds one came put x
-  row_keeps one came put (t, Ok taken) h = h
-  row_keeps one came put (t, Err why) h = h
-
-  put_keeps : (leg : Leg) (came put : List OnLeg) (pick : Pick)
-      → least ≤ often test OutServer put → PutKeeps Holds leg came put pick
-  put_keeps leg came put None h = tt
-  put_keeps leg came put (Some one) h =
-      let more : often test OutServer (put ++ (leg, one.1) ∷ [])
-      ≡ often test OutServer put + count_of test (of_kind OutServer ((leg, one.1) ∷ [])) =
-      ap (count_of test) (kind_more OutServer put (leg, one.1))
-      ∙ count_append test (of_kind OutServer put) (of_kind OutServer ((leg, one.1) ∷ [])) in
-      omega (arith, h, more)
-
-  steps : StepsKeep rules Holds
-  steps = record {
-    up = λ s leg cookie came put h. h;
-    head = λ s leg text came put h. h;
-    pdu = λ s leg count bytes came put h.
-        row_keeps (leg, Pdu bytes) came put (rules.pdu s leg count bytes) h;
-    packet = λ s leg count m came put h.
-        row_keeps (leg, Packet m) came put (rules.packet s leg count m) h;
-    put = λ s leg came put h. put_keeps leg came put (rules.put s leg) h;
-    drawn = λ s leg came put h. h;
-    mark = λ s leg came put h. h;
-    ping = λ s leg came put h. h;
-  }
-
-  calls : ActsKeep acts Holds
-  calls = record {
-    give = λ s bytes came put h. h;
-    take = λ s came put h. h;
-    close = λ s came put h. h;
-    recycle = λ s came put h. h;
-  }
-
-pub put_grows : (test : Named → Bool) (window : ℕ) (front later : List EndMove)
-    → out_put test (passed window front) ≤ out_put test (passed window (front ++ later))
-put_grows test window front later =
-    subst (λ (q : Passage Server). out_put test (passed window front) ≤ out_put test q)
-    (sym (ap (λ (e : EndPassage Server). e.passage)
-    (all_end_moved_append rules acts (end_started (first window)) front later)))
-    (end_moves_keep rules (Holds test (out_put test (passed window front)))
-    (steps test (out_put test (passed window front))) acts
-    (calls test (out_put test (passed window front)))
-    (all_end_moved rules acts (end_started (first window)) front) later (omega arith))
 
 -- ---- one that waits
 

@@ -1,41 +1,24 @@
 -- few answers overtake an acknowledgement to the client that waits at a server, whatever happens
-use Rattle.law_order.proofs.Vocabulary.{◌≡◌, ℕ, suc, ◌+◌, ◌*◌, ◌≤◌, Bool, true, false, if◌then◌else◌, List, [], ◌∷◌, ◌++◌, length, Some, None, Ok, Err, refl, sym, ap, ◌∙◌, subst, rules, arith, append-nil, IfSome, AllByRecursion}
+use Rattle.law_order.proofs.Vocabulary.{◌≡◌, ℕ, suc, ◌+◌, ◌*◌, ◌≤◌, Bool, true, false, if◌then◌else◌, List, [], ◌∷◌, ◌++◌, length, Some, None, Ok, Err, refl, sym, ap, ◌∙◌, subst, arith, append-nil, IfSome, AllByRecursion}
 use Rattle.rh_sig.specs.declared.named.Named.TheVariants as named
-use Rattle.law_moves.proofs.Vocabulary.{Cookie, Named, Leg, LegKind, ClientOut, OutServer, ClientIn, InServer, Message, Text, Pdu, Packet, Waiting, OnLeg, EndMove, EndPassage, Passage, all_end_moved, end_started, count_of, of_kind}
+use Rattle.law_moves.proofs.Vocabulary.{Cookie, Named, Leg, LegKind, ClientOut, OutServer, ClientIn, InServer, Message, Text, Pdu, Packet, OnLeg, EndMove, EndPassage, Passage, all_end_moved, end_started, count_of, of_kind}
 use Rattle.law_moves.proofs.Lemmas.{ActsKeep, PutKeeps, RowKeeps, StepsKeep, end_moves_keep, count_append, kind_more}
-use Rattle.law_role_server.proofs.Vocabulary.{OutLeg, Replacement, Stage, Server, no_cookie, out_place, Done, up, take, recycle, close, give, drawn_by, mark_by, Pick, put_in, put_out_at, put_by as put_by_kind, acts, first, packet_by, pdu, rules as server_rules, is_in_r1_a3, is_in_r2_a3, leg_at, often}
+use Rattle.law_role_server.proofs.Vocabulary.{OutLeg, Server, no_cookie, out_place, Done, up, take, recycle, close, give, drawn_by, mark_by, Pick, put_in, put_out_at, put_by as put_by_kind, acts, first, packet_by, pdu, rules as server_rules, is_in_r1_a3, is_in_r2_a3, leg_at, often}
 use Rattle.law_node_streams.proofs.Streams.EndMoves.{all_end_moved_append}
 use Rattle.law_role_server_in.specs.Handovers.{passed}
 use Rattle.law_peers_room.proofs.ServerRoom.Legs.{Sorted}
-use Rattle.law_peers_room.proofs.ServerRoom.Meters.{Seen, Phase, InTurn, IsRefused, HasRoom, IsTotal, IsKept, seen, is_begun, is_answered, Base, Kept, Fine}
-use Rattle.law_peers_room.proofs.ServerRoom.Serving.{LongServes, drawn_serves, give_serves, mark_serves, packet_row, pdu_row, recycles, take_serves, up_serves}
-use Rattle.law_peers_room.proofs.ServerRoom.ServerPuts.{Goes, bytes_in, is_acked, os_goes}
+use Rattle.law_peers_room.proofs.ServerRoom.Meters.{Seen, Phase, InTurn, IsRefused, HasRoom, IsTotal, IsKept, seen, Base, Kept}
+use Rattle.law_peers_room.proofs.ServerRoom.Lets.{bytes_in, is_acked}
+use Rattle.law_peers_room.proofs.ServerRoom.Serving.{fine_kept, seen_in}
+use Rattle.law_peers_room.proofs.ServerRoom.Serving as serving
+use Rattle.law_peers_room.proofs.ServerRoom.ServerPuts.{fine_put}
+use Rattle.law_peers_room.proofs.ServerRoom.ServerPuts as puts
+use Rattle.law_peers_room.proofs.ServerRoom.ViewPuts.{os_goes}
+use Rattle.law_peers_room.proofs.ServerRoom.ViewRows.{LongServes, drawn_serves, give_serves, mark_serves, packet_row, pdu_row, recycles, take_serves, up_serves}
+use Rattle.law_peers_room.proofs.ServerRoom.ViewSteps.{all_long, in_same, long_before}
+use Rattle.law_peers_room.proofs.ServerRoom.Views.{AreKept, View, view}
 use Rattle.law_peers_room.proofs.ServerRoom.Ahead as ahead
-use Rattle.law_peers_room.specs.ServerRoom.Overtaking.{AreLong, FewOvertake, IsLong, IsLongOn, answer_bytes, is_ack_for}
-
--- ---- what is put on is legs leaves alone
-
-pub record Core : Type 0 where
-  pub at : Stage
-  pub how : Replacement
-  pub writing : ℕ
-  pub newest : ℕ
-  pub legs : List OutLeg
-  pub waits : Waiting
-
-abbrev pub core : Server → Core
-core s = record {
-  at = s.stage;
-  how = s.replacement;
-  writing = s.writing;
-  newest = s.newest_out;
-  legs = s.outs;
-  waits = s.waiting;
-}
-
-pub core_same : (s : Server) (n : ℕ)
-    → IfSome (put_in s n) (λ (one : Server × Message). core one.0 ≡ core s)
-core_same s n = search rules
+use Rattle.law_peers_room.specs.ServerRoom.Overtaking.{AreLong, FewOvertake, IsLong, answer_bytes, is_ack_for}
 
 -- ---- logs
 
@@ -95,9 +78,14 @@ module _ (channel : Cookie) (least budget before : ℕ) (on : Bool) where
   abbrev Waits : List OnLeg → Type 0
   Waits put = (on ≡ true) × (acked put ≤ before)
 
+  abbrev So : List OnLeg → View → Type 0
+  So put v = serving.IsFine channel least budget (Waits put) (answers put) v
+
+  keeps : (put : List OnLeg) → AreKept least (So put)
+  keeps put = fine_kept channel least budget (Waits put) (answers put)
+
   abbrev IsFine : List OnLeg → Server → Type 0
-  IsFine put s =
-      Fine channel least budget (Waits put) (answers put) (seen channel least budget s)
+  IsFine put s = So put (view s)
 
   fine_of : (s : Server) (put : List OnLeg) → Facts s put → IsFine put s
   fine_of s put h = record { base = h.base; kept = λ a. h.kept a.0 a.1 }
@@ -116,19 +104,12 @@ module _ (channel : Cookie) (least budget before : ℕ) (on : Bool) where
   goes_on s t came put so h = λ long.
       let facts = h long in of_fine t put facts.since (so (fine_of s put facts))
 
-  long_before : (came : List OnLeg) (one : OnLeg) → AreLong least (came ++ one ∷ [])
-      → AreLong least came × IsLongOn least one
-  long_before [] one h = (tt, h.0)
-  long_before (first ∷ came) one h =
-      let rest = long_before came one h.1 in ((h.0, rest.0), rest.1)
-
   row_keeps : (s : Server) (leg : Leg) (m : Named) (came put : List OnLeg) (x : Done)
-      → (IsFine put s → LongServes channel least budget (Waits put) (answers put)
-      (IsLong least m) x)
+      → (IsFine put s → LongServes least (So put) (keeps put) (IsLong least m) x)
       → Holds s came put → RowKeeps Holds (leg, Packet m) came put x
   row_keeps s leg m came put (t, Err why) so h = goes_on s t came put so h
   row_keeps s leg m came put (t, Ok taken) so h = λ long.
-      let parts = long_before came (leg, Packet m) long in
+      let parts = long_before least came (leg, Packet m) long in
       let facts = h parts.0 in
       of_fine t put facts.since (so (fine_of s put facts) parts.1)
 
@@ -137,38 +118,13 @@ module _ (channel : Cookie) (least budget before : ℕ) (on : Bool) where
       → RowKeeps Holds (leg, Pdu bytes) came put x
   pdu_keeps s leg bytes came put (t, Err why) so h = goes_on s t came put so h
   pdu_keeps s leg bytes came put (t, Ok taken) so h = λ long.
-      let facts = h (long_before came (leg, Pdu bytes) long).0 in
+      let facts = h (long_before least came (leg, Pdu bytes) long).0 in
       of_fine t put facts.since (so (fine_of s put facts))
 
   -- ---- puts
 
-  in_same : (s : Server) (n : ℕ)
-      → IfSome (put_in s n)
-      (λ (one : Server × Message). seen channel least budget one.0 ≡ seen channel least budget s)
-  in_same s n = by (put_in s n) (core_same s n)
-    where
-      of_core : Core → Seen
-      of_core c = record {
-        begun = is_begun c.at;
-        answered = is_answered c.how;
-        writing = c.writing;
-        newest = c.newest;
-        legs = c.legs;
-        there = ahead.is_there channel c.waits.due;
-        weight = ahead.weight channel c.waits.due;
-        count = ahead.count channel c.waits.due;
-      }
-
-      by : (pick : Pick) → IfSome pick (λ (one : Server × Message). core one.0 ≡ core s)
-          → IfSome pick
-          (λ (one : Server × Message). seen channel least budget one.0
-          ≡ seen channel least budget s)
-      by None same = tt
-      by (Some one) same = ap of_core same
-
   in_keeps : (s : Server) (n : ℕ) (came put : List OnLeg) (pick : Pick)
-      → IfSome pick
-      (λ (one : Server × Message). seen channel least budget one.0 ≡ seen channel least budget s)
+      → IfSome pick (λ (one : Server × Message). view one.0 ≡ view s)
       → Holds s came put → PutKeeps Holds (leg_at InServer n) came put pick
   in_keeps s n came put None same h = tt
   in_keeps s n came put (Some one) same h = λ long.
@@ -178,17 +134,19 @@ module _ (channel : Cookie) (least budget before : ℕ) (on : Bool) where
       let twos = same_there is_in_r2_a3 n one.1 put in
       let bytes : answers put ≡ answers (put ++ (leg_at InServer n, one.1) ∷ []) =
       omega (arith, ones, twos) in record {
-        base = subst (Base channel least budget) (sym same) facts.base;
+        base = subst (λ (v : View). Base channel least budget (seen_in channel least budget v))
+            (sym same) facts.base;
         since = λ e. subst (λ (k : ℕ). before ≤ k) more (facts.since e);
-        kept = λ e a. subst (λ (x : Seen). Kept channel least budget x
-            (answers (put ++ (leg_at InServer n, one.1) ∷ []))) (sym same)
+        kept = λ e a. subst (λ (v : View). Kept channel least budget
+            (seen_in channel least budget v) (answers (put ++ (leg_at InServer n, one.1) ∷ []))) (sym same)
             (subst (Kept channel least budget (seen channel least budget s)) bytes
             (facts.kept e (subst (λ (k : ℕ). k ≤ before) (sym more) a)));
       }
 
   out_keeps : (s : Server) (n : ℕ) (came put : List OnLeg) (pick : Pick)
-      → ((base : Base channel least budget (seen channel least budget s))
-      → Goes channel least budget (answers put) s base pick)
+      → ((base : Base channel least budget (seen channel least budget s)) → IfSome pick
+      (λ (one : Server × Message). puts.IsFine channel least budget (answers put) n s base one.1
+      (view one.0)))
       → Holds s came put → PutKeeps Holds (leg_at OutServer n) came put pick
   out_keeps s n came put None goes h = tt
   out_keeps s n came put (Some one) goes h = λ long.
@@ -213,7 +171,9 @@ module _ (channel : Cookie) (least budget before : ℕ) (on : Bool) where
   put_keeps s n InServer came put h = in_keeps s n came put (put_in s n) (in_same s n) h
   put_keeps s n OutServer came put h =
       out_keeps s n came put (put_out_at s (out_place n s.outs))
-      (λ base. os_goes channel least budget (answers put) s base (out_place n s.outs)) h
+      (λ base. os_goes n s (puts.IsFine channel least budget (answers put) n s base)
+      (puts.IsFine channel least budget (answers put) n s base)
+      (fine_put channel least budget (answers put) n s base) (out_place n s.outs) refl) h
   put_keeps s n ClientIn came put h = tt
   put_keeps s n ClientOut came put h = tt
 
@@ -223,22 +183,21 @@ module _ (channel : Cookie) (least budget before : ℕ) (on : Bool) where
   steps = record {
     up = λ s leg cookie came put h.
         goes_on s (up s leg cookie) came put
-        (up_serves channel least budget (Waits put) (answers put) s leg cookie) h;
+        (up_serves least (So put) (keeps put) s leg cookie) h;
     head = λ s leg text came put h. h;
     pdu = λ s leg count bytes came put h.
         pdu_keeps s leg bytes came put (pdu s leg count bytes)
-        (pdu_row channel least budget (Waits put) (answers put) s leg count bytes) h;
+        (pdu_row least (So put) (keeps put) s leg count bytes) h;
     packet = λ s leg count m came put h.
         row_keeps s leg m came put (packet_by s leg.number count m leg.kind)
-        (packet_row channel least budget (Waits put) (answers put) s leg.number count m leg.kind)
-        h;
+        (packet_row least (So put) (keeps put) s leg.number count m leg.kind) h;
     put = λ s leg came put h. put_keeps s leg.number leg.kind came put h;
     drawn = λ s leg came put h.
         goes_on s (drawn_by s leg.number leg.kind) came put
-        (drawn_serves channel least budget (Waits put) (answers put) s leg.number leg.kind) h;
+        (drawn_serves least (So put) (keeps put) s leg.number leg.kind) h;
     mark = λ s leg came put h.
         goes_on s (mark_by s leg.number leg.kind) came put
-        (mark_serves channel least budget (Waits put) (answers put) s leg.number leg.kind) h;
+        (mark_serves least (So put) (keeps put) s leg.number leg.kind) h;
     ping = λ s leg came put h. h;
   }
 
@@ -246,14 +205,14 @@ module _ (channel : Cookie) (least budget before : ℕ) (on : Bool) where
   calls = record {
     give = λ s bytes came put h.
         goes_on s (give s bytes).0 came put
-        (give_serves channel least budget (Waits put) (answers put) s bytes) h;
+        (give_serves least (So put) (keeps put) s bytes) h;
     take = λ s came put h.
         goes_on s (take s) came put
-        (take_serves channel least budget (Waits put) (answers put) s) h;
+        (take_serves least (So put) (keeps put) s) h;
     close = λ s came put h. goes_on s (close s) came put (λ fine. fine) h;
     recycle = λ s came put h.
         goes_on s (recycle s).0 came put
-        (recycles channel least budget (Waits put) (answers put) s) h;
+        (recycles least (So put) (keeps put) s) h;
   }
 
   kept_by : (p : EndPassage Server) (moves : List EndMove)
@@ -343,17 +302,6 @@ few_overtake window front later least channel long room waits few =
     omega (arith, most, due)
 
 -- ---- legs in the order of their numbers
-
-all_long : (came : List OnLeg) → AreLong 0 came
-all_long [] = tt
-all_long ((leg, m) ∷ came) = (by m, all_long came)
-  where
-    by : (m : Message) → IsLongOn 0 (leg, m)
-    by (Text bytes) = tt
-    by (Pdu pdu) = tt
-    by (Packet (named.ConnA2 v a b lifetime c)) = omega arith
-    by (Packet (named.OutR1A4 v a b c lifetime d e)) = omega arith
-    by (Packet packet) = tt
 
 pub legs_sorted : (window : ℕ) (moves : List EndMove) → Sorted (passed window moves).role.outs
 legs_sorted window moves =

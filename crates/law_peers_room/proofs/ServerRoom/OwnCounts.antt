@@ -7,11 +7,10 @@ use Rattle.law_peers_moments.proofs.GoingRound.Rounding.{once}
 use Rattle.law_role_server_in.specs.Handovers.{passed}
 use Rattle.law_peers_room.proofs.ServerRoom.Ahead.{same_cookies}
 use Rattle.law_peers_room.proofs.ServerRoom.Apart.{Apart, any_of, one_more}
-use Rattle.law_peers_room.proofs.ServerRoom.Forwarded.{right}
 use Rattle.law_peers_room.proofs.ServerRoom.Legs.{Sorted}
 use Rattle.law_peers_room.proofs.ServerRoom.Overtaken.{legs_sorted}
 use Rattle.law_peers_room.proofs.ServerRoom.Owners.{AreOwned, has_leg}
-use Rattle.law_peers_room.proofs.ServerRoom.KeptLegs.{are_owned}
+use Rattle.law_peers_room.proofs.ServerRoom.KeptLegs.{owns}
 use Rattle.law_peers_room.specs.ServerRoom.Owning.{AcksHaveLegs}
 
 abbrev acked_by : List Due → Option Cookie → Bool
@@ -196,8 +195,8 @@ one_numbered test n (leg ∷ legs) sorted =
 pub have_legs : (window : ℕ) (moves : List EndMove) → AcksHaveLegs (passed window moves).role
 have_legs window moves =
     let s = (passed window moves).role in
-    let hit = acks_hit s.outs s.waiting.due (right window moves).dues.apart
-    (are_owned window moves) in
+    let kept = owns window moves in
+    let hit = acks_hit s.outs s.waiting.due (kept.right).apart kept.owned in
     let most = counted s s.outs in record {
       legs = omega (arith, hit, most);
       one = one_numbered (λ (leg : OutLeg). has_ack_by s.waiting leg.cookie) s.writing s.outs

@@ -202,12 +202,3 @@ owned_without cookie legs place leg at is dues others h =
         (Some (record { destination = 3; channel = other })) f in
         absurd (false≢true (sym apart
         ∙ (ap (are_one (key_of due.packet)) keys ∙ e)))
-
-pub owned_bare : (legs : List OutLeg) (place : ℕ) (leg : OutLeg) → slice_get legs place ≡ Some leg
-    → leg.cookie ≡ None → (dues : List Due) → AreOwned legs dues
-    → AreOwned (remove legs place) dues
-owned_bare legs place leg at none dues h =
-    owned_so legs (remove legs place)
-    (λ cookie e. leg_removed cookie legs place
-    (subst (λ o. IfSome o (λ (l : OutLeg). is_of_channel cookie l.cookie ≡ false)) (sym at)
-    (ap (is_of_channel cookie) none)) e) dues h

@@ -7,7 +7,7 @@ use Rattle.law_moves.proofs.Vocabulary.{after_put, fits, may_put, by_test, same_
 use Rattle.law_role_server.proofs.Vocabulary.{Put, OutLeg, counted, went, length_of, lets, lets_packet, handed, last_number, Server, is_confirmed, is_due, is_open, out_place, settled, Pick, or_else, counts, counts_at, gate, gate_at, is_end_due, may_end_at, may_go_at, next_out, out_greeting_at, pdu_by, put_end, put_open, put_out_at, put_out_greeting, put_pdu, put_pdu_or_end, put_waiting, settled_pick, waiting_at, waiting_by, was_put, went_at, is_out_r1_a9}
 use Rattle.law_role_server.proofs.Counted.Dues.{found_may}
 use Rattle.law_role_server.proofs.Gives.{found as number_found}
-use Rattle.law_peers_room.proofs.ServerRoom.ServerPuts.{IsLet, fits_so, leaves_so, let_of}
+use Rattle.law_peers_room.proofs.ServerRoom.Lets.{IsLet, fits_so, leaves_so, let_of}
 use Rattle.law_peers_room.proofs.ServerRoom.Views.{View, view}
 
 -- ---- the steps
@@ -36,7 +36,7 @@ pub record IsFirst (s : Server) (leg : OutLeg) (due : Due) : Type 0 where
 -- each step of a put: behind all but greetings the server settles
 pub record ArePut (n : ℕ) (s : Server) (W G : Message → View → Type 0) : Type 0 where
   pub greets : (place : ℕ) (leg new : OutLeg) → IsAt n s place leg
-      → new.number ≡ leg.number → new.meter ≡ leg.meter
+      → new.number ≡ leg.number → new.meter ≡ leg.meter → new.cookie ≡ leg.cookie
       → G (Text greeting_text) (record (view s) { legs = slice_set s.outs place new })
   -- an acknowledgement to an out proxy isn't counted
   pub alone : (place : ℕ) (leg : OutLeg) → IsAt n s place leg → (due : Due)
@@ -61,7 +61,8 @@ pub record ArePut (n : ℕ) (s : Server) (W G : Message → View → Type 0) : T
   pub beside : (place : ℕ) (leg new : OutLeg) (len : ℕ) (m : Message) → IsAt n s place leg
       → is_open s.stage ≡ true → find (lets (gate s leg)) s.waiting.due ≡ None
       → leg.number ≡ s.writing → new.number ≡ leg.number
-      → new.meter ≡ after_put leg.meter len → leg.meter.count + len ≤ leg.meter.length
+      → new.meter ≡ after_put leg.meter len → new.cookie ≡ leg.cookie
+      → leg.meter.count + len ≤ leg.meter.length
       → is_beside m ≡ true → W m (record (view s) { legs = slice_set s.outs place new })
   pub settles : (m : Message) (t : Server) → is_open s.stage ≡ true → W m (view t)
       → G m (view (settled t))
@@ -97,7 +98,7 @@ module _ (n : ℕ) (s : Server) (W G : Message → View → Type 0) (puts : AreP
   greets place (Some leg) at named_n =
       by_test Goes (is_due leg.greeting) _ None
       (λ e. puts.greets place leg (record leg { greeting = Put })
-      (record { at = at; number = named_n leg at }) refl refl)
+      (record { at = at; number = named_n leg at }) refl refl refl)
       (λ e. tt)
 
   module _ (running : is_open s.stage ≡ true) (place : ℕ) (leg : OutLeg)
@@ -200,7 +201,7 @@ module _ (n : ℕ) (s : Server) (W G : Message → View → Type 0) (puts : AreP
         subst (λ (o : Option OutLeg). W (Pdu (first_of s.queue))
         (record (view s) { legs = went_at s place len o })) (sym is_at.at)
         (puts.beside place leg (went leg len) len (Pdu (first_of s.queue)) is_at running
-        (none_found none) (same_number leg.number s.writing parts.0) refl refl
+        (none_found none) (same_number leg.number s.writing parts.0) refl refl refl
         (leaves_so leg.meter len fits_it) refl))
         (λ e. tt)
 
@@ -213,7 +214,7 @@ module _ (n : ℕ) (s : Server) (W G : Message → View → Type 0) (puts : AreP
         subst (λ (t : Server). W (Packet named.EndB1)
         (view (record t { end_mark = end_mark.Put }))) (sym (counts_is s 24 refl))
         (puts.beside place leg (counted leg 24) 24 (Packet named.EndB1) is_at running
-        (none_found none) (same_number leg.number s.writing parts.0) refl refl
+        (none_found none) (same_number leg.number s.writing parts.0) refl refl refl
         (fits_so leg.meter 24 parts.1) refl))
         (λ e. tt)
 

@@ -1,6 +1,6 @@
 -- what comes to a server, and what else happens there but puts, keeps each fact of its OUT channels
 -- and of what waits for them that the steps keep
-use Rattle.law_order.proofs.Vocabulary.{◌≡◌, ℕ, ◌+◌, ◌≤◌, ◌==◌, ◌&&◌, ◌||◌, Bool, true, false, nat_lt, not, if◌then◌else◌, List, Some, None, Ok, Err, refl, sym, ap, ◌∙◌, subst, rules, and_parts, slice_get, list_any, Option, Result}
+use Rattle.law_order.proofs.Vocabulary.{◌≡◌, inl, inr, ℕ, ◌+◌, ◌≤◌, ◌==◌, ◌&&◌, ◌||◌, Bool, true, false, nat_lt, not, if◌then◌else◌, List, Some, None, Ok, Err, refl, sym, ap, ◌∙◌, subst, rules, and_parts, false≢true, IfSome, slice_get, remove, list_any, Option, Result}
 use Rattle.rh_sig.specs.declared.named.Named.TheVariants as named
 use Rattle.rh_shell.specs.declared.answers.Refused.TheVariants as refused
 use Rattle.rh_shell.specs.Waiting as waits
@@ -9,13 +9,16 @@ use Rattle.rh_server.specs.declared.state.Replacement.TheVariants as replacement
 use Rattle.rh_server.specs.declared.state.Stage.TheVariants as stage
 use Rattle.rh_server.specs.declared.out_line.Kind.TheVariants as kinds
 use Rattle.rh_server.specs.OutLines as lines
-use Rattle.law_moves.proofs.Vocabulary.{by_test, same_number, Cookie, Named, Leg, LegKind, ClientOut, OutServer, ClientIn, InServer, Which, Current, Next, after_finish, after_take, Count, Forwarded, RecycleRefused, Waiting, added, own, pushed, takes, to_forward, with_due, merged}
+use Rattle.law_moves.proofs.Vocabulary.{by_test, same_number, Cookie, Named, Leg, LegKind, ClientOut, OutServer, ClientIn, InServer, Which, Current, Next, after_finish, after_take, Count, Forwarded, RecycleRefused, Waiting, added, are_one, key_of, own, pushed, takes, to_forward, with_due, merged}
 use Rattle.law_role_inproxy.proofs.Putting.Tests.{not_so}
-use Rattle.law_role_server.proofs.Vocabulary.{InLeg, InStage, OutLeg, Replacement, Stage, acked, Shut, Server, is_fresh, is_open, is_steady, in_leg, out_at, out_leg, out_place, out_cookie, same_cookie, with_in, without_in, without_out, removed_at, Done, took, refuse, unexpected, is_first, opens, first_in, with_first_in, first_out_at, with_first_out, out_leg_up, may_up_by, has_room, up, up_by, conn_a2_at, on_conn_a2, conn_b2_at, on_conn_b2, channel_at, channel_leg, forward_by}
+use Rattle.law_role_server.proofs.Vocabulary.{InLeg, InStage, OutLeg, Replacement, Stage, acked, Shut, Server, is_fresh, is_open, is_steady, in_leg, cookie_by, out_at, out_leg, out_place, out_cookie, same_cookie, with_in, without_in, without_out, removed_at, Done, took, refuse, unexpected, is_first, opens, first_in, with_first_in, first_out_at, with_first_out, out_leg_up, may_up_by, has_room, up, up_by, conn_a2_at, on_conn_a2, conn_b2_at, on_conn_b2, channel_at, channel_leg, forward_by}
 use Rattle.law_role_server.proofs.Vocabulary.{forwards, forwards_to, forwards_writing, on_ack_to, out_server, acked_at, acked_cookie, acked_in, on_ack, on_ping_traffic, announced, becomes_current, first_waiting, hands_over, has_fresh_below, in_r1_a2_at, in_r1_a2_by, in_r2_a2_on, leaves_by, moved_if, next_opened, on_in_r1_a2, on_in_r1_a6, on_in_r2_a2, opens_leg, opens_next, take, answered_by, answered_on, asks, confirms, is_asked, is_under_way, last_number, may_answer}
 use Rattle.law_role_server.proofs.Vocabulary.{on_out_r1_a4, on_out_r1_a8, out_r1_a4_at, out_r1_a4_by, out_r1_a8_at, recycle, wanted_by, wishes, completed, drawn_by, give, in_is_drawn, is_complete, lost_in, mark_by, on_end_a2, settled, with_ack_dropped, without_ack_of, on_is, on_os, packet_by, pdu}
 use Rattle.law_role_server.proofs.Gives.{found as number_found}
+use Rattle.law_peers_room.proofs.ServerRoom.Ahead.{same_cookies}
+use Rattle.law_peers_room.proofs.ServerRoom.Apart.{IsAck}
 use Rattle.law_peers_room.proofs.ServerRoom.Meters.{is_answered, is_begun}
+use Rattle.law_peers_room.proofs.ServerRoom.Owners.{Owned, has_leg, leg_found}
 use Rattle.law_peers_room.proofs.ServerRoom.Views.{AreKept, IsOther, View, had_out, has_out, view}
 use Rattle.law_peers_room.specs.ServerRoom.Overtaking.{IsLong}
 
@@ -30,6 +33,23 @@ asked_so replacement.Steady e = absurd cc
 asked_so replacement.Asked e = refl
 asked_so (replacement.Answered successor) e = refl
 asked_so replacement.Confirmed e = refl
+
+asked_none : (x : Replacement) → is_asked x ≡ true → is_answered x ≡ false
+asked_none replacement.Steady e = absurd cc
+asked_none replacement.Asked e = refl
+asked_none (replacement.Answered successor) e = absurd cc
+asked_none replacement.Confirmed e = absurd cc
+
+-- the acknowledgement is for the channel of a leg
+owned_ack : (s : Server) (received window : ℕ) (cookie : Cookie) → has_leg cookie s.outs ≡ true
+    → Owned s.outs (to_forward (named.AckTo 3 received window cookie))
+owned_ack s received window cookie is other e =
+    subst (λ (c : Cookie). has_leg c s.outs ≡ true) (cookies cookie other e) is
+  where
+    cookies : (a b : Cookie)
+        → are_one (Some (record { destination = 3; channel = a }))
+        (Some (record { destination = 3; channel = b })) ≡ true → a ≡ b
+    cookies a b e = same_cookies a b e
 
 -- no replacement is under way where one is wished for
 pub wishes_steady : (s : Server) → wishes s ≡ true → is_steady s.replacement ≡ true
@@ -48,9 +68,9 @@ module _ (least : ℕ) (F : View → Type 0) (keeps : AreKept least F) where
 
   -- ---- what waits
 
-  added_serves : (s : Server) (packet : Named) → IsOther (own packet) → Serves s
-      → Serves (record s { waiting = added s.waiting packet })
-  added_serves s packet other h = keeps.pushed (view s) (own packet) other h
+  added_serves : (s : Server) (packet : Named) → IsOther (own packet) → key_of packet ≡ None
+      → Serves s → Serves (record s { waiting = added s.waiting packet })
+  added_serves s packet other none h = keeps.adds (view s) packet other none h
 
   asks_serves : (s : Server) → is_steady s.replacement ≡ true → Serves s → Serves (asks s)
   asks_serves s steady h = keeps.asks (view s) steady h
@@ -83,7 +103,7 @@ module _ (least : ℕ) (F : View → Type 0) (keeps : AreKept least F) where
   opens_serves s leg in_stage.Fresh h = h
   opens_serves s leg in_stage.Opened h = h
   opens_serves s leg (in_stage.Waits window timeout ended) h =
-      added_serves s (named.InR1A3 0 1 window timeout) (refl, refl) h
+      added_serves s (named.InR1A3 0 1 window timeout) (refl, refl) refl h
 
   next_serves : (s : Server) → Serves s → Serves (next_opened s)
   next_serves s h =
@@ -123,7 +143,7 @@ module _ (least : ℕ) (F : View → Type 0) (keeps : AreKept least F) where
           → Serves (opens (first_in s b o) known c d)
       opened o known e =
           added_serves (record (first_in s b o) { stage = stage.Open known })
-          (named.ConnC1 1 c d) (refl, refl)
+          (named.ConnC1 1 c d) (refl, refl) refl
           (early o (stage.Open known) (ap is_begun e) (sym (ap has_out e)) (sym (ap had_out e)))
 
       by : (x : Stage) → s.stage ≡ x → RowServes (conn_b2_at s x a b c d)
@@ -185,36 +205,38 @@ module _ (least : ℕ) (F : View → Type 0) (keeps : AreKept least F) where
     where
       by : (o : Option Which) → RowServes (in_r2_a2_on s n successor o)
       by None = h
-      by (Some Current) = added_serves s (named.InR2A3 0) (refl, refl) h
-      by (Some Next) = added_serves s (named.InR2A3 0) (refl, refl) h
+      by (Some Current) = added_serves s (named.InR2A3 0) (refl, refl) refl h
+      by (Some Next) = added_serves s (named.InR2A3 0) (refl, refl) refl h
 
   -- ---- acknowledgements that are forwarded
 
-  forward_serves : (s : Server) (n to received window : ℕ) (cookie : Cookie) → Serves s
-      → RowServes (forwards s n (named.AckTo to received window cookie))
-  forward_serves s n to received window cookie h =
-      by_test Answers (list_any (takes packet) s.waiting.due)
-      (with_due s.waiting (merged s.waiting.due packet), true)
-      (if nat_lt (waits.count Forwarded s.waiting.due) s.waiting.room
-      then (pushed s.waiting (to_forward packet), true) else (s.waiting, false))
-      (λ e. keeps.merges (view s) packet (record { destination = to; channel = cookie }) refl h)
-      (λ e. by_test Answers (nat_lt (waits.count Forwarded s.waiting.due) s.waiting.room)
-      (pushed s.waiting (to_forward packet), true) (s.waiting, false)
-      (λ f. keeps.pushed (view s) (to_forward packet) (refl, refl) h)
-      (λ f. h))
-    where
-      packet : Named
-      packet = named.AckTo to received window cookie
+  module _ (to received window : ℕ) (cookie : Cookie)
+      (is : IsAck (named.AckTo to received window cookie)) where
+    abbrev ack : Named
+    ack = named.AckTo to received window cookie
 
-      Answers : Waiting × Bool → Type 0
-      Answers x = RowServes (forward_by s n x)
+    forward_serves : (s : Server) (n : ℕ) → Owned s.outs (to_forward ack) → Serves s
+        → RowServes (forwards s n ack)
+    forward_serves s n owned h =
+        by_test Answers (list_any (takes ack) s.waiting.due)
+        (with_due s.waiting (merged s.waiting.due ack), true)
+        (if nat_lt (waits.count Forwarded s.waiting.due) s.waiting.room
+        then (pushed s.waiting (to_forward ack), true) else (s.waiting, false))
+        (λ e. keeps.merges (view s) ack (record { destination = to; channel = cookie }) is
+        refl h)
+        (λ e. by_test Answers (nat_lt (waits.count Forwarded s.waiting.due) s.waiting.room)
+        (pushed s.waiting (to_forward ack), true) (s.waiting, false)
+        (λ f. keeps.forwards (view s) ack (refl, refl) is owned e h)
+        (λ f. h))
+      where
+        Answers : Waiting × Bool → Type 0
+        Answers x = RowServes (forward_by s n x)
 
-  writing_serves : (s : Server) (to received window : ℕ) (cookie : Cookie) → Serves s
-      → RowServes (forwards_writing s (named.AckTo to received window cookie))
-  writing_serves s to received window cookie h =
-      by_test RowServes _ (refuse s (refused.Full (out_server s.writing)))
-      (forwards s s.writing (named.AckTo to received window cookie)) (λ e. h)
-      (λ e. forward_serves s s.writing to received window cookie h)
+    writing_serves : (s : Server) → Owned s.outs (to_forward ack) → Serves s
+        → RowServes (forwards_writing s ack)
+    writing_serves s owned h =
+        by_test RowServes _ (refuse s (refused.Full (out_server s.writing)))
+        (forwards s s.writing ack) (λ e. h) (λ e. forward_serves s s.writing owned h)
 
   ack_to_row : (s : Server) (count : Count) (to received window : ℕ) (cookie : Cookie)
       → Serves s → RowServes (on_ack_to s count to received window cookie)
@@ -222,20 +244,22 @@ module _ (least : ℕ) (F : View → Type 0) (keeps : AreKept least F) where
       by_test RowServes (is_first count) (unexpected s) _ (λ e. h)
       (λ e. by_test RowServes (to == 0)
       (forwards_writing s (named.AckTo 0 received window cookie)) _
-      (λ f. writing_serves s 0 received window cookie h)
+      (λ f. writing_serves 0 received window cookie (inl refl) s
+      (λ other g. absurd (false≢true g)) h)
       (λ f. by_test RowServes (to == 3)
       (forwards_to s (named.AckTo 3 received window cookie) (channel_leg cookie s.outs))
-      (unexpected s) (λ g. by (channel_leg cookie s.outs)) (λ g. h)))
+      (unexpected s) (λ g. by (channel_leg cookie s.outs) refl) (λ g. h)))
     where
-      by : (o : Option ℕ)
+      by : (o : Option ℕ) → channel_leg cookie s.outs ≡ o
           → RowServes (forwards_to s (named.AckTo 3 received window cookie) o)
-      by None = h
-      by (Some n) =
+      by None is = h
+      by (Some n) is =
+          let owned = owned_ack s received window cookie (leg_found cookie s.outs n is) in
           by_test RowServes (n == s.writing)
           (forwards_writing s (named.AckTo 3 received window cookie))
           (forwards s n (named.AckTo 3 received window cookie))
-          (λ e. writing_serves s 3 received window cookie h)
-          (λ e. forward_serves s n 3 received window cookie h)
+          (λ e. writing_serves 3 received window cookie (inr refl) s owned h)
+          (λ e. forward_serves 3 received window cookie (inr refl) s n owned h)
 
   a8_row : (s : Server) (count : Count) (to : ℕ) (successor : Cookie) → Serves s
       → RowServes (on_out_r1_a8 s count to successor)
@@ -284,22 +308,23 @@ module _ (least : ℕ) (F : View → Type 0) (keeps : AreKept least F) where
       Answers : Done → Type 0
       Answers x = LongServes (least ≤ c) x
 
-      early : (place : Option ℕ) (o : Option OutLeg) → out_at s.outs place ≡ o
-          → (now : Stage) → is_begun s.stage ≡ false → had_out s.stage ≡ false
-          → had_out now ≡ true → least ≤ c
+      early : (place : Option ℕ) → out_place 1 s.outs ≡ place → (o : Option OutLeg)
+          → out_at s.outs place ≡ o → (now : Stage) → is_begun s.stage ≡ false
+          → had_out s.stage ≡ false → had_out now ≡ true → least ≤ c
           → Serves (record (first_out_at s b c d place o) { stage = now })
-      early None o at now e had now_out long = keeps.came_out (view s) now e had now_out h
-      early (Some place) None at now e had now_out long =
+      early None is o at now e had now_out long = keeps.came_out (view s) now e had now_out h
+      early (Some place) is None at now e had now_out long =
           keeps.came_out (view s) now e had now_out h
-      early (Some place) (Some leg) at now e had now_out long =
-          keeps.first_out (view s) now place leg _ e had now_out at refl refl long h
+      early (Some place) is (Some leg) at now e had now_out long =
+          keeps.first_out (view s) now place leg _ e had now_out at
+          (number_found 1 s.outs place leg is at) refl refl long h
 
       here : (now : Stage) → is_begun s.stage ≡ false → had_out s.stage ≡ false
           → had_out now ≡ true → least ≤ c
           → Serves (record (with_first_out s b c d) { stage = now })
       here now e had now_out long =
-          early (out_place 1 s.outs) (out_at s.outs (out_place 1 s.outs)) refl now e had now_out
-          long
+          early (out_place 1 s.outs) refl (out_at s.outs (out_place 1 s.outs)) refl now e had
+          now_out long
 
       by : (x : Stage) → s.stage ≡ x → Answers (conn_a2_at s x a b c d)
       by stage.Waits e =
@@ -308,7 +333,7 @@ module _ (least : ℕ) (F : View → Type 0) (keeps : AreKept least F) where
           by_test Answers (same_cookie known a)
           (took (opens (with_first_out s b c d) known window timeout)) _
           (λ f long. added_serves (record (with_first_out s b c d) { stage = stage.Open known })
-          (named.ConnC1 1 window timeout) (refl, refl)
+          (named.ConnC1 1 window timeout) (refl, refl) refl
           (here (stage.Open known) (ap is_begun e) (ap had_out e) refl long))
           (λ f. h)
       by (stage.OutCame known) e = h
@@ -322,23 +347,24 @@ module _ (least : ℕ) (F : View → Type 0) (keeps : AreKept least F) where
       (unexpected s)
       (λ g. let both = and_parts (n == s.writing + 1) _ (and_parts (is_first count) _ g).1 in
       by_stage s.stage refl (same_number n (s.writing + 1) both.0)
-      (asked_so s.replacement (and_parts (is_asked s.replacement) _ both.1).0))
+      (and_parts (is_asked s.replacement) _ both.1).0)
       (λ g. h)
     where
       Answers : Done → Type 0
       Answers x = LongServes (least ≤ d) x
 
-      answers : is_open s.stage ≡ true → is_steady s.replacement ≡ false
+      answers : is_open s.stage ≡ true → is_asked s.replacement ≡ true
           → n ≡ s.writing + 1 → (place : Option ℕ)
           → out_place n s.outs ≡ place → (o : Option OutLeg) → out_at s.outs place ≡ o
           → Answers (answered_by s c d e f place o)
       answers begun how next (Some place) is (Some leg) at =
           λ long. keeps.answered (view s) c f place leg _ begun at
-          (number_found n s.outs place leg is at ∙ next) refl refl long how h
+          (number_found n s.outs place leg is at ∙ next) refl refl long
+          (asked_so s.replacement how) (asked_none s.replacement how) h
       answers begun how next (Some place) is None at = h
       answers begun how next None is o at = h
 
-      by_writing : is_open s.stage ≡ true → is_steady s.replacement ≡ false
+      by_writing : is_open s.stage ≡ true → is_asked s.replacement ≡ true
           → n ≡ s.writing + 1 → (known : Cookie)
           (o : Option Cookie) → Answers (out_r1_a4_by s n known a b c d e f o)
       by_writing begun how next known None = h
@@ -351,7 +377,7 @@ module _ (least : ℕ) (F : View → Type 0) (keeps : AreKept least F) where
           (out_at s.outs (out_place n s.outs)) refl))
 
       by_stage : (at : Stage) → s.stage ≡ at → n ≡ s.writing + 1
-          → is_steady s.replacement ≡ false → Answers (out_r1_a4_at s at n a b c d e f)
+          → is_asked s.replacement ≡ true → Answers (out_r1_a4_at s at n a b c d e f)
       by_stage (stage.Open known) at next how =
           by_writing (ap is_open at) how next known (out_cookie s.writing s.outs)
       by_stage stage.Waits at next how = h
@@ -369,7 +395,7 @@ module _ (least : ℕ) (F : View → Type 0) (keeps : AreKept least F) where
           → RowServes (acked_at s place received window o)
       at place None is = h
       at place (Some leg) is =
-          keeps.leg_set (view s) place leg (acked leg received window).0 is refl refl h
+          keeps.leg_set (view s) place leg (acked leg received window).0 is refl refl refl h
 
       found : (o : Option ℕ) → RowServes (acked_in s received window o)
       found None = h
@@ -435,7 +461,7 @@ module _ (least : ℕ) (F : View → Type 0) (keeps : AreKept least F) where
       by OutServer e =
           keeps.came_up (view s) (out_leg_up leg.number)
           (same_number leg.number (s.newest_out + 1)
-          (and_parts (leg.number == s.newest_out + 1) (has_room s.outs) e).0) refl h
+          (and_parts (leg.number == s.newest_out + 1) (has_room s.outs) e).0) refl refl h
       by ClientIn e = h
       by ClientOut e = h
 
@@ -452,24 +478,41 @@ module _ (least : ℕ) (F : View → Type 0) (keeps : AreKept least F) where
   lost_serves s n (Some leg) h =
       by_test Serves _ (with_in s _) (without_in s n) (λ e. h) (λ e. h)
 
-  dropped_serves : (s : Server) (o : Option Cookie) → Serves s
-      → Serves (record s { waiting = without_ack_of s.waiting o })
-  dropped_serves s None h = h
-  dropped_serves s (Some cookie) h =
-      keeps.dropped (view s) cookie h
-
   gone_serves : (s : Server) (place : Option ℕ) → Serves s
-      → Serves (record s { outs = removed_at s.outs place })
+      → Serves (record s {
+        outs = removed_at s.outs place;
+        waiting = without_ack_of s.waiting (cookie_by (out_at s.outs place));
+      })
   gone_serves s None h = h
-  gone_serves s (Some place) h =
-      keeps.leg_gone (view s) place h
+  gone_serves s (Some place) h = at (slice_get s.outs place) refl
+    where
+      Gone : Option Cookie → Type 0
+      Gone cookie =
+          Serves (record s {
+            outs = remove s.outs place;
+            waiting = without_ack_of s.waiting cookie;
+          })
+
+      bare : (o : Option OutLeg) → slice_get s.outs place ≡ o
+          → IfSome o (λ (leg : OutLeg). leg.cookie ≡ None) → Gone None
+      bare o is none =
+          keeps.bare_gone (view s) place
+          (subst (λ o. IfSome o (λ (leg : OutLeg). leg.cookie ≡ None)) (sym is) none) h
+
+      of : (leg : OutLeg) → slice_get s.outs place ≡ Some leg → (cookie : Option Cookie)
+          → leg.cookie ≡ cookie → Gone cookie
+      of leg is None e = bare (Some leg) is e
+      of leg is (Some cookie) e = keeps.leg_gone (view s) place leg cookie is e h
+
+      at : (o : Option OutLeg) → slice_get s.outs place ≡ o → Gone (cookie_by o)
+      at None is = bare None is tt
+      at (Some leg) is = of leg is leg.cookie refl
 
   pub mark_serves : (s : Server) (n : ℕ) (k : LegKind) → Serves s → Serves (mark_by s n k)
   mark_serves s n InServer h =
       settled_serves (lost_in s n (in_leg n s.ins)) (lost_serves s n (in_leg n s.ins) h)
   mark_serves s n OutServer h =
       settled_serves (without_out (with_ack_dropped s n) n)
-      (gone_serves (with_ack_dropped s n) (out_place n s.outs)
-      (dropped_serves s (out_cookie n s.outs) h))
+      (gone_serves s (out_place n s.outs) h)
   mark_serves s n ClientIn h = h
   mark_serves s n ClientOut h = h

@@ -1,5 +1,5 @@
 -- what is seen on the legs by which a recording's RPC PDUs go down
-use Rattle.law_order.proofs.Vocabulary.{◌≡◌, ◌<◌, ◌≤◌, ◌++◌, ◌⊎◌, ℕ, zero, suc, nat_lt, Bool, Some, None, Option, true, false, if◌then◌else◌, List, [], map, inl, inr, refl, sym, ap, ◌∙◌, subst, arith, nat_tests, true≢false, AllByRecursion, IsPrefix, Item}
+use Rattle.law_order.proofs.Vocabulary.{◌≡◌, ◌<◌, ◌≤◌, ◌++◌, ◌⊎◌, ℕ, zero, suc, nat_lt, Bool, Some, Option, true, false, if◌then◌else◌, List, [], map, inl, inr, refl, sym, ap, ◌∙◌, subst, arith, nat_tests, true≢false, AllByRecursion, IsPrefix, Item}
 use Rattle.law_order.specs.Items.{has_handover, pdus}
 use Rattle.law_order.specs.Logs.{seen}
 use Rattle.law_order.specs.Routes.{IsRoute, Route}
@@ -36,18 +36,13 @@ use Rattle.law_world_audited.specs.Moving.Streams.{TellsStreams}
 use Rattle.law_world_audited.specs.LegsInChains.Chained.{TellsChains, tag_at}
 use Rattle.law_world_audited.proofs.LegsJoined.{front_all}
 use Rattle.law_world_audited.specs.Sides.{IsSideOf, put_on}
-use Rattle.law_world_audited.proofs.FarLegsUp.Parts.{PacketMet, nothing, of_put, zero as none_first}
-use Rattle.law_world_audited.proofs.FarLegsUp.UpSides.{BytesOf}
+use Rattle.law_world_audited.proofs.FarLegsUp.Parts.{BytesOf, PacketMet, has_some, nothing, of_put, zero as none_first}
 use Rattle.law_world_audited.proofs.FarLegsDown.DownRoute.{put_is, sent_is}
 use Rattle.law_world_audited.proofs.FarLegsDown.ServerSends.{Sends, none_sent}
 use Rattle.law_world_audited.specs.FarLegsDown.Ways.{way_down}
 
 front_of_none : {X : Type 0} (a b : List X) → IsPrefix a b → b ≡ [] → a ≡ []
 front_of_none a b p e = nil_front a p.0 (p.1 ∙ e)
-
-has_some : (o : Option First) → is_some o ≡ true → (begun : First) × (o ≡ Some begun)
-has_some None e = absurd cc
-has_some (Some begun) e = (begun, refl)
 
 -- ---- legs from the server
 

@@ -1,31 +1,21 @@
 -- what went down in a recording is a front of what was given
-use Rattle.law_order.proofs.Vocabulary.{◌≡◌, ◌≤◌, ◌<◌, ◌+◌, ◌++◌, ◌⊎◌, ℕ, true, false, List, [], ◌∷◌, length, arith, inl, inr, refl, sym, ap, ap₂, ◌∙◌, subst, cases_eq, None, AllByRecursion, IsPrefix, Item}
-use Rattle.law_order.proofs.ByNumber.{seen-append}
+use Rattle.law_order.proofs.Vocabulary.{◌≡◌, ◌<◌, ◌+◌, ◌++◌, ◌⊎◌, ℕ, false, List, [], length, inl, inr, sym, ap, ◌∙◌, subst, cases_eq, IsPrefix, Item}
 use Rattle.law_order.specs.Logs.{seen}
-use Rattle.law_order.specs.Routes.{IsRoute, Route}
-use Rattle.rh_sig.specs.declared.name.Pipe.{Pipe}
+use Rattle.law_order.specs.Routes.{Route}
 use Rattle.rh_sig.specs.declared.name.Pipe.TheVariants.{CoD, OsD}
-use Rattle.rh_line.specs.declared.leg.Leg.{Leg}
 use Rattle.rh_line.specs.declared.leg.LegKind.TheVariants.{ClientOut, OutServer}
 use Rattle.rh_record.specs.declared.answer.Answer.{Answer}
-use Rattle.rh_shell.specs.Rules.{Message}
 use Rattle.rh_audit.specs.Audits.{AreTags, carried_by, prefixed}
 use Rattle.rh_audit.specs.Chains as chains
-use Rattle.rh_audit.specs.Pipes.{first_pipe}
-use Rattle.rh_audit.specs.Streams.{stream, stream_is}
+use Rattle.rh_audit.specs.Streams.{stream}
 use Rattle.rh_audit.specs.declared.prefixed.Prefixed.TheVariants.{Yes}
 use Rattle.rh_capture.specs.Captured.{captured}
-use Rattle.rh_capture.specs.Legs.{tag_of}
 use Rattle.rh_world.specs.Roles as roles
-use Rattle.law_moves.proofs.Legible.Each.{each_so}
-use Rattle.law_moves.proofs.Vocabulary.{Passage, all_read_of, of_leg, read_of}
+use Rattle.law_moves.proofs.Vocabulary.{Passage, all_read_of, of_leg}
 use Rattle.law_role_outproxy.proofs.Vocabulary.{OutProxy, from_server, server_leg, to_client}
 use Rattle.law_role_server.proofs.Vocabulary.{out_items}
-use Rattle.law_audit.specs.FarAndNear.Seen as sides
-use Rattle.law_audit.specs.FarAndNear.Seen.{IsSeenFar, IsSeenNear}
-use Rattle.law_audit.specs.Carrying.Fronts.{AreLegsOf}
+use Rattle.law_audit.specs.FarAndNear.Seen.{IsSeenNear}
 use Rattle.law_audit.specs.Carrying.Items.{Fits}
-use Rattle.law_audit.specs.Chains.Successors.{AreTagged}
 use Rattle.law_peers_moments.specs.Moments.{AreMade, Moves, Numbers, Passages, passages}
 use Rattle.law_peers_routes.proofs.Downwards.Routing.{nothing_elsewhere}
 use Rattle.law_peers_routes.proofs.Downwards.Sides.{proxy_came, sent_views}
@@ -34,64 +24,24 @@ use Rattle.law_world_order.specs.Directions.{Directions}
 use Rattle.law_world_order.specs.Flows.{numbers_of}
 use Rattle.law_world_order.specs.Pasts.{moves_of, numbers}
 use Rattle.law_world_audited.specs.Moving.Streams.{TellsStreams}
-use Rattle.law_world_audited.specs.Moving.Tagged.{IsLineOf, is_met, legs_met}
-use Rattle.law_world_audited.proofs.LegsInChains.Tagging.{are_tagged}
-use Rattle.law_world_audited.specs.LegsInChains.Chained.{IsMost, tag_at}
+use Rattle.law_world_audited.specs.Moving.Tagged.{legs_met}
+use Rattle.law_world_audited.proofs.LegsInChains.Tagging.{sum_of}
 use Rattle.law_world_audited.specs.Sides.{IsJoined, TellsSides}
-use Rattle.law_world_audited.proofs.FarLegsUp.Parts.{PacketMet, above, zero}
-use Rattle.law_world_audited.proofs.FarLegsUp.UpSides.{BytesOf}
+use Rattle.law_world_audited.proofs.FarLegsUp.Parts.{FrontOfNear, SeenLaws, above, seen_front, seen_read, side_of, tagged, zero}
 use Rattle.law_world_audited.proofs.FarLegsDown.DownRoute.{IsARoute, goes, is_route}
 use Rattle.law_world_audited.proofs.FarLegsDown.DownSides.{far_is, legs_same, near_none, near_of_sent, on_legs}
 use Rattle.law_world_audited.proofs.FarLegsDown.ServerSends.{Sends}
 use Rattle.law_world_audited.specs.FarLegsDown.Ways.{way_down}
-
--- ---- what is read of messages
-
-seen_read : (ms : List Message) → seen from_server (all_read_of ms) ≡ seen out_items ms
-seen_read [] = refl
-seen_read (m ∷ ms) =
-    seen-append from_server (read_of m) (all_read_of ms)
-    ∙ ap₂ (λ (a b : List Item). a ++ b) (sent_views m) (seen_read ms)
-
-seen_front : (view : Message → List Item) (a b : List Message) → IsPrefix a b
-    → IsPrefix (seen view a) (seen view b)
-seen_front view a b p =
-    (seen view p.0, sym (seen-append view a p.0) ∙ ap (seen view) p.1)
-
--- ---- no number is greater than their sum
-
-sum_of : List Leg → ℕ
-sum_of [] = 0
-sum_of (leg ∷ legs) = leg.number + sum_of legs
-
-in_sum : (legs : List Leg) → IsMost (sum_of legs) legs
-unfolding sum_of
-in_sum [] = tt
-in_sum (leg ∷ legs) = (
-  omega arith,
-  each_so (λ (one : Leg). one.number ≤ sum_of legs)
-      (λ (one : Leg). one.number ≤ leg.number + sum_of legs)
-      (λ one most. omega (arith, most)) legs (in_sum legs),
-)
 
 -- ---- the laws that this stands on
 
 pub record YesLaws : Type 0 where
   pub route : IsARoute
   pub sends : (numbers : Numbers) (moves : Moves) → AreMade numbers moves → Sends numbers moves
-  pub packet : PacketMet
-  pub bytes : BytesOf
-  pub lines : (report : List Answer)
-      → AllByRecursion (IsLineOf (legs_met report)) (captured report)
-  pub own : (legs : List Leg) (leg other : Leg) → is_met legs leg ≡ true
-      → tag_of legs leg ≡ tag_of legs other → leg ≡ other
-  pub empty : (pipe : Pipe) → stream pipe [] ≡ stream_is [] None
+  pub seen : SeenLaws
   pub os : Fits OsD out_items
   pub co : Fits CoD to_client
-  pub front : (r : Route) (near far : sides.Side) (near_legs far_legs : List chains.Leg)
-      → IsRoute r → IsSeenNear r near → IsSeenFar r far → AreLegsOf near near_legs
-      → AreLegsOf far far_legs → prefixed (chains.joined far_legs) (chains.joined near_legs)
-      ≡ Yes (length (chains.joined far_legs)) (length (chains.joined near_legs))
+  pub front : FrontOfNear
 
 module _ (law : YesLaws) (answered : List Answer) (world : roles.World)
     (tells : TellsSides answered world) (tags : List ℕ) (are : AreTags (captured answered) tags)
@@ -110,15 +60,10 @@ module _ (law : YesLaws) (answered : List Answer) (world : roles.World)
   route = way_down answered world told
 
   near : IsJoined answered world told OutServer out_items tags most
-  near = tells.sides OutServer out_items law.os tags most are (in_sum (legs_met answered))
+  near = side_of law.seen answered world tells tags are OutServer out_items law.os
 
   far : IsJoined answered world told ClientOut to_client tags most
-  far = tells.sides ClientOut to_client law.co tags most are (in_sum (legs_met answered))
-
-  tagged : AreTagged OutServer (captured answered) tags (tag_at answered OutServer) most
-  tagged =
-      are_tagged OutServer (captured answered) tags (legs_met answered) most are
-      (in_sum (legs_met answered)) (law.lines answered) law.own (law.empty (first_pipe OutServer))
+  far = side_of law.seen answered world tells tags are ClientOut to_client law.co
 
   sends : Sends (numbers told.told.ours) (moves_of told.told.flowing)
   sends = law.sends (numbers told.told.ours) (moves_of told.told.flowing) told.told.made
@@ -130,7 +75,7 @@ module _ (law : YesLaws) (answered : List Answer) (world : roles.World)
   own_came n =
       let s = near.is_side.seen n in
       subst (IsPrefix (seen from_server (of_leg (server_leg n) (all.outs n).came)))
-      (seen_read s.front ∙ sym s.is)
+      (seen_read out_items from_server sent_views s.front ∙ sym s.is)
       (seen_front from_server (of_leg (server_leg n) (all.outs n).came) (all_read_of s.front)
       (tells.chains.came_back n s.front s.of_put s.read))
 
@@ -154,17 +99,17 @@ module _ (law : YesLaws) (answered : List Answer) (world : roles.World)
 
   away_none : (n : ℕ) → near.side.there n ≡ false → near.side.seen n ≡ []
   away_none =
-      near_none law.packet law.bytes answered world tells.chains most near.side near.is_side sends
+      near_none law.seen.packet law.seen.bytes answered world tells.chains most near.side near.is_side sends
 
   near_is : IsSeenNear route near.side
   near_is = record {
-    of_sent = near_of_sent law.packet law.bytes answered world tells.chains most near.side
+    of_sent = near_of_sent law.seen.packet law.seen.bytes answered world tells.chains most near.side
         near.is_side sends;
     came = λ m n has. near_came m n;
     none = away_none;
     past = λ n past.
         away_none n (above answered world told OutServer out_items most near.side near.is_side tags
-        tagged n (subst (λ (k : ℕ). k < n) near.is_side.last past));
+        (tagged law.seen answered world tells tags are OutServer) n (subst (λ (k : ℕ). k < n) near.is_side.last past));
     zero = zero answered world told OutServer out_items most near.side near.is_side
         (tells.chains.turns OutServer);
   }

@@ -2,22 +2,16 @@
 use Rattle.law_order.proofs.Vocabulary.{◌≡◌, ◌≤◌, ◌&&◌, nat_tests, ◌==◌, ◌||◌, ◌++◌, ℕ, zero, suc, Bool, Some, true, false, List, [], map, refl, sym, ap, ◌∙◌, subst, arith, nat_lt, true≢false, AllByRecursion, IsPrefix, Item}
 use Rattle.law_order.specs.Logs.{seen}
 use Rattle.std.specs.Prelude.{is_some}
-use Rattle.rh_text.specs.declared.ends.Dir.{Dir}
 use Rattle.rh_text.specs.declared.ends.Dir.TheVariants.{U}
-use Rattle.rh_sig.specs.declared.name.Pipe.{Pipe}
 use Rattle.rh_sig.specs.declared.name.Pipe.TheVariants.{CiU, IsU}
-use Rattle.rh_line.specs.declared.leg.Leg.{Leg}
 use Rattle.rh_line.specs.declared.leg.LegKind.TheVariants.{ClientIn, InServer}
 use Rattle.rh_record.specs.declared.answer.Answer.{Answer}
 use Rattle.rh_nodes.specs.Settling.{leg_at}
 use Rattle.rh_shell.specs.Rules.{spell}
 use Rattle.rh_audit.specs.declared.packet.Met.{Met}
-use Rattle.rh_audit.specs.Captures.{bytes_on}
 use Rattle.rh_audit.specs.Packets.{met}
 use Rattle.rh_audit.specs.Streams.{Stream, first_among, mets, stream}
 use Rattle.rh_capture.specs.Captured.{captured}
-use Rattle.rh_capture.specs.Legs.{tag_of}
-use Rattle.rh_capture.specs.Moves.{pipe_of}
 use Rattle.rh_wires.specs.Readers.{reader_of}
 use Rattle.rh_world.specs.Roles as roles
 use Rattle.law_moves.specs.Legible.Legible.{MayGoOn}
@@ -27,21 +21,13 @@ use Rattle.law_audit.specs.FarAndNear.Seen.{Side}
 use Rattle.law_audit.specs.Chains.Successors.{mets_of_leg}
 use Rattle.law_peers_routes.specs.Upwards.{has_leg}
 use Rattle.law_world_audited.proofs.Moving.Streamed.{all_behind}
-use Rattle.law_world_audited.specs.Moving.Moved.{moved_on}
 use Rattle.law_world_audited.specs.Moving.Streams.{TellsStreams}
-use Rattle.law_world_audited.specs.Moving.Tagged.{legs_met}
 use Rattle.law_world_audited.specs.LegsInChains.Chained.{tag_at}
 use Rattle.law_world_audited.proofs.LegsJoined.{front_all}
 use Rattle.law_world_audited.specs.Sides.{IsSideOf, put_on}
-use Rattle.law_world_audited.proofs.FarLegsUp.Parts.{PacketMet, nothing, of_put}
+use Rattle.law_world_audited.proofs.FarLegsUp.Parts.{BytesOf, PacketMet, nothing, of_put}
 use Rattle.law_world_audited.proofs.FarLegsUp.UpRoute.{UpLaws, put_is, sent_is}
 use Rattle.law_world_audited.specs.FarLegsUp.Ways.{way_up}
-
-abbrev pub BytesOf : Type 0
-BytesOf =
-    (report : List Answer) (leg : Leg) (dir : Dir) (pipe : Pipe)
-    → pipe_of leg.kind dir ≡ Some pipe
-    → bytes_on (tag_of (legs_met report) leg) pipe (captured report) ≡ moved_on leg dir report
 
 own_test : (n k : ℕ) → 1 ≤ n → k ≡ n → (nat_lt 0 n && (k == n || k == 0)) ≡ true
 own_test n k some own = grind (arith, nat_tests, some, own)

@@ -1,15 +1,11 @@
 -- what went up in a recording is a front of what was given
-use Rattle.law_order.proofs.Vocabulary.{◌≡◌, ◌≤◌, ◌<◌, ◌+◌, ◌++◌, ◌⊎◌, ℕ, suc, true, false, List, [], ◌∷◌, length, arith, refl, sym, ap, ap₂, ◌∙◌, subst, inl, inr, cases_eq, Some, None, Option, AllByRecursion, IsPrefix, Item}
-use Rattle.law_order.proofs.ByNumber.{seen-append}
+use Rattle.law_order.proofs.Vocabulary.{◌≡◌, ◌<◌, ◌+◌, ◌++◌, ◌⊎◌, ℕ, suc, true, false, List, length, refl, sym, ap, ◌∙◌, subst, inl, inr, cases_eq, Some, Option, IsPrefix, Item}
 use Rattle.law_order.specs.Logs.{seen}
-use Rattle.law_order.specs.Routes.{IsRoute, Route}
+use Rattle.law_order.specs.Routes.{Route}
 use Rattle.std.specs.Prelude.{is_some}
 use Rattle.rh_text.specs.declared.ends.Side.{Side}
 use Rattle.rh_text.specs.declared.ends.Side.TheVariants as ends
-use Rattle.rh_sig.specs.declared.name.Pipe.{Pipe}
 use Rattle.rh_sig.specs.declared.name.Pipe.TheVariants.{CiU, IsU}
-use Rattle.rh_line.specs.declared.leg.Leg.{Leg}
-use Rattle.rh_line.specs.declared.leg.LegKind.{LegKind}
 use Rattle.rh_line.specs.declared.leg.LegKind.TheVariants.{ClientIn, InServer}
 use Rattle.rh_record.specs.declared.answer.Answer.{Answer}
 use Rattle.rh_record.specs.declared.answer.Who.TheVariants as who
@@ -18,92 +14,44 @@ use Rattle.rh_shell.specs.Rules.{Message}
 use Rattle.rh_audit.specs.declared.packet.First.{First}
 use Rattle.rh_audit.specs.Audits.{AreTags, carried_by, prefixed}
 use Rattle.rh_audit.specs.Chains as chains
-use Rattle.rh_audit.specs.Pipes.{first_pipe}
-use Rattle.rh_audit.specs.Streams.{first_among, stream, stream_is}
+use Rattle.rh_audit.specs.Streams.{first_among, stream}
 use Rattle.rh_audit.specs.declared.prefixed.Prefixed.TheVariants.{Yes}
 use Rattle.rh_capture.specs.Captured.{captured}
-use Rattle.rh_capture.specs.Legs.{tag_of}
 use Rattle.rh_wires.specs.Readers.{reader_of}
 use Rattle.rh_world.specs.Roles as roles
-use Rattle.law_moves.proofs.Legible.Each.{each_so}
-use Rattle.law_moves.proofs.Vocabulary.{Passage, all_read_of, of_leg, read_of}
+use Rattle.law_moves.proofs.Vocabulary.{Passage, all_read_of, of_leg}
 use Rattle.law_role_inproxy.proofs.Vocabulary.{InProxy, item_came, item_put}
 use Rattle.law_role_client.proofs.Vocabulary.{up_items}
-use Rattle.law_audit.specs.FarAndNear.Seen as sides
 use Rattle.law_audit.specs.FarAndNear.Seen.{IsSeenFar, IsSeenNear}
-use Rattle.law_audit.specs.Carrying.Fronts.{AreLegsOf}
 use Rattle.law_audit.specs.Carrying.Items.{Fits}
-use Rattle.law_audit.specs.Chains.Successors.{AreTagged, mets_of_leg}
+use Rattle.law_audit.specs.Chains.Successors.{mets_of_leg}
 use Rattle.law_node_begins.specs.ProxiesBegin.Pipes.{ci as client_leg}
 use Rattle.law_peers_chains.specs.Turns.{HasBefore}
 use Rattle.law_peers_moments.specs.Moments.{Passages, end_of, passages}
-use Rattle.law_peers_routes.proofs.Upwards.JoinedLegs.{AgreeOn, proxy_came, up_views}
+use Rattle.law_peers_routes.proofs.Upwards.JoinedLegs.{proxy_came, up_views}
 use Rattle.law_world_reports.specs.ToldHistories.{history_of}
 use Rattle.law_world_order.specs.Directions.{Directions}
 use Rattle.law_world_order.specs.Flows.{numbers_of}
 use Rattle.law_world_order.specs.Pasts.{moves_of, numbers}
 use Rattle.law_world_audited.specs.Moving.Streams.{TellsStreams}
-use Rattle.law_world_audited.specs.Moving.Tagged.{IsLineOf, is_met, legs_met}
+use Rattle.law_world_audited.specs.Moving.Tagged.{legs_met}
 use Rattle.law_world_audited.proofs.LegsInChains.FarUp.{far_up}
-use Rattle.law_world_audited.proofs.LegsInChains.Tagging.{are_tagged}
-use Rattle.law_world_audited.specs.LegsInChains.Chained.{IsMost, tag_at}
+use Rattle.law_world_audited.proofs.LegsInChains.Tagging.{sum_of}
+use Rattle.law_world_audited.specs.LegsInChains.Chained.{tag_at}
 use Rattle.law_world_audited.specs.Sides.{IsJoined, TellsSides}
-use Rattle.law_world_audited.proofs.FarLegsUp.Parts.{PacketMet, above, zero}
+use Rattle.law_world_audited.proofs.FarLegsUp.Parts.{FrontOfNear, SeenLaws, above, has_some, seen_front, seen_read, side_of, tagged, zero}
 use Rattle.law_world_audited.proofs.FarLegsUp.UpRoute.{UpLaws, is_route}
-use Rattle.law_world_audited.proofs.FarLegsUp.UpSides.{BytesOf, far_of_put, near_none, near_of_sent}
+use Rattle.law_world_audited.proofs.FarLegsUp.UpSides.{far_of_put, near_none, near_of_sent}
 use Rattle.law_world_audited.specs.FarLegsUp.Ways.{way_up}
-
--- ---- what is read of messages
-
-module _ (put_view came_view : Message → List Item) (same : AgreeOn put_view came_view) where
-  seen_read : (ms : List Message) → seen came_view (all_read_of ms) ≡ seen put_view ms
-  seen_read [] = refl
-  seen_read (m ∷ ms) =
-      seen-append came_view (read_of m) (all_read_of ms)
-      ∙ ap₂ (λ (a b : List Item). a ++ b) (same m) (seen_read ms)
-
-seen_front : (view : Message → List Item) (a b : List Message) → IsPrefix a b
-    → IsPrefix (seen view a) (seen view b)
-seen_front view a b p =
-    (seen view p.0, sym (seen-append view a p.0) ∙ ap (seen view) p.1)
-
--- ---- no number is greater than their sum
-
-sum_of : List Leg → ℕ
-sum_of [] = 0
-sum_of (leg ∷ legs) = leg.number + sum_of legs
-
-in_sum : (legs : List Leg) → IsMost (sum_of legs) legs
-unfolding sum_of
-in_sum [] = tt
-in_sum (leg ∷ legs) = (
-  omega arith,
-  each_so (λ (one : Leg). one.number ≤ sum_of legs)
-      (λ (one : Leg). one.number ≤ leg.number + sum_of legs)
-      (λ one most. omega (arith, most)) legs (in_sum legs),
-)
-
-has_some : (o : Option First) → is_some o ≡ true → (begun : First) × (o ≡ Some begun)
-has_some None e = absurd cc
-has_some (Some begun) e = (begun, refl)
 
 -- ---- the laws that this stands on
 
 pub record YesLaws : Type 0 where
   pub up : UpLaws
-  pub packet : PacketMet
-  pub bytes : BytesOf
-  pub lines : (report : List Answer)
-      → AllByRecursion (IsLineOf (legs_met report)) (captured report)
-  pub own : (legs : List Leg) (leg other : Leg) → is_met legs leg ≡ true
-      → tag_of legs leg ≡ tag_of legs other → leg ≡ other
-  pub empty : (pipe : Pipe) → stream pipe [] ≡ stream_is [] None
+  pub seen : SeenLaws
   pub ci : Fits CiU up_items
   pub is : Fits IsU item_put
-  pub front : (r : Route) (near far : sides.Side) (near_legs far_legs : List chains.Leg)
-      → IsRoute r → IsSeenNear r near → IsSeenFar r far → AreLegsOf near near_legs
-      → AreLegsOf far far_legs → prefixed (chains.joined far_legs) (chains.joined near_legs)
-      ≡ Yes (length (chains.joined far_legs)) (length (chains.joined near_legs))
+  pub front : FrontOfNear
 
 module _ (law : YesLaws) (answered : List Answer) (world : roles.World)
     (tells : TellsSides answered world) (tags : List ℕ) (are : AreTags (captured answered) tags)
@@ -125,16 +73,10 @@ module _ (law : YesLaws) (answered : List Answer) (world : roles.World)
   route = way_up answered world told
 
   near : IsJoined answered world told ClientIn up_items tags most
-  near = tells.sides ClientIn up_items law.ci tags most are (in_sum (legs_met answered))
+  near = side_of law.seen answered world tells tags are ClientIn up_items law.ci
 
   far : IsJoined answered world told InServer item_put tags most
-  far = tells.sides InServer item_put law.is tags most are (in_sum (legs_met answered))
-
-  tagged : (kind : LegKind)
-      → AreTagged kind (captured answered) tags (tag_at answered kind) most
-  tagged kind =
-      are_tagged kind (captured answered) tags (legs_met answered) most are
-      (in_sum (legs_met answered)) (law.lines answered) law.own (law.empty (first_pipe kind))
+  far = side_of law.seen answered world tells tags are InServer item_put law.is
 
   -- ---- near
 
@@ -174,14 +116,14 @@ module _ (law : YesLaws) (answered : List Answer) (world : roles.World)
 
   near_is : IsSeenNear route near.side
   near_is = record {
-    of_sent = near_of_sent law.packet law.bytes answered world told most near.side near.is_side
+    of_sent = near_of_sent law.seen.packet law.seen.bytes answered world told most near.side near.is_side
         law.up;
     came = λ m n has. near_came m n;
-    none = near_none law.packet law.bytes answered world told most near.side near.is_side;
+    none = near_none law.seen.packet law.seen.bytes answered world told most near.side near.is_side;
     past = λ n past.
-        near_none law.packet law.bytes answered world told most near.side near.is_side n
+        near_none law.seen.packet law.seen.bytes answered world told most near.side near.is_side n
         (above answered world told ClientIn up_items most near.side near.is_side tags
-        (tagged ClientIn) n (subst (λ (k : ℕ). k < n) near.is_side.last past));
+        (tagged law.seen answered world tells tags are ClientIn) n (subst (λ (k : ℕ). k < n) near.is_side.last past));
     zero = zero answered world told ClientIn up_items most near.side near.is_side
         (tells.chains.turns ClientIn);
   }
@@ -222,7 +164,7 @@ module _ (law : YesLaws) (answered : List Answer) (world : roles.World)
   far_is =
       far_up reader tells.chains.moment.now.read route
       (is_route law.up answered world told ways) (λ n. refl) far.side
-      (far_of_put law.packet law.bytes answered world told most far.side far.is_side law.up far_zero
+      (far_of_put law.seen.packet law.seen.bytes answered world told most far.side far.is_side law.up far_zero
       far_own) far_own far_turns
 
   pub up_yes : prefixed (carried_by InServer (captured answered) tags)

@@ -9,66 +9,35 @@ use Rattle.rh_outproxy.specs.Machine as out_proxy
 use Rattle.rh_client.specs.Client as client
 use Rattle.rh_client.specs.State as client_state
 use Rattle.rh_server.specs.Servers as server
-use Rattle.law_moves.proofs.Vocabulary.{Dir, Pipe, ClientConfig, in_request, out_request, Cause, Leg, LegKind, ClientOut, OutServer, ClientIn, InServer, Refused, Going, is_whole_head, NearEnd, Message, Text, Pdu, Packet, Rules, Shell, begun, end_at, EndMove, EndPassage, Passage, of_leg, IsWholeText, Answers, ReadsWell}
+use Rattle.law_moves.proofs.Vocabulary.{Dir, Pipe, ClientConfig, in_request, out_request, Cause, Leg, LegKind, ClientOut, OutServer, ClientIn, InServer, Refused, Going, is_whole_head, NearEnd, Message, Text, Pdu, Packet, Rules, Shell, begun, end_at, EndPassage, Passage, of_leg, IsWholeText, Answers, ReadsWell}
 use Rattle.law_moves.proofs.Legible.Each.{each_so}
-use Rattle.law_role_inproxy.proofs.Vocabulary.{InProxyConfig, InProxy}
-use Rattle.law_role_client.proofs.Vocabulary.{ClientRole, AreAllowedMoves, client_moved}
+use Rattle.law_role_inproxy.proofs.Vocabulary.{InProxy}
+use Rattle.law_role_client.proofs.Vocabulary.{ClientRole, client_moved}
 use Rattle.law_role_server.proofs.Vocabulary.{Server}
 use Rattle.law_node_history.proofs.Vocabulary.{Who, reader_of, receiver, Comes, Here, Makers, World, at, IsTraced, LegsComeUpOnce, AreAccepted, AreAcceptedAtEnd, ComesUpOnce, ComesUpOnceAtEnd, events_of, happened, heard_on, IsFed, MayChange, History, in_place, out_place}
 use Rattle.law_node_causes.specs.Closings.{ClosesWith}
 use Rattle.law_role_outproxy.proofs.Vocabulary.{ROOMS, OutProxyConfig, OutProxy, new_proxy}
-use Rattle.law_node_streams.specs.Streams.{HasPipes, NeverRefuses, StaysUnused, StaysUnusedAtEnd}
+use Rattle.law_node_streams.specs.Streams.{HasPipes}
 use Rattle.law_peers_moments.specs.Moments.{Passages}
 use Rattle.law_node_begins.specs.EndsBegin.{Asks}
-use Rattle.law_node_begins.specs.ProxiesBegin.Pipes.{in_pipe, out_pipe}
+use Rattle.law_node_begins.specs.ProxiesBegin.Pipes.{in_pipe}
 use Rattle.law_node_traces.proofs.Vocabulary.{ByChanges, HearInTurn, AreOurs, deeds, rules}
 use Rattle.law_peers_routes.specs.Downwards as down
 use Rattle.law_world_order.proofs.Heard.{node_reads, reads_on}
 use Rattle.law_world_order.proofs.Legs.{Reads}
 use Rattle.law_world_order.proofs.Vocabulary.{IsFlowing, numbers_of, read_on}
-use Rattle.law_world_windows.proofs.Moment.{Laws, NodeLaws, behind}
-use Rattle.law_world_windows.proofs.Stopping.{Readings}
+use Rattle.law_world_windows.proofs.Moment.{behind}
+use Rattle.law_world_windows.specs.Known.{Laws, NodeLaws, Readings}
 use Rattle.law_world_expected.proofs.Amiss.Bytes.{HaveNames}
-use Rattle.law_world_expected.proofs.Amiss.Known.{KnowsLegs, KnowsLegsAtEnd, end_knows, node_knows}
+use Rattle.law_world_expected.proofs.Amiss.Known.{end_knows, node_knows}
 use Rattle.law_world_expected.proofs.Amiss.Moments.{AllFlow, AmissThen, OfStreams, client_shell, client_then, fed_bytes, flows, in_shell, in_then, once, out_shell, out_then, passages, put_there, server_shell, server_then, story, traced, turns, world}
 use Rattle.law_world_expected.proofs.Amiss.Next.{KnowsEnd, amiss_next}
 use Rattle.law_world_expected.proofs.Amiss.Pings.{IsHead}
 use Rattle.law_world_expected.proofs.Amiss.Sources.{leg_pinged}
 use Rattle.law_world_expected.specs.Amiss.{AmissNext, amiss_by}
+use Rattle.law_world_expected.specs.Known.{ClientKnows, RolesKnow}
 
--- ---- the laws that this stands on
-
--- what each role sees to for its streams, which legs it knows, and how a client asks
-pub record RolesKnow : Type 0 where
-  pub in_pipes : (config : InProxyConfig)
-      → HasPipes in_proxy.rules (in_state.first config) (in_pipe config)
-  pub out_pipes : (config : OutProxyConfig)
-      → HasPipes out_proxy.rules (new_proxy config) (out_pipe config)
-  pub in_unused : (config : InProxyConfig) → StaysUnused in_proxy.rules (in_state.first config)
-  pub out_unused : (config : OutProxyConfig) → StaysUnused out_proxy.rules (new_proxy config)
-  pub server_refuses : NeverRefuses server.rules
-  pub server_unused : (window : ℕ)
-      → StaysUnusedAtEnd server.rules server.acts (server.first window)
-  pub in_legs : (config : InProxyConfig)
-      → KnowsLegs in_proxy.rules (begun (in_state.first config) in_proxy.rooms)
-  pub out_legs : (config : OutProxyConfig)
-      → KnowsLegs out_proxy.rules (begun (new_proxy config) ROOMS)
-  pub server_legs : (window : ℕ)
-      → KnowsLegsAtEnd server.rules server.acts (begun (server.first window) server.rooms)
-  pub asks : (config : ClientConfig) (moves : List EndMove) (leg : Leg)
-      → AreAllowedMoves config moves
-      → AllByRecursion (Asks config leg.kind) (of_leg leg (client_moved config moves).passage.put)
-  pub in_request : (config : ClientConfig) → IsWholeText is_whole_head (in_request config)
-  pub out_request : (config : ClientConfig) (n : ℕ)
-      → IsWholeText is_whole_head (out_request config n)
-
--- and the same of a client
-pub record ClientKnows : Type 0 where
-  pub refuses : NeverRefuses client.rules
-  pub unused : (config : ClientConfig)
-      → StaysUnusedAtEnd client.rules client.acts (client_state.first config)
-  pub legs : (config : ClientConfig)
-      → KnowsLegsAtEnd client.rules client.acts (begun (client_state.first config) client.rooms)
+-- ---- what is read at first
 
 -- what an out proxy reads at first it reads always
 out_reads : RolesKnow → (config : OutProxyConfig)

@@ -6,7 +6,7 @@ use Rattle.law_node_history.proofs.Vocabulary.{drawn_on, end_drawn_on, happened,
 use Rattle.law_node_streams.specs.Streams.{EndStream, Seated, Stream}
 use Rattle.law_world_windows.proofs.Fed.{heard_behind}
 use Rattle.law_world_windows.proofs.OneByte.{AtByte}
-use Rattle.law_world_windows.proofs.Stopping.{Readings}
+use Rattle.law_world_windows.specs.Known.{Readings}
 use Rattle.law_world_expected.proofs.Amiss.Bytes.{HaveNames}
 use Rattle.law_world_expected.proofs.Amiss.Stops.{AmissAt, node_amiss, one_more}
 use Rattle.law_world_expected.specs.Amiss.{amiss_by}

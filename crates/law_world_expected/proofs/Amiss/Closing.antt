@@ -20,24 +20,16 @@ use Rattle.law_role_outproxy.proofs.Vocabulary.{OutProxy}
 use Rattle.law_node_traces.proofs.Vocabulary.{ByChanges, AreOurs, deeds, rules}
 use Rattle.law_world_order.proofs.Legs.{Reads}
 use Rattle.law_world_order.proofs.Vocabulary.{numbers_of, read_on}
-use Rattle.law_world_honest.proofs.Honesty.Closing.{EachComes, IsOfPiece, by_fed}
+use Rattle.law_world_honest.proofs.Honesty.Closing.{IsOfPiece, by_fed}
 use Rattle.law_world_honest.proofs.Honesty.Fed.{told_what, told_who}
 use Rattle.law_world_honest.specs.Honesty.Honest.{well_on}
-use Rattle.law_world_windows.proofs.Moment.{Laws, NodeLaws, well_behind}
-use Rattle.law_world_windows.proofs.Stopping.{Readings}
-use Rattle.law_world_expected.proofs.Amiss.AtNodes.{ClientKnows, RolesKnow, client_next, in_next, out_next, passages_then, put_then, server_next}
+use Rattle.law_world_windows.proofs.Moment.{comes_of, well_behind}
+use Rattle.law_world_windows.specs.Known.{Laws, NodesLaws, Readings}
+use Rattle.law_world_expected.proofs.Amiss.AtNodes.{client_next, in_next, out_next, passages_then, put_then, server_next}
 use Rattle.law_world_expected.proofs.Amiss.Bytes.{HaveNames}
 use Rattle.law_world_expected.proofs.Amiss.Moments.{AllFlow, OfStreams}
 use Rattle.law_world_expected.specs.Amiss.{AmissNext, amiss_by}
-
--- ---- the laws that this stands on
-
-pub record EachCloses : Type 0 where
-  pub comes : EachComes
-  pub client : NodeLaws client.rules
-  pub server : NodeLaws server.rules
-  pub ins : NodeLaws in_proxy.rules
-  pub outs : NodeLaws out_proxy.rules
+use Rattle.law_world_expected.specs.Known.{ClientKnows, RolesKnow}
 
 -- what came is amiss where a piece comes
 of_piece : (why : Cause) (r : Refused) → amiss_by why ≡ Some r → (event : Event)
@@ -56,7 +48,7 @@ of_piece (cause.BadHead leg place fault) r tells event = absurd cc
 of_piece (cause.Silent leg since now) r tells event = absurd cc
 of_piece (cause.BodyOver leg count length) r tells event = absurd cc
 
-module _ {K : Type 0} (roles : RolesKnow) (each : EachCloses) (reads : Reads)
+module _ {K : Type 0} (roles : RolesKnow) (each : NodesLaws) (reads : Reads)
     (readings : Readings) (m : Makers K InProxy OutProxy)
     (w v : World K ClientRole Server InProxy OutProxy) (ours : AreOurs m w.company w.cast)
     (law : Laws m w ours) (Holds : OfStreams (numbers_of ours) w)
@@ -76,7 +68,7 @@ module _ {K : Type 0} (roles : RolesKnow) (each : EachCloses) (reads : Reads)
       by_fed v node why X (λ leg dir count may is.
       fed leg dir count (λ k. may) (told_who _ _ _ _ is.told)
       (subst (λ (e : Event). (company.tell rules v.company node e).1 ≡ Some why)
-      (sym (told_what _ _ _ _ is.told)) is.closes)) each.comes change may is
+      (sym (told_what _ _ _ _ is.told)) is.closes)) (comes_of each) change may is
       (of_piece why r tells is.event)
 
   -- ---- the client

@@ -16,6 +16,7 @@ use Rattle.law_node_streams.proofs.Streams.AtEnds as at_ends
 use Rattle.law_node_streams.proofs.Streams.Nodes as nodes
 use Rattle.law_node_streams.specs.Streams.{HasPipes, HearsInTurn, NeverRefuses, StaysUnused, StaysUnusedAtEnd, all_given, all_taken, is_live}
 use Rattle.law_world_expected.proofs.Amiss.Next.{KnowsEnd}
+use Rattle.law_world_expected.specs.Known.{KnowsLegs, KnowsLegsAtEnd}
 
 -- ---- by what is kept of it
 
@@ -51,26 +52,6 @@ module _ {S : Type 0} (rules : Rules S) (pipe : Option Pipe) (leg : Leg)
   knows_by was = record { was_up = was rose; counts = counts }
 
 -- ---- legs that came up were up
-
--- what a role's law says of its legs
-pub record KnowsLegs {S : Type 0} (rules : Rules S) (first : Shell S) : Type 0 where
-  pub comes : (events : List Event) (leg : Leg) (cookie : Cookie)
-      → may_up rules (after_events rules first events) leg ≡ true
-      → WasUp rules (after_event rules (after_events rules first events) (ComesUp leg cookie)) leg
-  pub once : (events later : List Event) (leg : Leg)
-      → rules.was_up (after_events rules first events).role leg ≡ true
-      → WasUp rules (after_events rules (after_events rules first events) later) leg
-
-pub record KnowsLegsAtEnd {S : Type 0} (rules : Rules S) (acts : Acts S) (first : Shell S)
-    : Type 0 where
-  pub comes : (events : List EndEvent) (leg : Leg) (cookie : Cookie)
-      → may_up rules (after_end_events rules acts first events) leg ≡ true
-      → WasUp rules
-      (after_event rules (after_end_events rules acts first events) (ComesUp leg cookie)) leg
-  pub once : (events later : List EndEvent) (leg : Leg)
-      → rules.was_up (after_end_events rules acts first events).role leg ≡ true
-      → WasUp rules (after_end_events rules acts (after_end_events rules acts first events) later)
-      leg
 
 -- by an event
 up_by : {S : Type 0} (rules : Rules S) (s : Shell S) (leg : Leg)

@@ -14,8 +14,8 @@ use Rattle.law_moves.specs.Moving as moving
 use Rattle.law_role_inproxy.proofs.Vocabulary.{InProxy}
 use Rattle.law_role_client.proofs.Vocabulary.{ClientRole}
 use Rattle.law_role_server.proofs.Vocabulary.{Server}
-use Rattle.law_node_history.proofs.Vocabulary.{Who, reader_of, receiver, sender, Comes, Here, Makers, World, at, IsTraced, LegsComeUpOnce, drawn_by, end_node, events_of, happened, heard_on, Change, IsFed, MayChange, changed, History, IsRun, in_place, noted, nothing, out_place}
-use Rattle.law_node_history.proofs.Lemmas.{drawn_append, end_drawn_append, happened_append, works_more}
+use Rattle.law_node_history.proofs.Vocabulary.{Who, reader_of, receiver, sender, Comes, Here, Makers, World, at, IsTraced, LegsComeUpOnce, drawn_by, end_node, events_of, happened, heard_on, IsFed, MayChange, changed, History, IsRun, in_place, noted, nothing, out_place}
+use Rattle.law_node_history.proofs.Lemmas.{happened_append, works_more}
 use Rattle.law_node_causes.specs.Closings.{ClosesWith}
 use Rattle.law_role_outproxy.proofs.Vocabulary.{ROOMS, OutProxy, new_proxy}
 use Rattle.law_peers_moments.specs.Moments.{Passages, put_by}
@@ -27,11 +27,11 @@ use Rattle.law_world_order.proofs.Legs.{Reads}
 use Rattle.law_world_order.proofs.Joined.{all, reads_put}
 use Rattle.law_world_order.proofs.Vocabulary.{IsFlowing, Numbers, numbers_of, read_on}
 use Rattle.law_world_windows.proofs.Fed.{heard_behind, in_events, out_events, piece, told_here}
-use Rattle.law_world_windows.proofs.Moment.{Laws, NodeLaws, behind, closes_at, drawn_before, known, noted_append, now}
+use Rattle.law_world_windows.proofs.Moment.{behind, closes_at, drawn_before, known, noted_append, now}
 use Rattle.law_world_windows.proofs.OneByte.{AtByte}
 use Rattle.law_world_windows.proofs.Pieces.{FedFronts, fed_fronts}
-use Rattle.law_world_windows.proofs.Stopping.{Readings}
 use Rattle.law_world_windows.proofs.ClientHops.Moments.{drawn_more}
+use Rattle.law_world_windows.specs.Known.{Laws, NodeLaws, Readings}
 use Rattle.law_world_expected.proofs.Amiss.Bytes.{HaveNames}
 use Rattle.law_world_expected.proofs.Amiss.ByStreams.{StopsThere, end_stops, stream_stops}
 use Rattle.law_world_expected.proofs.Amiss.Stops.{AmissAt}

@@ -7,7 +7,7 @@ use Rattle.law_moves.proofs.Lemmas.{leg_is}
 use Rattle.law_node_streams.proofs.Streams.Ends.{end_is, end_leg}
 use Rattle.law_node_streams.specs.Streams.{Seated, is_live}
 use Rattle.law_world_windows.proofs.OneByte.{AtByte}
-use Rattle.law_world_windows.proofs.Stopping.{Readings}
+use Rattle.law_world_windows.specs.Known.{Readings}
 use Rattle.law_world_expected.proofs.Amiss.Bytes.{ByteAmiss, HaveNames, IsFirstPing, IsPing, Says, StopsByByte, byte_told}
 use Rattle.law_world_expected.specs.Amiss.{amiss_by, RefusesBy}
 

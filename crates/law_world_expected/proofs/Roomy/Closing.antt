@@ -19,22 +19,19 @@ use Rattle.law_node_traces.proofs.Vocabulary.{ByChanges, AreOurs, deeds, rules, 
 use Rattle.law_world_order.proofs.Legs.{Reads}
 use Rattle.law_world_order.proofs.Vocabulary.{IsFlowing, numbers_of, read_on, moves_of, numbers}
 use Rattle.law_world_honest.specs.Honesty.Honest.{well_on}
-use Rattle.law_world_windows.proofs.Moment.{Laws}
-use Rattle.law_world_windows.proofs.Stopping.{Readings}
 use Rattle.law_world_windows.proofs.Closing.{in_number, out_number}
+use Rattle.law_world_windows.specs.Known.{Laws, NodesLaws, Readings}
 use Rattle.law_world_windows.specs.Hops.{is_leg, os_leg}
-use Rattle.law_world_expected.proofs.Amiss.AtNodes.{ClientKnows, RolesKnow, passages_then, put_then}
+use Rattle.law_world_expected.proofs.Amiss.AtNodes.{passages_then, put_then}
 use Rattle.law_world_expected.proofs.Amiss.Bytes.{HaveNames}
-use Rattle.law_world_expected.proofs.Amiss.Closing.{EachCloses, client_closes, in_closes, out_closes, server_closes}
+use Rattle.law_world_expected.proofs.Amiss.Closing.{client_closes, in_closes, out_closes, server_closes}
 use Rattle.law_world_expected.proofs.Amiss.Moments.{AllFlow, flowing, flows, story, world}
 use Rattle.law_world_expected.proofs.Closing.{AtMoment}
 use Rattle.law_world_expected.proofs.Facts.{IsKept}
-use Rattle.law_world_expected.proofs.Roomy.ClientRows.{client_packets, client_pdus}
 use Rattle.law_world_expected.proofs.Roomy.Full.{never_full}
-use Rattle.law_world_expected.proofs.Roomy.InRows.{in_packets, in_pdus}
-use Rattle.law_world_expected.proofs.Roomy.OutRows.{out_packets, out_pdus}
-use Rattle.law_world_expected.proofs.Roomy.ServerRows.{server_packets, server_pdus}
+use Rattle.law_world_expected.proofs.Roomy.Rows.{client_packets, client_pdus, in_packets, in_pdus, out_packets, out_pdus, server_packets, server_pdus}
 use Rattle.law_world_expected.specs.Amiss.{AmissNext}
+use Rattle.law_world_expected.specs.Known.{ClientKnows, RolesKnow}
 use Rattle.law_world_expected.specs.Roles.{Facts, Premise}
 use Rattle.law_world_expected.specs.Roomy.{InHasRoom, NextFindsRoom, OutHasRoom, ServerHasRoom}
 
@@ -43,7 +40,7 @@ names : (full : Leg) (leg : Leg) (dir : Dir)
     → HaveNames (well_on leg.kind dir) (refused.Full full)
 names full leg dir e = absurd cc
 
-module _ {K : Type 0} (roles : RolesKnow) (each : EachCloses) (reads : Reads) (readings : Readings)
+module _ {K : Type 0} (roles : RolesKnow) (each : NodesLaws) (reads : Reads) (readings : Readings)
     (m : Makers K InProxy OutProxy) (w : World K ClientRole Server InProxy OutProxy)
     (ours : AreOurs m w.company w.cast) (law : Laws m w ours)
     (Fits : Premise K) (keeps : IsKept m w Fits) (Holds : Facts)

@@ -1,13 +1,13 @@
 -- rows that find no leg full
-use Rattle.law_order.proofs.Vocabulary.{Bool, true, false, if◌then◌else◌}
+use Rattle.law_order.proofs.Vocabulary.{Err}
+use Rattle.rh_shell.specs.declared.answers.Refused.TheVariants as refused
 use Rattle.law_moves.proofs.Vocabulary.{Row}
+use Rattle.law_world_honest.proofs.Honesty.AckRows.{IsPlain, PlainRow}
 use Rattle.law_world_expected.specs.Roomy.{FindsRoom}
 
--- what a row answers
-pub record RowFits {S : Type 0} (done : S × Row) : Type 0 where
-  pub is : FindsRoom done.1
+of_plain : (row : Row) → IsPlain row → FindsRoom row
+of_plain (Err (refused.Full full)) h = h
+of_plain row h = tt
 
-pub either : {S : Type 0} (b : Bool) (x y : S × Row) → RowFits x → RowFits y
-    → RowFits (if b then x else y)
-either true x y a b = a
-either false x y a b = b
+pub finds_room : {S : Type 0} (x : S × Row) → PlainRow x → FindsRoom x.1
+finds_room x h = of_plain x.1 h.is

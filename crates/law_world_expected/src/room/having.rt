@@ -21,29 +21,8 @@ ghost use Rattle.law_world_order.specs.Premises.{AreDistinct, AtEachMoment, InNe
 ghost use Rattle.law_world_expected.specs.Roles.{OfClient, WorldsExpect};
 ghost use Rattle.law_world_expected.specs.Roomy.{InHasRoom, OutHasRoom, ServerHasRoom};
 
-use law_moves::{
-    a_piece_reads_well, all_that_was_put_is_read, cuts_change_nothing, first_cause_is_kept,
-    texts_are_whole, what_is_read_is_fine, what_was_put_is_read,
-};
-use law_node_begins::{
-    a_client_asks_by_its_requests, an_end_never_refuses, proxies_keep_their_pipes,
-};
-use law_node_causes::{
-    a_clients_leg_comes_up_once, a_node_closes_once, a_servers_leg_comes_up_once,
-    an_in_proxys_leg_comes_up_once, an_out_proxys_leg_comes_up_once, causes_come_from_their_events,
-};
-use law_node_ends::{
-    a_leg_that_a_client_left_stays_unused, a_leg_that_a_server_left_stays_unused,
-    a_leg_that_an_in_proxy_left_stays_unused, a_leg_that_an_out_proxy_left_stays_unused,
-};
-use law_node_history::what_is_heard_was_drawn;
-use law_node_traces::{a_recording_of_roles_is_known, what_is_heard_was_drawn_before};
-use law_world_honest::what_is_heard_reads_well;
-use law_world_order::what_is_put_is_legible;
-use rh_client::ClientRole;
-use rh_inproxy::InProxyRole;
-use rh_outproxy::OutProxyRole;
-use rh_server::ServerRole;
+use crate::known::roles_know_their_legs;
+use law_world_windows::{nodes_keep_their_laws, what_was_put_reads_back, worlds_keep_their_laws};
 
 /// In each world of new roles whose numbers are in their ranges, at every moment that changes of
 /// lines and half steps reach: no further change closes the client with `ControlFull`, whichever
@@ -72,41 +51,8 @@ pub fn no_node_that_has_room_closes_for_a_full_leg<K>()
         → (change : Change) → MayChange rules v change → (full : Leg)
         → ClosesNode rules v change AtServer (ControlFull full) → ⊥)) }
 {
-    proxies_keep_their_pipes();
-    a_leg_that_a_client_left_stays_unused();
-    a_leg_that_an_in_proxy_left_stays_unused();
-    a_leg_that_an_out_proxy_left_stays_unused();
-    a_leg_that_a_server_left_stays_unused();
-    an_end_never_refuses();
-    a_clients_leg_comes_up_once();
-    an_in_proxys_leg_comes_up_once();
-    an_out_proxys_leg_comes_up_once();
-    a_servers_leg_comes_up_once();
-    a_client_asks_by_its_requests();
-    texts_are_whole();
-    what_is_put_is_legible::<K>();
-    a_recording_of_roles_is_known::<K>();
-    what_is_heard_reads_well::<K>();
-    what_is_heard_was_drawn_before::<K, ClientRole, ServerRole, InProxyRole, OutProxyRole>();
-    what_is_heard_was_drawn::<K, ClientRole, ServerRole, InProxyRole, OutProxyRole>();
-    what_was_put_is_read();
-    all_that_was_put_is_read();
-    what_is_read_is_fine();
-    a_piece_reads_well();
-    cuts_change_nothing::<ServerRole>();
-    cuts_change_nothing::<InProxyRole>();
-    cuts_change_nothing::<OutProxyRole>();
-    cuts_change_nothing::<ClientRole>();
-    first_cause_is_kept::<ServerRole>();
-    first_cause_is_kept::<InProxyRole>();
-    first_cause_is_kept::<OutProxyRole>();
-    first_cause_is_kept::<ClientRole>();
-    a_node_closes_once::<ServerRole>();
-    a_node_closes_once::<InProxyRole>();
-    a_node_closes_once::<OutProxyRole>();
-    a_node_closes_once::<ClientRole>();
-    causes_come_from_their_events::<ClientRole>();
-    causes_come_from_their_events::<ServerRole>();
-    causes_come_from_their_events::<InProxyRole>();
-    causes_come_from_their_events::<OutProxyRole>();
+    roles_know_their_legs();
+    worlds_keep_their_laws::<K>();
+    what_was_put_reads_back();
+    nodes_keep_their_laws();
 }

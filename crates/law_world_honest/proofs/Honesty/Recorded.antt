@@ -1,7 +1,7 @@
 -- what is fed to a node of a recording closes it for its role alone; up to the change that closes
 -- it the legs of the client have cookies of their own
 use Rattle.law_order.proofs.Vocabulary.{◌≡◌, true, List, [], ◌∷◌, ◌++◌, append_assoc, sym, ap, ◌∙◌, subst, list_all, and_parts, list_all-append}
-use Rattle.law_moves.proofs.Vocabulary.{Cause}
+use Rattle.law_moves.proofs.Vocabulary.{Cause, Event}
 use Rattle.law_node_history.proofs.Vocabulary.{Who, Line, Rulebook, Deeds, Makers, step, step_line, World, happened, AreAllowed, ByLines, Change, MayChange, all_changed, changed, is_work, of_line, ClosesNode, AreLeft, DrawnByLines, HaveOwnCookies, all_noted, nothing}
 use Rattle.law_node_history.proofs.Lemmas.{draws_by_lines, draws_then, own_cookies, all_wider, work_of_line, works_then}
 use Rattle.rh_world.specs.Config as config_ranges
@@ -23,7 +23,7 @@ module _ {K C S I O : Type 0} (r : Rulebook C S I O) (m : Makers K I O) (d : Dee
   allowed_behind w [] ds a = a
   allowed_behind w (c ∷ cs) ds a = allowed_behind (changed r m d w c) cs ds a.1
 
-  work_midst : (w : World K C S I O) (line : Line) (node : Who) (why : Cause)
+  pub work_midst : (w : World K C S I O) (line : Line) (node : Who) (why : Cause)
       (is : IsLicensed r m d line w node why) → list_all is_work is.closed.before ≡ true
   work_midst w line node why is =
       (and_parts (list_all is_work is.closed.before)
@@ -33,7 +33,7 @@ module _ {K C S I O : Type 0} (r : Rulebook C S I O) (m : Makers K I O) (d : Dee
       is.shown.works.work)).0
 
   -- it is reached by lines, where the world before the line is
-  abbrev by_lines_midst : (first : World K C S I O) (line : Line) (w : World K C S I O)
+  abbrev pub by_lines_midst : (first : World K C S I O) (line : Line) (w : World K C S I O)
       (node : Who) (why : Cause) → ByLines r m d first w
       → (is : IsLicensed r m d line w node why)
       → ByLines r m d first (midst r m d line w node why is)
@@ -72,38 +72,54 @@ module _ {K C S I O : Type 0} (r : Rulebook C S I O) (m : Makers K I O) (d : Dee
 
 -- ---- a line of a recording
 
--- what follows of each change that closes the node so: the changes before it are those of lines,
--- and where cookies are left behind the line, the legs of the client have cookies of their own
-abbrev pub Follows : AnyWorld → Who → Cause → Type 0 → Type 0
-Follows behind node why X =
-    (config : WorldConfig) → config_ranges.AreInRange config → (v : roles.World)
-    → (by : ByLines roles.rules roles.makers roles.deeds (roles.begun config) v)
-    → (AreLeftIn behind → HaveOwnCookies (happened (all_noted roles.rules roles.makers
-    roles.deeds (roles.begun config) nothing by.leads.changes).client))
-    → (change : Change) → MayChange roles.rules v change
-    → ClosesNode roles.rules v change node why → X
+-- so it is of what happened at the client until the change that closes a node, where cookies are
+-- left behind the line
+abbrev pub InMidst : (List Event → Type 0) → Type 0
+InMidst Fits =
+    (config : WorldConfig) (line : Line) (w : roles.World) (node : Who) (why : Cause)
+    (draws : DrawnByLines roles.rules roles.makers roles.deeds (roles.begun config) w)
+    (is : IsLicensed roles.rules roles.makers roles.deeds line w node why)
+    → AreLeft (step roles.rules roles.makers roles.deeds line w).0.cookies
+    → Fits (happened (all_noted roles.rules roles.makers roles.deeds (roles.begun config) nothing
+    (by_lines_midst roles.rules roles.makers roles.deeds (roles.begun config) line w node why
+    draws.works is).leads.changes).client)
 
-of_any : (node : Who) (why : Cause) (X : Type 0) (world : AnyWorld) → IsRecorded world
-    → (line : Line) → Follows (act world line).0 node why X → IsLicensedIn world line node why
-    → X
-of_any node why X Before h line law is = absurd is
-of_any node why X (Direct w) h line law is = absurd is
-of_any node why X (Settings config) h line law is = absurd is
-of_any node why X (Roles w) h line law is =
-    let first = roles.begun h.config in
-    law h.config h.ranges (midst roles.rules roles.makers roles.deeds line w node why is)
-    (by_lines_midst roles.rules roles.makers roles.deeds first line w node why h.lines is)
-    (own_in_midst roles.rules roles.makers roles.deeds first line w node why (reached_draws w h)
-    is)
-    is.closed.change (may_midst roles.rules roles.makers roles.deeds line w node why is)
-    is.closed.closes
+own_midst : InMidst HaveOwnCookies
+own_midst config line w node why draws is left =
+    own_in_midst roles.rules roles.makers roles.deeds (roles.begun config) line w node why draws is
+    left
 
-pub of_reached : (node : Who) (why : Cause) (X : Type 0) (before : List Line) (line : Line)
-    → Follows (act (prepared (after Before before) line) line).0 node why X
-    → IsLicensedIn (prepared (after Before before) line) line node why → X
-of_reached node why X before line law is =
-    of_any node why X (prepared (after Before before) line)
-    (prepared_is_recorded (after Before before) line (behind_lines Before before tt)) line law is
+module _ (Fits : List Event → Type 0) (midst_fits : InMidst Fits) where
+  -- what follows of each change that closes the node so: the changes before it are those of lines
+  abbrev pub Follows : AnyWorld → Who → Cause → Type 0 → Type 0
+  Follows behind node why X =
+      (config : WorldConfig) → config_ranges.AreInRange config → (v : roles.World)
+      → (by : ByLines roles.rules roles.makers roles.deeds (roles.begun config) v)
+      → (AreLeftIn behind → Fits (happened (all_noted roles.rules roles.makers roles.deeds
+      (roles.begun config) nothing by.leads.changes).client))
+      → (change : Change) → MayChange roles.rules v change
+      → ClosesNode roles.rules v change node why → X
+
+  of_any : (node : Who) (why : Cause) (X : Type 0) (world : AnyWorld) → IsRecorded world
+      → (line : Line) → Follows (act world line).0 node why X → IsLicensedIn world line node why
+      → X
+  of_any node why X Before h line law is = absurd is
+  of_any node why X (Direct w) h line law is = absurd is
+  of_any node why X (Settings config) h line law is = absurd is
+  of_any node why X (Roles w) h line law is =
+      let first = roles.begun h.config in
+      law h.config h.ranges (midst roles.rules roles.makers roles.deeds line w node why is)
+      (by_lines_midst roles.rules roles.makers roles.deeds first line w node why h.lines is)
+      (midst_fits h.config line w node why (reached_draws w h) is)
+      is.closed.change (may_midst roles.rules roles.makers roles.deeds line w node why is)
+      is.closed.closes
+
+  pub of_reached : (node : Who) (why : Cause) (X : Type 0) (before : List Line) (line : Line)
+      → Follows (act (prepared (after Before before) line) line).0 node why X
+      → IsLicensedIn (prepared (after Before before) line) line node why → X
+  of_reached node why X before line law is =
+      of_any node why X (prepared (after Before before) line)
+      (prepared_is_recorded (after Before before) line (behind_lines Before before tt)) line law is
 
 -- and of each change behind others, where settings made the world
 pub of_recording : (node : Who) (why : Cause) (X : Type 0)
@@ -114,7 +130,7 @@ pub of_recording : (node : Who) (why : Cause) (X : Type 0)
     → (before : List Line) (line : Line)
     → IsLicensedIn (prepared (after Before before) line) line node why → X
 of_recording node why X law before line =
-    of_reached node why X before line (λ config ranges v by own.
+    of_reached HaveOwnCookies own_midst node why X before line (λ config ranges v by own.
     law config (in_range config ranges) v
     (lines_by_changes roles.rules roles.makers roles.deeds (roles.begun config) v by))
 
@@ -130,6 +146,6 @@ pub of_recording_apart : (node : Who) (why : Cause) (X : Type 0)
     → AreLeftIn (act (prepared (after Before before) line) line).0
     → IsLicensedIn (prepared (after Before before) line) line node why → X
 of_recording_apart node why X law before line left =
-    of_reached node why X before line (λ config ranges v by own.
+    of_reached HaveOwnCookies own_midst node why X before line (λ config ranges v by own.
     law config (in_range config ranges) v
     (lines_by_changes roles.rules roles.makers roles.deeds (roles.begun config) v by) (own left))

@@ -10,47 +10,31 @@ use Rattle.rh_client.specs.Client as client
 use Rattle.rh_wires.specs.Legs as legs
 use Rattle.rh_company.specs.Company as company
 use Rattle.rh_company.specs.Places as places
-use Rattle.law_moves.proofs.Vocabulary.{Dir, U, D, Cause, Leg, LegKind, ClientOut, OutServer, ClientIn, InServer, Message, Rules, Shell, EndMove, IsFineMessage, of_leg, all_read_of}
+use Rattle.law_moves.proofs.Vocabulary.{Dir, U, D, Cause, Leg, LegKind, ClientOut, OutServer, ClientIn, InServer, Message, Shell, EndMove, IsFineMessage, of_leg, all_read_of}
 use Rattle.law_role_inproxy.proofs.Vocabulary.{InProxy}
 use Rattle.law_role_client.proofs.Vocabulary.{ClientRole, ci, co}
 use Rattle.law_role_server.proofs.Vocabulary.{Server}
 use Rattle.law_node_history.proofs.Vocabulary.{Who, reader_of, receiver, Event, Comes, Place, Absent, Here, Gone, Makers, leg_at, World, at, happened, Change, IsFed, MayChange, ClosesNode, History, in_place, out_place}
 use Rattle.law_node_history.proofs.Lemmas.{answered}
-use Rattle.law_node_causes.specs.Closings.{ClosesWith, MayClose}
+use Rattle.law_node_causes.specs.Closings.{ClosesWith}
 use Rattle.law_role_outproxy.proofs.Vocabulary.{OutProxy}
 use Rattle.law_peers_moments.specs.Moments.{AreJoined, Passages}
 use Rattle.law_node_traces.proofs.Vocabulary.{ByChanges, AreOurs, deeds, rules, history_at}
 use Rattle.law_world_order.proofs.Joined.{AreAlone, put_is_fine}
 use Rattle.law_world_order.proofs.Legs.{Reads}
 use Rattle.law_world_order.proofs.Vocabulary.{IsFlowing, numbers_of, AreDistinct, AreInRange}
-use Rattle.law_world_honest.proofs.Honesty.Closing.{EachComes, by_fed}
+use Rattle.law_world_honest.proofs.Honesty.Closing.{by_fed}
 use Rattle.law_world_honest.proofs.Honesty.Fed.{told_what, told_who}
-use Rattle.law_world_windows.proofs.Moment.{Laws, NodeLaws, known}
-use Rattle.law_world_windows.proofs.Stopping.{Readings}
+use Rattle.law_world_windows.proofs.Moment.{comes_of, known}
 use Rattle.law_world_windows.proofs.ClientHops.Honest.{RoleLaws, are_honest, distinct_behind}
 use Rattle.law_world_windows.proofs.ClientHops.Moments.{client_next, flows, in_next, joined, out_next, passages, story, world}
 use Rattle.law_world_windows.proofs.ClientHops.Refusing.{client_range, client_window, in_range, in_window, out_range, out_range_none, out_window}
 use Rattle.law_world_windows.proofs.ClientHops.Routes.{AreHonest}
 use Rattle.law_world_windows.proofs.Closing.{in_number, out_number}
+use Rattle.law_world_windows.specs.Known.{Laws, NodesLaws, Readings}
 use Rattle.law_world_windows.specs.Hops.{os_leg}
 use Rattle.law_world_windows.specs.Refusing.{RefusesMessage}
 use Rattle.law_world_windows.specs.ClientHops.{HasOneWindow}
-
--- ---- the laws that this stands on
-
-abbrev pub ClosesAmiss : {S : Type 0} → Rules S → Type 0
-ClosesAmiss {S} rules =
-    (node : Shell S) (event : Event) (why : Cause) → ClosesWith rules node event why
-    → MayClose rules node event why
-
-pub record NodesLaws : Type 0 where
-  pub comes : EachComes
-  pub client_amiss : ClosesAmiss client.rules
-  pub ins_amiss : ClosesAmiss in_proxy.rules
-  pub outs_amiss : ClosesAmiss out_proxy.rules
-  pub client : NodeLaws client.rules
-  pub ins : NodeLaws in_proxy.rules
-  pub outs : NodeLaws out_proxy.rules
 
 module _ {K : Type 0} (roles : RoleLaws) (nodes : NodesLaws) (reads : Reads) (readings : Readings)
     (m : Makers K InProxy OutProxy) (w : World K ClientRole Server InProxy OutProxy)
@@ -125,7 +109,7 @@ module _ {K : Type 0} (roles : RoleLaws) (nodes : NodesLaws) (reads : Reads) (re
   client_range_fed n command value leg dir count may here closes =
       subst (λ (x : Leg). May x dir → at v x (receiver dir) ≡ who.Client
       → ClosesWith client.rules v.company.client (event x dir count) why → ⊥)
-      (nodes.client_amiss v.company.client (event leg dir count) why closes).cause (by_dir dir)
+      (nodes.client.amiss v.company.client (event leg dir count) why closes).cause (by_dir dir)
       may here closes
     where
       why : Cause
@@ -150,7 +134,7 @@ module _ {K : Type 0} (roles : RoleLaws) (nodes : NodesLaws) (reads : Reads) (re
   client_window_fed n reached edge leg dir count may here closes =
       subst (λ (x : Leg). May x dir → at v x (receiver dir) ≡ who.Client
       → ClosesWith client.rules v.company.client (event x dir count) why → ⊥)
-      (nodes.client_amiss v.company.client (event leg dir count) why closes).cause (by_dir dir)
+      (nodes.client.amiss v.company.client (event leg dir count) why closes).cause (by_dir dir)
       may here closes
     where
       why : Cause
@@ -238,7 +222,7 @@ module _ {K : Type 0} (roles : RoleLaws) (nodes : NodesLaws) (reads : Reads) (re
   in_window_fed k n reached edge =
       in_fed k (cause.WindowExceeded (ci n) reached edge) (λ leg count node dir closes.
       subst (InFed k (cause.WindowExceeded (ci n) reached edge))
-      (nodes.ins_amiss node (event leg dir count) (cause.WindowExceeded (ci n) reached edge)
+      (nodes.ins.amiss node (event leg dir count) (cause.WindowExceeded (ci n) reached edge)
       closes).cause (in_window_at k n reached edge))
 
   in_range_at : (k n command value : ℕ)
@@ -258,7 +242,7 @@ module _ {K : Type 0} (roles : RoleLaws) (nodes : NodesLaws) (reads : Reads) (re
   in_range_fed k n command value =
       in_fed k (cause.OutOfRange (ci n) command value) (λ leg count node dir closes.
       subst (InFed k (cause.OutOfRange (ci n) command value))
-      (nodes.ins_amiss node (event leg dir count) (cause.OutOfRange (ci n) command value)
+      (nodes.ins.amiss node (event leg dir count) (cause.OutOfRange (ci n) command value)
       closes).cause (in_range_at k n command value))
 
   -- ---- an out proxy
@@ -286,7 +270,7 @@ module _ {K : Type 0} (roles : RoleLaws) (nodes : NodesLaws) (reads : Reads) (re
   out_window_fed k n reached edge =
       out_fed k (cause.WindowExceeded (co n) reached edge) (λ leg count node dir closes.
       subst (OutFed k (cause.WindowExceeded (co n) reached edge))
-      (nodes.outs_amiss node (event leg dir count) (cause.WindowExceeded (co n) reached edge)
+      (nodes.outs.amiss node (event leg dir count) (cause.WindowExceeded (co n) reached edge)
       closes).cause (out_window_at k n reached edge))
 
   -- on each leg that it has
@@ -344,39 +328,39 @@ module _ {K : Type 0} (roles : RoleLaws) (nodes : NodesLaws) (reads : Reads) (re
     no_in_window k n reached edge is =
         let why = cause.WindowExceeded (ci n) reached edge in
         by_fed v (who.In k) why ⊥ (fed (who.In k) why (in_window_fed k n reached edge))
-        nodes.comes change may is (λ S rules shell comes. comes)
+        (comes_of nodes) change may is (λ S rules shell comes. comes)
 
     pub no_in_range : (k n command value : ℕ)
         → ClosesNode rules v change (who.In k) (cause.OutOfRange (ci n) command value) → ⊥
     no_in_range k n command value is =
         let why = cause.OutOfRange (ci n) command value in
         by_fed v (who.In k) why ⊥ (fed (who.In k) why (in_range_fed k n command value))
-        nodes.comes change may is (λ S rules shell comes. comes)
+        (comes_of nodes) change may is (λ S rules shell comes. comes)
 
     pub no_client_range : (n command value : ℕ)
         → ClosesNode rules v change who.Client (cause.OutOfRange (co n) command value) → ⊥
     no_client_range n command value is =
         let why = cause.OutOfRange (co n) command value in
         by_fed v who.Client why ⊥ (fed who.Client why (client_range_fed n command value))
-        nodes.comes change may is (λ S rules shell comes. comes)
+        (comes_of nodes) change may is (λ S rules shell comes. comes)
 
     pub no_client_window : (n reached edge : ℕ)
         → ClosesNode rules v change who.Client (cause.WindowExceeded (co n) reached edge) → ⊥
     no_client_window n reached edge is =
         let why = cause.WindowExceeded (co n) reached edge in
         by_fed v who.Client why ⊥ (fed who.Client why (client_window_fed n reached edge))
-        nodes.comes change may is (λ S rules shell comes. comes)
+        (comes_of nodes) change may is (λ S rules shell comes. comes)
 
     pub no_out_range : (k : ℕ) (leg : Leg) (command value : ℕ)
         → ClosesNode rules v change (who.Out k) (cause.OutOfRange leg command value) → ⊥
     no_out_range k leg command value is =
         let why = cause.OutOfRange leg command value in
         by_fed v (who.Out k) why ⊥ (fed (who.Out k) why (out_range_fed k leg command value))
-        nodes.comes change may is (λ S rules shell comes. comes)
+        (comes_of nodes) change may is (λ S rules shell comes. comes)
 
     pub no_out_window : (k n reached edge : ℕ)
         → ClosesNode rules v change (who.Out k) (cause.WindowExceeded (co n) reached edge) → ⊥
     no_out_window k n reached edge is =
         let why = cause.WindowExceeded (co n) reached edge in
         by_fed v (who.Out k) why ⊥ (fed (who.Out k) why (out_window_fed k n reached edge))
-        nodes.comes change may is (λ S rules shell comes. comes)
+        (comes_of nodes) change may is (λ S rules shell comes. comes)

@@ -15,11 +15,11 @@ use Rattle.law_node_traces.proofs.Vocabulary.{ByChanges, AreOurs, deeds, rules, 
 use Rattle.law_world_order.proofs.Joined.{AreAlone, all, joined_at}
 use Rattle.law_world_order.proofs.Legs.{Reads}
 use Rattle.law_world_order.proofs.Vocabulary.{IsFlowing, numbers_of, AreDistinct, AreInRange}
-use Rattle.law_world_windows.proofs.Moment.{Laws}
 use Rattle.law_world_windows.proofs.ClientHops.Honest.{RoleLaws, are_honest}
 use Rattle.law_world_windows.proofs.ClientHops.Joining.{client_opened}
 use Rattle.law_world_windows.proofs.ClientHops.Kept.{in_is_kept, out_is_kept}
 use Rattle.law_world_windows.proofs.ClientHops.Routes.{AreHonest}
+use Rattle.law_world_windows.specs.Known.{Laws}
 use Rattle.law_world_windows.specs.ClientHops.{HasOneWindow}
 use Rattle.law_world_windows.specs.KeptAfar.{ClientHopsAreKept, InIsKept, OpensOut}
 

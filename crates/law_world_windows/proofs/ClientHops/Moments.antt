@@ -27,11 +27,11 @@ use Rattle.law_world_order.proofs.Vocabulary.{IsFlowing, numbers_of, read_on}
 use Rattle.law_world_honest.proofs.Honesty.Fed.{strict_on}
 use Rattle.law_world_honest.specs.Honesty.Honest.{well_on}
 use Rattle.law_world_windows.proofs.Fed.{heard_behind, in_events, out_events, piece, told_here}
-use Rattle.law_world_windows.proofs.Moment.{Laws, NodeLaws, behind, closes_at, drawn_before, flowing_behind, known, noted_append, now, well_behind}
+use Rattle.law_world_windows.proofs.Moment.{behind, closes_at, drawn_before, flowing_behind, known, noted_append, now, well_behind}
 use Rattle.law_world_windows.proofs.OneByte.{AtByte}
 use Rattle.law_world_windows.proofs.Pieces.{FedFronts, fed_fronts}
-use Rattle.law_world_windows.proofs.Stopping.{Readings}
 use Rattle.law_world_windows.proofs.ClientHops.Stops.{IsNext, end_next, stream_next}
+use Rattle.law_world_windows.specs.Known.{Laws, NodeLaws, Readings}
 use Rattle.law_world_windows.specs.Refusing.{refused_by}
 
 -- what a node drew it has drawn whatever changes

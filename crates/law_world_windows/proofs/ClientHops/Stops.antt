@@ -12,7 +12,7 @@ use Rattle.law_node_streams.specs.Streams.{EndStream, Seated, Stream}
 use Rattle.law_world_windows.proofs.Fed.{heard_behind}
 use Rattle.law_world_windows.proofs.NextRefused.{byte_refused}
 use Rattle.law_world_windows.proofs.OneByte.{AtByte}
-use Rattle.law_world_windows.proofs.Stopping.{Readings}
+use Rattle.law_world_windows.specs.Known.{Readings}
 use Rattle.law_world_windows.specs.Refusing.{refused_by, RefusesMessage, RefusesNext}
 
 -- behind what came a message is the next of all that was put at the other end, and a row refuses it

@@ -19,12 +19,13 @@ use Rattle.law_node_history.proofs.Lemmas.{answered}
 use Rattle.law_node_causes.specs.Closings.{ClosesWith}
 use Rattle.law_role_outproxy.proofs.Vocabulary.{OutProxy}
 use Rattle.law_node_traces.proofs.Vocabulary.{rules}
-use Rattle.law_world_honest.proofs.Honesty.Closing.{EachComes, by_fed}
+use Rattle.law_world_honest.proofs.Honesty.Closing.{by_fed}
 use Rattle.law_world_honest.proofs.Honesty.Fed.{told_what}
 use Rattle.law_world_honest.specs.Honesty.Causes.{RowRefuses}
 use Rattle.law_world_honest.specs.Honesty.Honest.{IsOfNode}
-use Rattle.law_world_windows.proofs.ClientHops.Closing.{ClosesAmiss}
+use Rattle.law_world_windows.proofs.Moment.{comes_of}
 use Rattle.law_world_windows.specs.Hops.{is_leg, os_leg}
+use Rattle.law_world_windows.specs.Known.{NodesLaws}
 use Rattle.law_world_windows.specs.Windowed.{PacketFits, PduFits, RefusesOn}
 
 -- ---- the laws that this stands on
@@ -46,12 +47,6 @@ pub record EachExceeds : Type 0 where
   pub server : ExceedsForRow server.rules
   pub ins : ExceedsForRow in_proxy.rules
   pub outs : ExceedsForRow out_proxy.rules
-
-pub record EachAmiss : Type 0 where
-  pub client : ClosesAmiss client.rules
-  pub server : ClosesAmiss server.rules
-  pub ins : ClosesAmiss in_proxy.rules
-  pub outs : ClosesAmiss out_proxy.rules
 
 -- ---- what a row refuses is on a leg of its kind
 
@@ -131,14 +126,14 @@ module _ {K : Type 0} (v : World K ClientRole Server InProxy OutProxy) (change :
     why = cause.OutOfRange leg command value
 
     -- a piece that closes it so came on that leg
-    came_there : EachAmiss → (on : Leg) (piece : List ℕ)
+    came_there : NodesLaws → (on : Leg) (piece : List ℕ)
         → (company.tell rules v.company node (Comes on piece)).1 ≡ Some why → leg ≡ on
     came_there each on piece closes =
         of_node v (Comes on piece) why (λ (x : Who). leg ≡ on)
-        (λ e. (each.client v.company.client (Comes on piece) why e).cause)
-        (λ e. (each.server v.company.server (Comes on piece) why e).cause)
-        (λ n s e. (each.ins s (Comes on piece) why e).cause)
-        (λ n s e. (each.outs s (Comes on piece) why e).cause) node closes
+        (λ e. (each.client.amiss v.company.client (Comes on piece) why e).cause)
+        (λ e. (each.server.amiss v.company.server (Comes on piece) why e).cause)
+        (λ n s e. (each.ins.amiss s (Comes on piece) why e).cause)
+        (λ n s e. (each.outs.amiss s (Comes on piece) why e).cause) node closes
 
     of_node_row : (one : Who) (on : Leg) (dir : Dir) (heard : List ℕ)
         → IsOfNode one on dir heard why → NodeRefuses on (refused.OutOfRange command value) one
@@ -147,13 +142,13 @@ module _ {K : Type 0} (v : World K ClientRole Server InProxy OutProxy) (change :
     of_node_row (who.In n) on dir heard is = is
     of_node_row (who.Out n) on dir heard is = is
 
-    range_refused : EachComes → EachAmiss → MayChange rules v change
+    range_refused : NodesLaws → MayChange rules v change
         → ((on : Leg) (dir : Dir) (count : ℕ) → MayChange rules v (IsFed on dir count)
         → ClosesNode rules v (IsFed on dir count) node why
         → (heard : List ℕ) × IsOfNode node on dir heard why)
         → ClosesNode rules v change node why
         → NodeRefuses leg (refused.OutOfRange command value) node
-    range_refused comes each may fed is =
+    range_refused each may fed is =
         by_fed v node why (NodeRefuses leg (refused.OutOfRange command value) node)
         (λ on dir count fed_may closes.
         let of_role = fed on dir count fed_may closes in
@@ -163,7 +158,7 @@ module _ {K : Type 0} (v : World K ClientRole Server InProxy OutProxy) (change :
         (sym (told_what _ _ _ _ closes.told)) closes.closes) in
         subst (λ (l : Leg). NodeRefuses l (refused.OutOfRange command value) node) (sym same)
         (of_node_row node on dir of_role.0 of_role.1))
-        comes change may is (λ S its shell from. from)
+        (comes_of each) change may is (λ S its shell from. from)
 
 -- ---- no node
 
@@ -243,12 +238,12 @@ module _ {K : Type 0} (rows : EachRefusesOn) (v : World K ClientRole Server InPr
       window_never leg reached edge node
       (window_refused v change node leg each reached edge closes) closes
 
-  pub no_range : EachComes → EachAmiss → MayChange rules v change → (node : Who) (leg : Leg)
+  pub no_range : NodesLaws → MayChange rules v change → (node : Who) (leg : Leg)
       (command value : ℕ)
       → ((on : Leg) (dir : Dir) (count : ℕ) → MayChange rules v (IsFed on dir count)
       → ClosesNode rules v (IsFed on dir count) node (cause.OutOfRange leg command value)
       → (heard : List ℕ) × IsOfNode node on dir heard (cause.OutOfRange leg command value))
       → ClosesNode rules v change node (cause.OutOfRange leg command value) → ⊥
-  no_range comes each may node leg command value fed closes =
+  no_range each may node leg command value fed closes =
       range_never leg command value node
-      (range_refused v change node leg command value comes each may fed closes) closes
+      (range_refused v change node leg command value each may fed closes) closes

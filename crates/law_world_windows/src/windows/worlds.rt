@@ -15,9 +15,9 @@ ghost use Rattle.law_world_order.specs.Premises.{AreDistinct, AtEachMoment, InNe
 ghost use Rattle.law_world_windows.specs.ClientHops.{HasOneWindow};
 
 use crate::client_hops::no_hop_of_a_client_closes_a_node;
+use crate::known::nodes_keep_their_laws;
 use crate::no_hop_on_one_leg_closes_a_node;
 use crate::windows::rows::{a_window_is_exceeded_for_a_row, rows_refuse_on_their_legs};
-use law_node_causes::{causes_come_from_their_events, events_close_with_their_causes};
 use law_world_honest::what_is_fed_closes_for_the_role;
 use rh_client::ClientRole;
 use rh_inproxy::InProxyRole;
@@ -51,12 +51,5 @@ pub fn no_window_closes_a_node<K>()
     a_window_is_exceeded_for_a_row::<ServerRole>();
     a_window_is_exceeded_for_a_row::<InProxyRole>();
     a_window_is_exceeded_for_a_row::<OutProxyRole>();
-    events_close_with_their_causes::<ClientRole>();
-    events_close_with_their_causes::<ServerRole>();
-    events_close_with_their_causes::<InProxyRole>();
-    events_close_with_their_causes::<OutProxyRole>();
-    causes_come_from_their_events::<ClientRole>();
-    causes_come_from_their_events::<ServerRole>();
-    causes_come_from_their_events::<InProxyRole>();
-    causes_come_from_their_events::<OutProxyRole>();
+    nodes_keep_their_laws();
 }

@@ -9,8 +9,12 @@ use Rattle.law_world_expected.specs.Roles.{InExpects, OfClient, WorldsExpect}
 
 pub returns : goal.returns
 returns g c = record {
-  unexpected = c.no_node_refuses_what_it_expects.ensures.in_unexpected worlds;
-  cookie = c.no_node_refuses_what_it_expects.ensures.in_cookie worlds;
+  unexpected = λ m w new ours ranges v by distinct change may k leg place.
+      (c.no_node_refuses_what_it_expects.ensures.in_proxies worlds m w new ours ranges v by distinct
+      k leg).0 place change may;
+  cookie = λ m w new ours ranges v by distinct change may k leg expected got.
+      (c.no_node_refuses_what_it_expects.ensures.in_proxies worlds m w new ours ranges v by distinct
+      k leg).1 expected got change may;
 }
   where
     worlds : WorldsExpect g.row.K.Denot (OfClient AreDistinct) InExpects

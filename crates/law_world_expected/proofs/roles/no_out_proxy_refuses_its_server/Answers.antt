@@ -7,8 +7,12 @@ use Rattle.law_world_expected.specs.Roles.{HaveCookies, OfClient, OutExpectsServ
 
 pub returns : goal.returns
 returns g c = record {
-  unexpected = c.no_node_refuses_what_it_expects.ensures.out_server_unexpected worlds;
-  cookie = c.no_node_refuses_what_it_expects.ensures.out_server_cookie worlds;
+  unexpected = λ m w new ours ranges v by have change may k n place.
+      (c.no_node_refuses_what_it_expects.ensures.out_server worlds m w new ours ranges v by have k
+      n).0 place change may;
+  cookie = λ m w new ours ranges v by have change may k n expected got.
+      (c.no_node_refuses_what_it_expects.ensures.out_server worlds m w new ours ranges v by have k
+      n).1 expected got change may;
 }
   where
     worlds : WorldsExpect g.row.K.Denot (OfClient HaveCookies) OutExpectsServer

@@ -6,8 +6,12 @@ use Rattle.law_world_expected.specs.Roles.{IsByLines, ServerExpectsIn, WorldsExp
 
 pub returns : goal.returns
 returns g c = record {
-  unexpected = c.no_node_refuses_what_it_expects.ensures.server_in_unexpected worlds;
-  cookie = c.no_node_refuses_what_it_expects.ensures.server_in_cookie worlds;
+  unexpected = λ m w new ours ranges v by lines distinct change may n place.
+      (c.no_node_refuses_what_it_expects.ensures.server_in worlds m w new ours ranges v by lines distinct
+      n).0 place change may;
+  cookie = λ m w new ours ranges v by lines distinct change may n expected got.
+      (c.no_node_refuses_what_it_expects.ensures.server_in worlds m w new ours ranges v by lines distinct
+      n).1 expected got change may;
 }
   where
     worlds : WorldsExpect g.row.K.Denot IsByLines ServerExpectsIn

@@ -5,8 +5,12 @@ use Rattle.law_world_expected.specs.Roles.{OfClient, ServerExpectsOut, WorldsExp
 
 pub returns : goal.returns
 returns g c = record {
-  unexpected = c.no_node_refuses_what_it_expects.ensures.server_out_unexpected worlds;
-  cookie = c.no_node_refuses_what_it_expects.ensures.server_out_cookie worlds;
+  unexpected = λ m w new ours ranges v by distinct change may n place.
+      (c.no_node_refuses_what_it_expects.ensures.server_out worlds m w new ours ranges v by distinct
+      n).0 place change may;
+  cookie = λ m w new ours ranges v by distinct change may n expected got.
+      (c.no_node_refuses_what_it_expects.ensures.server_out worlds m w new ours ranges v by distinct
+      n).1 expected got change may;
 }
   where
     worlds : WorldsExpect g.row.K.Denot (OfClient AreDistinct) ServerExpectsOut

@@ -6,7 +6,9 @@ use Rattle.law_world_expected.specs.Roles.{ClientExpects, OfClient, WorldsExpect
 
 pub returns : goal.returns
 returns g c = record {
-  unexpected = c.no_node_refuses_what_it_expects.ensures.client_unexpected worlds;
+  unexpected = λ m w new ours ranges port v by distinct change may n place.
+      c.no_node_refuses_what_it_expects.ensures.client worlds m w new ours ranges port v by distinct
+      n place change may;
   cookie = λ m w new ours ranges port v by distinct change may n expected got closes.
       c.a_client_refuses_no_cookie.ensures m w new ours ranges v by change may (co n) expected got
       closes;

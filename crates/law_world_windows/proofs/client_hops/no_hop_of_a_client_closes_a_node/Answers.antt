@@ -6,45 +6,45 @@ use Rattle.law_moves.proofs.Vocabulary.{all_end_moved, all_moved, end_started, s
 use Rattle.law_role_inproxy.proofs.Vocabulary.{InProxy}
 use Rattle.law_role_client.proofs.Vocabulary.{ClientRole, client_moved}
 use Rattle.law_role_server.proofs.Vocabulary.{Server}
-use Rattle.law_node_history.proofs.Vocabulary.{Makers, World, IsNew}
+use Rattle.law_node_history.proofs.Vocabulary.{Makers, World}
 use Rattle.law_role_outproxy.proofs.Vocabulary.{OutProxy, new_proxy}
-use Rattle.law_node_traces.proofs.Vocabulary.{AreOurs, deeds, rules}
-use Rattle.law_peers_routes.proofs.Upwards.Unread.{refusal_unread}
+use Rattle.law_node_traces.proofs.Vocabulary.{deeds, rules}
 use Rattle.law_world_order.proofs.Joined.{AreAlone}
-use Rattle.law_world_order.proofs.Legs.{Reads}
-use Rattle.law_world_order.proofs.Vocabulary.{numbers_of, AreInRange}
-use Rattle.law_world_windows.proofs.Moment.{Laws}
-use Rattle.law_world_windows.proofs.Stopping.{Readings}
-use Rattle.law_world_windows.proofs.ClientHops.Closing.{NodesLaws, no_client_range, no_client_window, no_in_range, no_in_window, no_out_range, no_out_window}
+use Rattle.law_world_windows.proofs.ClientHops.Closing.{no_client_range, no_client_window, no_in_range, no_in_window, no_out_range, no_out_window}
 use Rattle.law_world_windows.proofs.ClientHops.Honest.{RoleLaws}
 use Rattle.law_world_windows.proofs.ClientHops.Joining.{client_begins, client_opens_once, client_receives, client_sends, in_proxy_sees, out_proxy_sees, server_sees}
 use Rattle.law_world_windows.proofs.ClientHops.KeptMoments.{RoomLaws, client_hops_are_kept}
+use Rattle.law_world_windows.proofs.Moment.{reads_of}
 use Rattle.law_world_windows.proofs.client_hops.no_hop_of_a_client_closes_a_node.Goals as goal
 
 pub returns : goal.returns
-returns g c = record {
-  in_window = λ m w new ours ranges one v by distinct change may k n reached edge closes.
-      no_in_window roles nodes reads readings m w ours ranges one (law m w new ours ranges)
-      (alone m w) v by distinct change may k n reached edge closes;
-  in_range = λ m w new ours ranges one v by distinct change may k n command value closes.
-      no_in_range roles nodes reads readings m w ours ranges one (law m w new ours ranges)
-      (alone m w) v by distinct change may k n command value closes;
-  client_window = λ m w new ours ranges one v by distinct change may n reached edge closes.
-      no_client_window roles nodes reads readings m w ours ranges one (law m w new ours ranges)
-      (alone m w) v by distinct change may n reached edge closes;
-  client_range = λ m w new ours ranges one v by distinct change may n command value closes.
-      no_client_range roles nodes reads readings m w ours ranges one (law m w new ours ranges)
-      (alone m w) v by distinct change may n command value closes;
-  out_window = λ m w new ours ranges one v by distinct change may k n reached edge closes.
-      no_out_window roles nodes reads readings m w ours ranges one (law m w new ours ranges)
-      (alone m w) v by distinct change may k n reached edge closes;
-  out_range = λ m w new ours ranges one v by distinct change may k leg command value closes.
-      no_out_range roles nodes reads readings m w ours ranges one (law m w new ours ranges)
-      (alone m w) v by distinct change may k leg command value closes;
-  kept = λ m w new ours ranges one.
-      client_hops_are_kept roles rooms reads m w ours ranges one (law m w new ours ranges)
-      (alone m w);
-}
+returns g c =
+    let nodes = c.nodes_keep_their_laws.ensures in
+    let readings = c.what_was_put_reads_back.ensures in
+    let reads = reads_of readings in
+    let law = c.worlds_keep_their_laws.ensures in record {
+      in_window = λ m w new ours ranges one v by distinct change may k n reached edge closes.
+          no_in_window roles nodes reads readings m w ours ranges one (law m w new ours ranges)
+          (alone m w) v by distinct change may k n reached edge closes;
+      in_range = λ m w new ours ranges one v by distinct change may k n command value closes.
+          no_in_range roles nodes reads readings m w ours ranges one (law m w new ours ranges)
+          (alone m w) v by distinct change may k n command value closes;
+      client_window = λ m w new ours ranges one v by distinct change may n reached edge closes.
+          no_client_window roles nodes reads readings m w ours ranges one (law m w new ours ranges)
+          (alone m w) v by distinct change may n reached edge closes;
+      client_range = λ m w new ours ranges one v by distinct change may n command value closes.
+          no_client_range roles nodes reads readings m w ours ranges one (law m w new ours ranges)
+          (alone m w) v by distinct change may n command value closes;
+      out_window = λ m w new ours ranges one v by distinct change may k n reached edge closes.
+          no_out_window roles nodes reads readings m w ours ranges one (law m w new ours ranges)
+          (alone m w) v by distinct change may k n reached edge closes;
+      out_range = λ m w new ours ranges one v by distinct change may k leg command value closes.
+          no_out_range roles nodes reads readings m w ours ranges one (law m w new ours ranges)
+          (alone m w) v by distinct change may k leg command value closes;
+      kept = λ m w new ours ranges one.
+          client_hops_are_kept roles rooms reads m w ours ranges one (law m w new ours ranges)
+          (alone m w);
+    }
   where
     roles : RoleLaws
     roles = record {
@@ -91,62 +91,6 @@ returns g c = record {
       ins = c.an_in_proxy_tells_within_its_window.ensures;
       client = c.a_client_tells_within_its_window.ensures;
       opens = c.a_client_tells_what_its_windows_told.ensures.opened;
-    }
-
-    nodes : NodesLaws
-    nodes = record {
-      comes = record {
-        client = c.causes_come_from_their_events.ensures;
-        server = c.causes_come_from_their_events-2.ensures;
-        ins = c.causes_come_from_their_events-3.ensures;
-        outs = c.causes_come_from_their_events-4.ensures;
-      };
-      client_amiss = c.events_close_with_their_causes.ensures;
-      ins_amiss = c.events_close_with_their_causes-2.ensures;
-      outs_amiss = c.events_close_with_their_causes-3.ensures;
-      client = record {
-        cuts = c.cuts_change_nothing.ensures.bytes;
-        stays = c.first_cause_is_kept.ensures;
-        closed = c.a_node_closes_once.ensures.closed;
-        again = c.a_node_closes_once.ensures.again;
-      };
-      ins = record {
-        cuts = c.cuts_change_nothing-2.ensures.bytes;
-        stays = c.first_cause_is_kept-2.ensures;
-        closed = c.a_node_closes_once-2.ensures.closed;
-        again = c.a_node_closes_once-2.ensures.again;
-      };
-      outs = record {
-        cuts = c.cuts_change_nothing-3.ensures.bytes;
-        stays = c.first_cause_is_kept-3.ensures;
-        closed = c.a_node_closes_once-3.ensures.closed;
-        again = c.a_node_closes_once-3.ensures.again;
-      };
-    }
-
-    reads : Reads
-    reads = record {
-      put = c.what_was_put_is_read.ensures;
-      fine = c.what_is_read_is_fine.ensures;
-      refusal = refusal_unread;
-    }
-
-    readings : Readings
-    readings = record {
-      put = c.what_was_put_is_read.ensures;
-      parts = c.all_that_was_put_is_read.ensures.parts;
-      piece = c.a_piece_reads_well.ensures;
-    }
-
-    law : (m : Makers g.row.K.Denot InProxy OutProxy)
-        (w : World g.row.K.Denot ClientRole Server InProxy OutProxy) → IsNew w
-        → (ours : AreOurs m w.company w.cast) → AreInRange (numbers_of ours) → Laws m w ours
-    law m w new ours ranges = record {
-      known = λ u leads. c.a_recording_of_roles_is_known.ensures.changes m w u new ours leads;
-      flowing = c.what_is_put_is_legible.ensures m w new ours ranges;
-      well = c.what_is_heard_reads_well.ensures m w new ours ranges;
-      before = c.what_is_heard_was_drawn_before.ensures rules m deeds w.company;
-      drawn = c.what_is_heard_was_drawn.ensures rules m deeds w.company;
     }
 
     alone : (m : Makers g.row.K.Denot InProxy OutProxy)

@@ -1,15 +1,15 @@
-use Rattle.std.proofs.Common.{◌≡◌, ◌≤◌, ◌+◌, List, drop, length, sym, ap, ◌∙◌, subst, arith}
-use Rattle.std.proofs.lemmas.List.{drop-drop, drop_all, length-append}
+use Rattle.std.proofs.Common.{List, drop, length, sym, ap, ◌∙◌, subst, arith}
+use Rattle.std.proofs.lemmas.List.{drop-drop, length-append}
 use Rattle.rh_audit.specs.declared.pieces.Piece.{Piece}
 use Rattle.rh_audit.specs.Pieces.{all_seen}
-use Rattle.rh_audit.proofs.ReadLaws.{InReading, reading_all, reading_none, run_kind, run_read}
+use Rattle.rh_audit.proofs.ReadLaws.{InReading, reading_none, run_kind, run_read}
 use Rattle.rh_audit.proofs.legs.read_legs.Goals as goal
 
 pub tags-init : goal.tags-init
 tags-init c = (
   omega arith,
   reading_none (all_seen c.args.lines.now) c.new-legs.result c.args.faults.now.items
-      c.requires.rising c.new-legs.ensures.links c.new-legs.ensures.begun,
+      c.requires.rising c.new-legs.ensures.each c.new-legs.ensures.begun,
 )
 
 pub read_leg-requires-clause-kind : goal.read_leg-requires-clause-kind
@@ -43,8 +43,8 @@ tags-preserved c =
     c.args.faults.now.items c.tags.faults.items) (sym c.split_at.ensures.back)
     c.tags.invariant.1 in
     let next = run_read all rest run (drop len rest) c.tags.legs c.args.faults.now.items
-    c.tags.faults.items here is c.add.new.self c.read_leg.new.faults.items c.in_ok-link.link
-    c.in_ok-link.ensures.told c.in_ok-link.ensures.legs c.in_ok-add.ensures.links
+    c.tags.faults.items here is c.add.new.self c.read_leg.new.faults.items c.in_ok-leg.leg
+    c.in_ok-leg.ensures.told c.in_ok-leg.ensures.legs c.in_ok-add.ensures.each
     c.in_ok-add.ensures.begun in (
       omega (
         arith,

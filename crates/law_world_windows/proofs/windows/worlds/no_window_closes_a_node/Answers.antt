@@ -6,8 +6,7 @@ use Rattle.law_node_history.proofs.Vocabulary.{Makers, World, happened, Change, 
 use Rattle.law_role_outproxy.proofs.Vocabulary.{OutProxy}
 use Rattle.law_node_traces.proofs.Vocabulary.{ByChanges, AreOurs, deeds, rules, history_at}
 use Rattle.law_world_order.proofs.Vocabulary.{numbers_of, AreDistinct, AreInRange}
-use Rattle.law_world_honest.proofs.Honesty.Closing.{EachComes, each_of}
-use Rattle.law_world_windows.proofs.Windowed.Closing.{EachAmiss, EachExceeds, EachRefusesOn, NoHop, no_range, no_window}
+use Rattle.law_world_windows.proofs.Windowed.Closing.{EachExceeds, EachRefusesOn, NoHop, no_range, no_window}
 use Rattle.law_world_windows.proofs.windows.worlds.no_window_closes_a_node.Goals as goal
 use Rattle.law_world_windows.specs.Hops.{os_leg}
 use Rattle.law_world_windows.specs.ClientHops.{HasOneWindow}
@@ -18,8 +17,8 @@ returns g c = record {
       no_window rows v change (hop m w new ours ranges one v by distinct change may) exceeds node
       leg reached edge closes;
   ranges = λ m w new ours ranges one v by distinct change may node leg command value closes.
-      no_range rows v change (hop m w new ours ranges one v by distinct change may) comes amiss may
-      node leg command value (λ on dir count fed told. (
+      no_range rows v change (hop m w new ours ranges one v by distinct change may)
+      c.nodes_keep_their_laws.ensures may node leg command value (λ on dir count fed told. (
         _,
         c.what_is_fed_closes_for_the_role.ensures m w new ours ranges v by on dir count node
             (cause.OutOfRange leg command value) fed told,
@@ -41,20 +40,6 @@ returns g c = record {
       ins = c.a_window_is_exceeded_for_a_row-3.ensures;
       outs = c.a_window_is_exceeded_for_a_row-4.ensures;
     }
-
-    amiss : EachAmiss
-    amiss = record {
-      client = c.events_close_with_their_causes.ensures;
-      server = c.events_close_with_their_causes-2.ensures;
-      ins = c.events_close_with_their_causes-3.ensures;
-      outs = c.events_close_with_their_causes-4.ensures;
-    }
-
-    comes : EachComes
-    comes =
-        each_of c.causes_come_from_their_events.ensures
-        c.causes_come_from_their_events-2.ensures c.causes_come_from_their_events-3.ensures
-        c.causes_come_from_their_events-4.ensures
 
     hop : (m : Makers g.row.K.Denot InProxy OutProxy)
         (w : World g.row.K.Denot ClientRole Server InProxy OutProxy) → IsNew w

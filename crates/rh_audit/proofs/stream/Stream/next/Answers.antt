@@ -1,4 +1,4 @@
-use Rattle.std.proofs.Common.{◌≡◌, ◌+◌, ◌∷◌, ℕ, List, Bool, false, length, None, sym, ap, ◌∙◌}
+use Rattle.std.proofs.Common.{◌+◌, ◌∷◌, ℕ, false, length, sym, ap, ◌∙◌}
 use Rattle.std.specs.declared.option.Option.{Option}
 use Rattle.rh_audit.specs.Packets.{met}
 use Rattle.rh_audit.specs.Streams.{framed, stands, stream_is}
@@ -39,8 +39,9 @@ returns-then-stands c =
     let more = c.next_frame.new.self.bytes in
     let is = c.meet-met.ensures ∙ ap (met s.pipe) c.frame.ensures in
     let passes = ap (stands s.pipe s.begins) (sym is) ∙ sym c.stands.ensures ∙ c.if-stands.true in
-    let size = ap length (sym c.frame-then-stands.ensures) in (
-      ap (λ (v : StreamLeft). v.stream) (sym c.self.view_is)
+    let size = ap length (sym c.frame-then-stands.ensures) in
+    record {
+      frames = ap (λ (v : StreamLeft). v.stream) (sym c.self.view_is)
           ∙ ap (λ (b : Option ℕ). stream_left b s.pipe s.begins s.place s.frames.bytes)
           c.in-None.is
           ∙ ap (framed s.pipe s.begins s.place) c.in-Frame.ensures.1
@@ -48,8 +49,14 @@ returns-then-stands c =
           ∙ ap (λ (n : ℕ). let next = framed s.pipe false (s.place + n) more in
           stream_is (frame ∷ next.frames) next.broken) size
           ∙ ap (λ (b : Option ℕ).
-          let next = stream_left b s.pipe false (s.place + length c.frame-then-stands.result.now) more in
-          stream_is (frame ∷ next.frames) next.broken) (sym c.in-None.is),
-      is ∙ ap (λ (v : StreamLeft). met v.pipe frame) c.self.view_is,
-      ap (λ (v : StreamLeft). v.pipe) c.self.view_is,
-    )
+          let next = stream_left b s.pipe false
+          (s.place + length c.frame-then-stands.result.now) more in
+          stream_is (frame ∷ next.frames) next.broken) (sym c.in-None.is);
+      is = is ∙ ap (λ (v : StreamLeft). met v.pipe frame) c.self.view_is;
+      pipe_same = ap (λ (v : StreamLeft). v.pipe) c.self.view_is;
+      from = ap (λ (v : StreamLeft). v.place) c.self.view_is;
+      size = sym size;
+      cut = ap (λ (v : StreamLeft). v.bytes) (sym c.self.view_is) ∙ c.in-Frame.ensures.1;
+      onwards = ap (λ (n : ℕ). s.place + n) (sym size)
+          ∙ ap (λ (v : StreamLeft). v.place + length frame) c.self.view_is;
+    }

@@ -1,0 +1,11 @@
+mod EventMoves
+mod InProxyTold
+mod InProxyHanded
+mod InProxyLasts
+mod OutProxyHanded
+mod ServerHanded
+mod ServerLegs
+mod ServerStays
+mod ServerPuts
+mod ServerLasts
+mod ServerEvents

@@ -1,0 +1,4 @@
+pub mod Places
+pub mod Sound
+pub mod Ways
+pub mod Worlds

@@ -1,0 +1,5 @@
+pub mod AtOne
+pub mod Hops
+pub mod Acks
+pub mod Ends
+pub mod Margins

@@ -1,0 +1,3 @@
+pub mod AtOne
+pub mod Drained
+pub mod Free

@@ -1,0 +1,7 @@
+mod Changing
+mod Untold
+mod CalmLines
+mod Until
+mod Going
+mod Along
+mod Recorded
