@@ -68,6 +68,13 @@ class Good:
         wanted = {line.split(" ")[0]: line for line in told.count_lines(past)}
         return [wanted.get(text.split(" ")[0], text) for text in texts]
 
+    def legs_at(self, at):
+        """What was told of legs before an answer."""
+        past = Past(self.told)
+        for it, words in enumerate(self.words[:at]):
+            past.hear(it, words)
+        return past.legs
+
     def is_settling(self, at):
         return self.told.own[at].line[0] == "settle"
 

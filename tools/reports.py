@@ -121,6 +121,8 @@ class Stream:
 
     def __init__(self, leg, way):
         self.begin = begin_of(leg, way)
+        # How many bytes were fed, and how many lines sent.
+        self.fed, self.sent = 0, 0
         self.head = b""
         self.frames = []
         # What makes no head, greeting or frame whole yet.
@@ -128,6 +130,7 @@ class Stream:
 
     def feed(self, piece):
         """Takes the bytes, and answers whether they made the head or the greeting whole."""
+        self.fed += len(piece)
         self.rest += piece
         is_whole = self.begin is not None and self.begin in self.rest
         if is_whole:
@@ -181,6 +184,8 @@ class Legs:
             self.open(words[1], is_same=words[2] == "same")
         elif words[0] == "move" and len(words) == 5:
             self.feed(at, words[1], words[2], bytes.fromhex(words[4]))
+        elif words[0] == "send" and words[3] != "no":
+            self.stream(words[1], words[2]).sent += int(words[3])
         elif words[0] == "break" and words[2] == "ok":
             self.breaks[words[1]] = self.are_at(words[1])
             self.up.discard(words[1])

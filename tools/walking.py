@@ -18,6 +18,7 @@ ALL = {}
 
 # Why a rule has no clause.
 DEFINED = "what a line is answered is the definition of a report itself"
+TRIED = "no clause says it yet: it is tried on recordings, and not proved of the program"
 # The fields of Claims that no rule stands for, since they speak of worlds behind lines: what each
 # refuses of which a report alone shows nothing.
 OVER_WORLDS = {
@@ -47,6 +48,14 @@ FROM_OUTSIDE = {("1", "LegBroken"), ("2", "LegEnded"), ("9", "HttpRefused"), ("1
 # how long they may be silent.
 WATCHED = {"c": ("co", "d", "otime"), "i": ("ci", "u", "itime")}
 SILENT_AFTER = 120_000
+# By the kind of leg on which an end writes: the way, the setting of its channels' lifetime, that
+# where none is set, and the bytes that have room in one for whatever may go next.
+WRITTEN = {"ci": ("u", "ilife"), "os": ("d", "olife")}
+LIFETIME, LEAST_LEFT = 1_073_741_824, 8_448
+# The rounds of a settling that end it in calm: some, and so many for each thing to be done.
+ROUNDS, ROUNDS_EACH = 200, 40
+# The bytes of the shortest packet, and how many packets may wait at the nodes of a leg.
+SHORTEST, WAITING = 20, 4
 # By end, the legs on which it takes what the other gave, and the way on them; and the type of an RTS
 # PDU, as hex.
 FAR_LEGS = {"s": ("is", "u"), "c": ("co", "d")}
@@ -287,9 +296,25 @@ def refusals(report, past, at, words):
 def calm(report, past, at, words):
     """While no line ends a leg, breaks it or lets it be silent, a node closes by settling alone."""
     own = report.own[at].line
-    front = itertools.takewhile(lambda line: line is not own, report.lines)
-    if all(map(is_calm, [*front, own])) and (own[0] != "settle" or words[3] != "LegEnded"):
+    if is_calm_until(report, own) and (own[0] != "settle" or words[3] != "LegEnded"):
         return "no line so far gives a reason, and no settling ended a leg"
+
+
+@answer_rule("closed", None, TRIED)
+def unclosed(report, past, at, words):
+    """While no line ends a leg, breaks it or lets it be silent, no node closes."""
+    if is_calm_until(report, report.own[at].line):
+        return f"{words[1]} closed, and no line so far ended a leg, broke it or let it be silent"
+
+
+def front_of(report, own):
+    """The lines before one."""
+    return itertools.takewhile(lambda line: line is not own, report.lines)
+
+
+def is_calm_until(report, own):
+    """Whether a line and all before it are calm."""
+    return is_calm(own) and all(map(is_calm, front_of(report, own)))
 
 
 def is_calm(line):
@@ -318,8 +343,7 @@ def at_rest(report, past, at, words):
 @answer_rule("quiet", "waits")
 def waiting(report, past, at, words):
     """At a quiet settling of unbroken legs whose nodes go on, no PDU is on a leg or left to take."""
-    own = report.own[at].line
-    front = itertools.takewhile(lambda line: line is not own, report.lines)
+    front = front_of(report, report.own[at].line)
     if past.reported or any(line[0] in ("break", "end") for line in front):
         return None
     for leg, way in sorted(past.legs.streams):
@@ -331,6 +355,46 @@ def waiting(report, past, at, words):
         is_alone = not any(leg[:2] == kind and leg != f"{kind}1" for leg in past.legs.opened)
         if is_alone and len(pdus) != len(past.taken[end]):
             return f"{end} has not taken all that came on {kind}1"
+
+
+@answer_rule("quiet", None, TRIED)
+def delivered(report, past, at, words):
+    """At a quiet settling in calm, where lifetimes have room, all that was given was taken."""
+    if is_calm_until(report, report.own[at].line) and has_room(report, past.legs):
+        return f"{past.untaken()} PDUs are left" if past.untaken() else None
+
+
+def has_room(report, legs):
+    """Whether each channel on whose leg an end writes may carry whatever goes next."""
+    for leg in legs.up:
+        way, key = WRITTEN.get(leg[:2], (None, None))
+        if way and legs.stream(leg, way).fed + LEAST_LEFT > report.settings.get(key, LIFETIME):
+            return False
+    return True
+
+
+@answer_rule("spent", None, TRIED)
+def bounded(report, past, at, words):
+    """In calm, a settling is spent below 200 rounds, and 40 for each thing that was to be done."""
+    if is_calm_until(report, report.own[at].line):
+        most = ROUNDS + ROUNDS_EACH * to_be_done(past, report.own_answers(at))
+        if int(words[1]) >= most:
+            return f"it ends within {most} rounds"
+
+
+def to_be_done(past, own):
+    """What a settling that gave these answers had to do at most: PDUs that were not taken, legs that
+    were up or that it opened, and packets that were on these or waited at their nodes.
+    """
+    seen = collections.Counter(words[0] for words in own if words[-1] != "no")
+    pdus = past.untaken() + sum(words[2] == "pdu" for words in own if words[0] == "take")
+    legs = len(past.legs.up) + seen["end"]
+    moved = collections.Counter()
+    for words in own:
+        if words[0] == "move" and len(words) == 5:
+            moved[words[1], words[2]] += int(words[3])
+    flights = [it.sent - it.fed + moved[key] for key, it in past.legs.streams.items()]
+    return pdus + legs + WAITING * legs + sum(max(it, 0) // SHORTEST for it in flights)
 
 
 # ---- which answers there are

@@ -342,3 +342,14 @@ def end_without_a_settling(good):
         if part.line[0] != "settle":
             line = "closed s 2 LegEnded os1 0"
             yield [*good.texts[: part.closed], line, *good.texts[part.closed :]]
+
+
+@KINDS.refused_by("unclosed")
+def end_by_a_settling(good):
+    """A node closes for the end of a leg by a settling, and no line so far ends or breaks one."""
+    for part in good.told.parts[:-1]:
+        if part.line[0] in ("break", "end", "tick"):
+            return
+        if part.line[0] == "settle":
+            line = "closed s 2 LegEnded is1 0"
+            yield [*good.texts[: part.closed], line, *good.texts[part.closed :]]

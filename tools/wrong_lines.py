@@ -1,10 +1,13 @@
 """Kinds of wrong reports: of the last lines, and of which answers there are."""
 import re
 
+import walking
 from planting import Kinds
 from reports import OTHER
 
 KINDS = Kinds()
+# More rounds than any settling of these recordings may do.
+MANY_ROUNDS = 10_000
 
 
 # ---- the last lines
@@ -241,3 +244,12 @@ def clean_end_told_twice(good):
     for at, _ in good.places(r"take [cs] ended"):
         if good.is_settling(at):
             yield good.with_lines(at, good.texts[at], good.texts[at])
+
+
+@KINDS.refused_by("bounded", "roles")
+def settling_that_does_not_end(good):
+    """A settling in calm that may do many rounds does them all."""
+    for at, _ in good.places(r"quiet \d+"):
+        part = good.told.own[at]
+        if int(part.line[1]) >= MANY_ROUNDS and walking.is_calm_until(good.told, part.line):
+            yield good.with_lines(at, f"spent {part.line[1]}")

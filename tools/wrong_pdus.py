@@ -2,6 +2,7 @@
 import itertools
 import re
 
+import walking
 from planting import Kinds
 from reports import OTHER
 
@@ -271,6 +272,19 @@ def message_in_part_at_quiet(good):
             leg, way, count, data = good.words[at][1:]
             if leg not in ended and int(count) > 1:
                 yield good.with_lines(at, f"move {leg} {way} {int(count) - 1} {data[:-2]}")
+
+
+@KINDS.refused_by("delivered", "roles")
+def pdu_left_at_quiet(good):
+    """A settling in calm is quiet, and the last PDU that an end takes there is not taken."""
+    for at, _ in good.places(r"quiet \d+"):
+        part = good.told.own[at]
+        if not walking.is_calm_until(good.told, part.line):
+            return
+        takes = [it for it, _, _ in good.takes() if part.begin <= it < at]
+        for take in takes[-1:]:
+            if walking.has_room(good.told, good.legs_at(at)):
+                yield good.counted(good.silenced(take))
 
 
 # ---- answers to gives
