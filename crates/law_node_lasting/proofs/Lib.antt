@@ -1,11 +1,11 @@
-mod EventMoves
+pub mod EventMoves
 mod InProxyTold
 mod InProxyHanded
 mod InProxyLasts
 mod OutProxyHanded
 mod ServerHanded
-mod ServerLegs
-mod ServerStays
+pub mod ServerLegs
+pub mod ServerStays
 mod ServerPuts
 mod ServerLasts
 mod ServerEvents

@@ -1,5 +1,5 @@
 -- each step of an in proxy keeps the greatest edge of those that are to be forwarded
-use Rattle.law_order.proofs.Vocabulary.{◌≡◌, ℕ, ◌==◌, ◌≤◌, max, Bool, true, false, ◌&&◌, not, List, [], ◌∷◌, ◌++◌, Some, None, Ok, Err, arith, refl, sym, ◌∙◌, subst, rules, and_parts, eqb-true, if◌then◌else◌, IfSome, Option, nat_tests}
+use Rattle.law_order.proofs.Vocabulary.{◌≡◌, ℕ, ◌==◌, ◌≤◌, Bool, true, false, ◌&&◌, not, List, [], ◌∷◌, ◌++◌, Some, None, Ok, Err, arith, refl, sym, ◌∙◌, subst, rules, and_parts, eqb-true, if◌then◌else◌, IfSome, Option, nat_tests}
 use Rattle.rh_sig.specs.declared.named.Named.TheVariants as named
 use Rattle.rh_shell.specs.Waiting.{Key}
 use Rattle.rh_shell.specs.Waiting as waits
@@ -13,7 +13,8 @@ use Rattle.law_moves.proofs.Vocabulary.{by_test, Cookie, TO_OUT_PROXY, Named, Le
 use Rattle.law_moves.proofs.Lemmas.{PutKeeps, RowKeeps, StepsKeep, moves_keep}
 use Rattle.law_moves.specs.Merging.{Raises, greatest, told}
 use Rattle.law_role_inproxy.proofs.Vocabulary.{InProxyConfig, Done, Pick, unexpected, InProxy, first, channel_of, is_client_leg, is_server_leg, up, head, drawn, on_conn_b1, is_newest, mark, settled, on_in_r1_a1, next, next_ack, current_ack, or_else, put as put_of, put_acks, put_behind, put_control, put_early, put_echo, put_end, put_first, put_in_r1_a6, put_in_r2_a2, put_mark, put_pdu, put_ping, put_stream, put_waiting, waiting_by, settled_pick, ping, pdu, packet, on_channel, on_channel_by, on_ci, on_is, rules as proxy_rules}
-use Rattle.law_role_edges.specs.Passing.{PassesOn, greatest_in, told_in}
+use Rattle.law_role_edges.proofs.Greatest.{Keeps, came_more, greatest_last, kept_more}
+use Rattle.law_role_edges.specs.Passing.{PassesOn, told_in}
 
 abbrev Same : InProxy → InProxy → Type 0
 Same s t = t.waiting ≡ s.waiting
@@ -67,40 +68,20 @@ same_ping s leg = search rules
 
 module _ (raising : (w : Waiting) (packet : Named) (key : Key) → Raises w packet key)
     (key : Key) where
-  greatest_last : (log : List OnLeg) (one : OnLeg)
-      → greatest_in key (log ++ one ∷ []) ≡ max (greatest_in key log) (told_in key one.1)
-  greatest_last [] one = grind (arith, nat_tests)
-  greatest_last (other ∷ log) one =
-      let rest = greatest_last log one in grind (arith, nat_tests, rest)
-
-  abbrev Keeps : List Due → List OnLeg → List OnLeg → Type 0
-  Keeps dues came put = greatest_in key came ≤ max (greatest key dues) (greatest_in key put)
-
   abbrev Holds : InProxy → List OnLeg → List OnLeg → Type 0
-  Holds s came put = Keeps s.waiting.due came put
+  Holds s came put = Keeps key s.waiting.due came put
 
   same_holds : (s t : InProxy) (came put : List OnLeg) → Same s t → Holds s came put
       → Holds t came put
-  same_holds s t came put same h = subst (λ (w : Waiting). Keeps w.due came put) (sym same) h
+  same_holds s t came put same h = subst (λ (w : Waiting). Keeps key w.due came put) (sym same) h
 
   -- ---- what comes
-
-  -- no edge that waits falls, and what comes tells none that doesn't wait
-  came_more : (low high : List Due) (came put : List OnLeg) (one : OnLeg)
-      → greatest key low ≤ greatest key high → told_in key one.1 ≤ greatest key high
-      → Keeps low came put → Keeps high (came ++ one ∷ []) put
-  came_more low high came put one kept reached h =
-      let last = greatest_last came one in grind (arith, nat_tests, last, kept, reached, h)
-
-  kept_more : (low high : List Due) (came put : List OnLeg)
-      → greatest key low ≤ greatest key high → Keeps low came put → Keeps high came put
-  kept_more low high came put kept h = grind (arith, nat_tests, kept, h)
 
   -- a row that leaves these alone takes what tells none
   quiet_row : (one : OnLeg) (s : InProxy) (came put : List OnLeg) (x : Done)
       → told_in key one.1 ≡ 0 → Same s x.0 → Holds s came put → RowKeeps Holds one came put x
   quiet_row one s came put (t, Ok taken) none same h =
-      came_more t.waiting.due t.waiting.due came put one (omega arith) (omega (arith, none))
+      came_more key t.waiting.due t.waiting.due came put one (omega arith) (omega (arith, none))
       (same_holds s t came put same h)
   quiet_row one s came put (t, Err why) none same h = same_holds s t came put same h
 
@@ -118,13 +99,13 @@ module _ (raising : (w : Waiting) (packet : Named) (key : Key) → Raises w pack
           greatest key s.waiting.due ≤ greatest key y.0.due) e r.kept in
           let reached = subst (λ (y : Waiting × Bool).
           y.1 ≡ true → told key other ≤ greatest key y.0.due) e r.reached refl in
-          came_more s.waiting.due w.due came put (leg, Packet m) kept
+          came_more key s.waiting.due w.due came put (leg, Packet m) kept
           (omega (arith, tells, reached)) h
       by (w, false) e =
           let r = raising s.waiting other key in
           let kept = subst (λ (y : Waiting × Bool).
           greatest key s.waiting.due ≤ greatest key y.0.due) e r.kept in
-          kept_more s.waiting.due w.due came put kept h
+          kept_more key s.waiting.due w.due came put kept h
 
   module _ (s : InProxy) (leg : Leg) (came put : List OnLeg) (h : Holds s came put) where
     abbrev Row : Named → Done → Type 0
@@ -250,13 +231,13 @@ module _ (raising : (w : Waiting) (packet : Named) (key : Key) → Raises w pack
     quiet_put None quiet = tt
     quiet_put (Some one) quiet =
         let k = same_holds s one.0 came put quiet h in
-        let last = greatest_last put (leg, one.1) in grind (arith, nat_tests, k, last)
+        let last = greatest_last key put (leg, one.1) in grind (arith, nat_tests, k, last)
 
     waiting_put : (dues : List Due) → s.waiting.due ≡ dues → Goes (waiting_by s dues)
     waiting_put [] e = tt
     waiting_put (due ∷ dues) e =
-        let k = subst (λ (list : List Due). Keeps list came put) e h in
-        let last = greatest_last put (leg, Packet due.packet) in grind (arith, nat_tests, k, last)
+        let k = subst (λ (list : List Due). Keeps key list came put) e h in
+        let last = greatest_last key put (leg, Packet due.packet) in grind (arith, nat_tests, k, last)
 
     settled_put : (pick : Pick) → Goes pick → Goes (settled_pick pick)
     settled_put None goes = tt

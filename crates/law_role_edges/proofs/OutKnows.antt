@@ -4,24 +4,25 @@ use Rattle.rh_sig.specs.declared.named.Named.TheVariants as named
 use Rattle.rh_shell.specs.declared.answers.Refused.TheVariants as refused
 use Rattle.rh_outproxy.specs.declared.state.Channel.TheVariants as channels
 use Rattle.rh_outproxy.specs.Acknowledging as acks
-use Rattle.law_moves.proofs.Vocabulary.{Sender, unsent, after_acked, ack_verdict, BadAck, by_test, Cookie, TO_OUT_PROXY, Named, Leg, Count, Due, Message, Pdu, Packet, OnLeg, Move, started, all_moved, of_leg, count_of, one_if, Ack}
+use Rattle.law_moves.proofs.Vocabulary.{Sender, unsent, after_acked, ack_verdict, BadAck, by_test, Cookie, TO_OUT_PROXY, Named, Leg, Count, Pdu, Packet, OnLeg, Move, Passage, started, moved, all_moved, of_leg, count_of, one_if}
 use Rattle.law_moves.proofs.Lemmas.{RowKeeps, PutKeeps, StepsKeep, leg_here, leg_is, leg_rises, moves_keep}
-use Rattle.law_role_outproxy.proofs.Vocabulary.{Answer, Channel, OutProxyConfig, OutProxy, is_server_first, is_known, joined, new_proxy, Done, is_co, is_os, is_first, same_cookie, unexpected, refuse, forwarded, passed_on, up, head, told_length, new_length, successor_length, on_out_r2_c1, conn_c1_by, first_packet, acked, on_ack, on_ack_to, ack_due, ack_row, on_out_r1_a9, drawn, mark, on_end_b1, Pick, or_else, answer_by, put_answer, waiting_by, put_waiting, pdu_by, put_pdu}
-use Rattle.law_role_outproxy.proofs.Vocabulary.{put_end, put_handover, put_mark, put_ping, next_co, first_by, put_first, ack_by, put_ack, next_os, put as put_of, pdu, packet, on_co, on_os, rules as proxy_rules, opens}
+use Rattle.law_role_outproxy.proofs.Vocabulary.{Channel, OutProxyConfig, OutProxy, is_known, joined, new_proxy, Done, is_co, is_os, is_first, same_cookie, unexpected, refuse, forwarded, passed_on, up, head, told_length, new_length, successor_length, on_out_r2_c1, conn_c1_by, acked, on_ack, on_ack_to, ack_row, on_out_r1_a9, drawn, mark, on_end_b1, Pick}
+use Rattle.law_role_outproxy.proofs.Vocabulary.{put as put_of, pdu, packet, on_co, on_os, rules as proxy_rules, opens}
 use Rattle.law_role_outproxy.specs.Sending.{co_leg, os_leg}
 use Rattle.law_role_edges.proofs.Knowing.{acked_known, acked_rises, known_then, refused_same, within_more}
+use Rattle.law_role_edges.proofs.OutKept.{IsEdgeKept, put_kept}
 use Rattle.law_role_edges.specs.OutProxies.{IsKnown, KnowsClient, edge_for_proxy}
 
 -- what the facts are about
-record Seen : Type 0 where
-  config : OutProxyConfig
-  channel : Channel
-  window : Sender
+pub record Seen : Type 0 where
+  pub config : OutProxyConfig
+  pub channel : Channel
+  pub window : Sender
 
-abbrev seen : OutProxy → Seen
+abbrev pub seen : OutProxy → Seen
 seen s = record { config = s.config; channel = s.channel; window = s.window }
 
-abbrev Same : OutProxy → OutProxy → Type 0
+abbrev pub Same : OutProxy → OutProxy → Type 0
 Same s t = seen t ≡ seen s
 
 known_high : (low high : ℕ) → low ≤ high → (one : OnLeg) → IsKnown low one → IsKnown high one
@@ -68,29 +69,29 @@ joined_known (channels.Joined connection cookie) = refl
 joined_known (channels.Successor connection predecessor cookie) = refl
 
 module _ (config : OutProxyConfig) where
-  abbrev co : Leg
+  abbrev pub co : Leg
   co = co_leg config.number
 
-  abbrev os : Leg
+  abbrev pub os : Leg
   os = os_leg config.number
 
-  abbrev opened_by : List OnLeg → ℕ
+  abbrev pub opened_by : List OnLeg → ℕ
   opened_by came = count_of opens (of_leg co came)
 
   -- where no packet opened the channel none told anything, and the proxy knows of no channel
-  record Knows (x : Seen) (came : List OnLeg) : Type 0 where
-    is : x.config ≡ config
-    known : opened_by came ≤ 1 → AllByRecursion (IsKnown x.window.edge) came
-    none : opened_by came ≡ 0 → (is_known x.channel ≡ false) × AllByRecursion (IsKnown 0) came
+  pub record Knows (x : Seen) (came : List OnLeg) : Type 0 where
+    pub is : x.config ≡ config
+    pub known : opened_by came ≤ 1 → AllByRecursion (IsKnown x.window.edge) came
+    pub none : opened_by came ≡ 0 → (is_known x.channel ≡ false) × AllByRecursion (IsKnown 0) came
 
-  abbrev Holds : OutProxy → List OnLeg → List OnLeg → Type 0
+  abbrev pub Holds : OutProxy → List OnLeg → List OnLeg → Type 0
   Holds s came put = Knows (seen s) came
 
   same_holds : (s t : OutProxy) (came put : List OnLeg) → Same s t → Holds s came put
       → Holds t came put
   same_holds s t came put same h = subst (λ (x : Seen). Knows x came) (sym same) h
 
-  is_client : (s : OutProxy) (leg : Leg) → s.config ≡ config → is_co s leg ≡ true → co ≡ leg
+  pub is_client : (s : OutProxy) (leg : Leg) → s.config ≡ config → is_co s leg ≡ true → co ≡ leg
   is_client s leg is e =
       ap (λ (c : OutProxyConfig). co_leg c.number) (sym is) ∙ leg_is (co_leg s.config.number) leg e
 
@@ -290,63 +291,6 @@ module _ (config : OutProxyConfig) where
 
   -- ---- what is put
 
-  -- a put leaves the edge as it is
-  abbrev IsEdgeKept : OutProxy → Pick → Type 0
-  IsEdgeKept s pick =
-      IfSome pick (λ (one : OutProxy × Message).
-      (one.0.config ≡ s.config) × (one.0.channel ≡ s.channel)
-      × (one.0.window.edge ≡ s.window.edge))
-
-  module _ (s : OutProxy) where
-    or_kept : (a b : Pick) → IsEdgeKept s a → IsEdgeKept s b → IsEdgeKept s (or_else a b)
-    or_kept None b h k = k
-    or_kept (Some one) b h k = h
-
-    answer_kept : (a : Answer) → IsEdgeKept s (answer_by a s)
-    answer_kept a = search rules
-
-    waiting_kept : (dues : List Due) → IsEdgeKept s (waiting_by s dues)
-    waiting_kept dues = search rules
-
-    front_kept : (pdus : List (List ℕ)) → IsEdgeKept s (pdu_by s pdus)
-    front_kept pdus = search rules
-
-    end_kept : IsEdgeKept s (put_end s)
-    end_kept = search rules
-
-    handover_kept : IsEdgeKept s (put_handover s)
-    handover_kept = search rules
-
-    ping_kept : IsEdgeKept s (put_ping s)
-    ping_kept = search rules
-
-    first_kept : (c : Channel) → IsEdgeKept s (first_by s (first_packet s c))
-    first_kept c = search rules
-
-    ack_kept : (o : Option Cookie) (a : Option Ack) → IsEdgeKept s (ack_by s o a)
-    ack_kept o a = search rules
-
-    co_kept : IsEdgeKept s (next_co s)
-    co_kept =
-        or_kept (put_answer s) _ (answer_kept s.answer)
-        (or_kept (put_waiting s) _ (waiting_kept s.waiting.due)
-        (or_kept (put_pdu s) _ (front_kept s.line.current.pdus)
-        (or_kept (put_mark s) (put_ping s)
-        (or_kept (put_end s) (put_handover s) end_kept handover_kept) ping_kept)))
-
-    os_kept : IsEdgeKept s (next_os s)
-    os_kept =
-        or_kept (put_first s) (put_ack s)
-        (by_test (IsEdgeKept s) (is_server_first s.server)
-        (first_by s (first_packet s s.channel)) None (λ e. first_kept s.channel) (λ e. tt))
-        (ack_kept (joined s.channel) (ack_due s))
-
-    put_kept : (leg : Leg) → IsEdgeKept s (put_of s leg)
-    put_kept leg =
-        by_test (IsEdgeKept s) (is_co s leg) (next_co s)
-        (if is_os s leg then next_os s else None) (λ e. co_kept)
-        (λ e. by_test (IsEdgeKept s) (is_os s leg) (next_os s) None (λ f. os_kept) (λ f. tt))
-
   put_row : (s : OutProxy) (leg : Leg) (came put : List OnLeg) → Holds s came put
       → PutKeeps Holds leg came put (put_of s leg)
   put_row s leg came put h = by (put_of s leg) (put_kept s leg)
@@ -363,7 +307,7 @@ module _ (config : OutProxyConfig) where
 
   -- ---- the role
 
-  keeps : StepsKeep proxy_rules Holds
+  pub keeps : StepsKeep proxy_rules Holds
   keeps = record {
     up = λ s leg cookie came put.
         same_holds s (up s leg cookie) came put (same_up s leg cookie);
@@ -378,9 +322,22 @@ module _ (config : OutProxyConfig) where
     ping = λ s leg came put h. h;
   }
 
+-- ---- beside other facts
+
+pub knows_always : (config : OutProxyConfig) (p : Passage OutProxy) (move : Move)
+    → Holds config p.role p.came p.put
+    → Holds config (moved proxy_rules p move).role (moved proxy_rules p move).came
+    (moved proxy_rules p move).put
+knows_always config p move h = moves_keep proxy_rules (Holds config) (keeps config) p (move ∷ []) h
+
+pub knows_first : (config : OutProxyConfig) → Holds config (new_proxy config) [] []
+knows_first config = record { is = refl; known = λ once. tt; none = λ no. (refl, tt) }
+
+-- ---- the law
+
 pub out_knows : (config : OutProxyConfig) (moves : List Move)
     → (let p = all_moved proxy_rules (started (new_proxy config)) moves in
     KnowsClient config.number p.role p.came)
 out_knows config moves =
     (moves_keep proxy_rules (Holds config) (keeps config) (started (new_proxy config)) moves
-    (record { is = refl; known = λ once. tt; none = λ no. (refl, tt) })).known
+    (knows_first config)).known

@@ -54,7 +54,7 @@ same_packet s leg count m =
     (λ e. by_test (λ (d : Done). Same s d.0) (is_os s leg) (on_os s m) (unexpected s)
     (λ f. same_os s m) (λ f. refl))
 
-told_admitted : (c : Incoming) (bytes : List ℕ)
+pub told_admitted : (c : Incoming) (bytes : List ℕ)
     → (admitted_channel c bytes).window.told ≡ c.window.told
 told_admitted c bytes =
     by_test (λ (d : Incoming). d.window.told ≡ c.window.told) (is_ok (channel_verdict c bytes)) _ c
@@ -292,7 +292,7 @@ module _ (config : OutProxyConfig) where
         (first_by s (first_packet s s.channel)) None (λ e. first_put s.channel) (λ e. tt))
         (ack_put (joined s.channel) (ack_due s))
 
-  is_server : (s : OutProxy) (leg : Leg) → s.config ≡ config → is_os s leg ≡ true → os ≡ leg
+  pub is_server : (s : OutProxy) (leg : Leg) → s.config ≡ config → is_os s leg ≡ true → os ≡ leg
   is_server s leg is e =
       ap (λ (c : OutProxyConfig). os_leg c.number) (sym is) ∙ leg_is (os_leg s.config.number) leg e
 

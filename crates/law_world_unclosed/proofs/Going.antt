@@ -44,7 +44,7 @@ tells_none state.Ended phase.Ended = refl
 tells_none (state.Closed why) p = refl
 
 module _ {S : Type 0} (rules : Rules S) (leg : Leg) where
-  node_silent : (s : Shell S) → (shell.ended rules s leg).0.course ≡ Going
+  pub node_silent : (s : Shell S) → (shell.ended rules s leg).0.course ≡ Going
       → (telling.tell rules s (Ends leg)).1 ≡ None
   node_silent s going =
       let t = (shell.ended rules s leg).0 in

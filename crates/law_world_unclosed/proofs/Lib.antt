@@ -1,7 +1,7 @@
-mod Changing
-mod Untold
-mod CalmLines
-mod Until
-mod Going
-mod Along
-mod Recorded
+pub mod Changing
+pub mod Untold
+pub mod CalmLines
+pub mod Until
+pub mod Going
+pub mod Along
+pub mod Recorded

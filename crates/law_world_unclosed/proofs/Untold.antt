@@ -267,7 +267,7 @@ module _ (leg : Leg) where
     told_none Reports node none = refl
 
     -- a proxy that is made is told the moment alone
-    made_not : (c : Change) (node : Who) → was_lost leg (made_by u c node) ≡ false
+    pub made_not : (c : Change) (node : Who) → was_lost leg (made_by u c node) ≡ false
     made_not (OpensIn n cookie) node = one_not (is_same (who.In n) node) (moving.Ticks u.now) refl
     made_not (OpensOut n cookie) node =
         one_not (is_same (who.Out n) node) (moving.Ticks u.now) refl

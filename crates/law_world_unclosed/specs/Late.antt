@@ -20,10 +20,14 @@ is_late (In n) InServer = true
 is_late (Out n) OutServer = true
 is_late node kind = false
 
--- the node closed since such a leg ended
+-- the node closed since a leg ended that is one of these for it
+abbrev pub ClosedWhere : (Who → LegKind → Bool) → Who → Cause → Type 0
+ClosedWhere late node (LegEnded leg partial) = late node leg.kind ≡ true
+ClosedWhere late node why = ⊥
+
+-- since such a leg ended
 abbrev pub ClosedLate : Who → Cause → Type 0
-ClosedLate node (LegEnded leg partial) = is_late node leg.kind ≡ true
-ClosedLate node why = ⊥
+ClosedLate = ClosedWhere is_late
 
 -- a line of the recording reports the node as closed
 pub record ReportsClosed (lines : List Line) (node : Who) (why : Cause) : Type 0 where

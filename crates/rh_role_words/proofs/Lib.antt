@@ -1,2 +1,7 @@
-mod Joining
+mod Commas
 mod Each
+mod Joining
+mod Naming
+mod Numbering
+mod Endings
+mod Tellings

@@ -27,6 +27,15 @@ abbrev pub AreHostPorts : List ℕ → HostPorts → Type 0
 AreHostPorts text addresses = AreJoined text (addresses.first ∷ addresses.more.items)
     × (length addresses.more.items ≤ MOST_MORE)
 
+-- the text has no such addresses
+abbrev pub AreNoHostPorts : List ℕ → Type 0
+AreNoHostPorts text = (addresses : HostPorts) → ¬ AreHostPorts text addresses
+
+-- none of these, of so many at most
+abbrev pub AreNotJoined : List ℕ → ℕ → Type 0
+AreNotJoined text most = (addresses : List HostPort) → length addresses ≤ most
+    → ¬ AreJoined text addresses
+
 -- the number of channels of a proxy
 abbrev pub IsCount : List ℕ → ℕ → Type 0
 IsCount text count = IsNumber 1 MOST_CHANNELS text count
@@ -48,3 +57,7 @@ IsRoleForm (OutProxy at count) words = (where_text : List ℕ) × (count_text : 
     × IsHostPort where_text at × IsCount count_text count
 IsRoleForm (Server at) words = (where_text : List ℕ)
     × (words ≡ codes "server" ∷ where_text ∷ []) × IsHostPort where_text at
+
+-- the words are no role's
+abbrev pub IsNoRoleForm : List (List ℕ) → Type 0
+IsNoRoleForm words = (form : RoleForm) → ¬ IsRoleForm form words

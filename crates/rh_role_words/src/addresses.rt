@@ -6,7 +6,7 @@ ghost use Rattle.std.specs.Str.{IsUtf8};
 ghost use Rattle.rh_text.specs.Writing.{Writes};
 ghost use Rattle.rh_http.specs.Requests.{host_text};
 ghost use Rattle.rh_role_words.specs.declared.addresses.HostPort.{HostPort as Named};
-ghost use Rattle.rh_role_words.specs.Forms.{AreHostPorts, AreJoined, IsHostPort};
+ghost use Rattle.rh_role_words.specs.Forms.{AreHostPorts, AreJoined, AreNoHostPorts, AreNotJoined, IsHostPort};
 ghost use Rattle.rh_role_words.specs.Statuses.{address_text};
 
 use memchr::memchr;
@@ -57,8 +57,12 @@ pub struct HostPorts {
 }
 
 impl HostPorts {
+    ghost use Rattle.rh_role_words.specs.Making.{NamesEach, all_of};
+
     /// The addresses that a net takes, in order. Fails where there is no memory.
-    pub fn addresses(&self, alloc: Global) -> Result<Vec<Address>, NoMemory> {
+    pub fn addresses(&self, alloc: Global) -> Result<Vec<Address>, NoMemory>
+        ensures { IfOk result (λ addresses. NamesEach addresses.items (all_of self.now)) }
+    {
         let mut addresses = Vec::new(alloc);
         addresses.push(self.first.address())?;
         for at in 0..self.more.len() {
@@ -117,7 +121,8 @@ pub fn host_port_of(text: &[u8]) -> Option<HostPort>
 /// The addresses of a word, 1 to 16 with commas between; `None` where it has another form. Fails
 /// where there is no memory.
 pub fn host_ports_of(alloc: Global, text: &[u8]) -> Result<Option<HostPorts>, NoMemory>
-    ensures { IfOk result (λ found. IfSome found (λ addresses. AreHostPorts text.now addresses)) }
+    ensures { IfOk result (λ found. MatchOption found (AreNoHostPorts text.now)
+        (λ addresses. AreHostPorts text.now addresses)) }
 {
     match split_first(text, COMMA) {
         Some((first, behind)) => {
@@ -141,8 +146,8 @@ pub fn host_ports_of(alloc: Global, text: &[u8]) -> Result<Option<HostPorts>, No
 
 /// The addresses behind the first, 1 to 15 with commas between.
 fn more_of(alloc: Global, text: &[u8]) -> Result<Option<Vec<HostPort>>, NoMemory>
-    ensures { IfOk result (λ found. IfSome found (λ more. AreJoined text.now more.items
-        × (vec_len more ≤ MOST_MORE))) }
+    ensures { IfOk result (λ found. MatchOption found (AreNotJoined text.now MOST_MORE)
+        (λ more. AreJoined text.now more.items × (vec_len more ≤ MOST_MORE))) }
 {
     let mut more = Vec::new(alloc);
     let mut rest = text;

@@ -39,6 +39,8 @@ pub struct Limits {
 }
 
 impl Limits {
+    ghost use Rattle.rh_role_words.specs.Making.{in_proxy_of, numbered, out_proxy_of};
+
     /// The numbers that a role has where nothing else is said (profile).
     pub fn by_default() -> Limits
         ensures window { result.window ≡ DEFAULT_WINDOW }
@@ -54,14 +56,20 @@ impl Limits {
         }
     }
 
-    /// What a client is made with, by the cookies of its connection and of its group.
-    pub(crate) fn client(
+    /// What a client is made with, by the cookies of its connection and of its group, its server
+    /// and the host of its proxies.
+    pub fn client(
         &self,
         cookies: (Cookie, Cookie),
         server: HostPort,
         proxy_host: Host,
     ) -> ClientConfig
-        ensures { IsWindow result.window }
+        ensures can_make { IsWindow result.window }
+        ensures cookies { (result.connection ≡ cookies.0) × (result.group ≡ cookies.1) }
+        ensures server { (result.host ≡ server.host) × (result.port ≡ server.port) }
+        ensures proxy { result.proxy_host ≡ proxy_host }
+        ensures limits { (result.window ≡ self.now.window) × (result.lifetime ≡ self.now.lifetime)
+            × (result.keepalive ≡ self.now.keepalive) }
     {
         let (connection, group) = cookies;
         ClientConfig {
@@ -77,8 +85,9 @@ impl Limits {
     }
 
     /// What a server is made with.
-    pub(crate) fn server(&self) -> ServerConfig
-        ensures { IsWindow result.window }
+    pub fn server(&self) -> ServerConfig
+        ensures can_make { IsWindow result.window }
+        ensures limits { result.window ≡ self.now.window }
     {
         ServerConfig {
             window: self.window,
@@ -87,7 +96,8 @@ impl Limits {
 
     fn in_proxy(&self, number: u32) -> InProxyConfig
         requires { 1 ≤ number }
-        ensures { IsConfig result }
+        ensures can_make { IsConfig result }
+        ensures limits { result ≡ in_proxy_of self.now number }
     {
         InProxyConfig {
             number,
@@ -99,8 +109,9 @@ impl Limits {
 
     fn out_proxy(&self, number: u32) -> OutProxyConfig
         requires { 1 ≤ number }
-        ensures { (1 ≤ result.number) × IsWindow result.window × IsLifetime result.lifetime
-            × IsTimeout result.timeout }
+        ensures can_make { (1 ≤ result.number) × IsWindow result.window
+            × IsLifetime result.lifetime × IsTimeout result.timeout }
+        ensures limits { result ≡ out_proxy_of self.now number }
     {
         OutProxyConfig {
             number,
@@ -112,13 +123,11 @@ impl Limits {
 
     /// What the nodes of an in proxy are made with, the one of channel 1 first. Fails where there
     /// is no memory.
-    pub(crate) fn in_proxies(
-        &self,
-        alloc: Global,
-        count: u32,
-    ) -> Result<Vec<InProxyConfig>, NoMemory>
-        ensures { IfOk result (λ configs. (at : ℕ) (config : InProxyConfig)
+    pub fn in_proxies(&self, alloc: Global, count: u32) -> Result<Vec<InProxyConfig>, NoMemory>
+        ensures can_make { IfOk result (λ configs. (at : ℕ) (config : InProxyConfig)
             → slice_get configs.items at ≡ Some config → IsConfig config) }
+        ensures each { IfOk result (λ configs.
+            configs.items ≡ numbered (in_proxy_of self.now) count) }
     {
         let mut configs = Vec::new(alloc);
         for before in 0..count {
@@ -128,15 +137,13 @@ impl Limits {
     }
 
     /// What the nodes of an out proxy are made with, likewise.
-    pub(crate) fn out_proxies(
-        &self,
-        alloc: Global,
-        count: u32,
-    ) -> Result<Vec<OutProxyConfig>, NoMemory>
-        ensures { IfOk result (λ configs. (at : ℕ) (config : OutProxyConfig)
+    pub fn out_proxies(&self, alloc: Global, count: u32) -> Result<Vec<OutProxyConfig>, NoMemory>
+        ensures can_make { IfOk result (λ configs. (at : ℕ) (config : OutProxyConfig)
             → slice_get configs.items at ≡ Some config
             → (1 ≤ config.number) × IsWindow config.window × IsLifetime config.lifetime
             × IsTimeout config.timeout) }
+        ensures each { IfOk result (λ configs.
+            configs.items ≡ numbered (out_proxy_of self.now) count) }
     {
         let mut configs = Vec::new(alloc);
         for before in 0..count {

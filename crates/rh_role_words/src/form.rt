@@ -1,10 +1,12 @@
 //! Which words are which role's.
 
-ghost use Rattle.std.specs.Prelude.{◌≡◌, ◌∷◌, ℕ, [], IfOk, IfSome, MatchOption, codes};
-ghost use Rattle.rh_role_words.specs.Forms.{IsCount, IsRoleForm, texts};
+ghost use Rattle.std.specs.Prelude.{◌≡◌, ◌∷◌, ℕ, [], IfOk, MatchOption, codes};
+ghost use Rattle.rh_role_words.specs.Making.{ListensAt, UsesProxies};
+ghost use Rattle.rh_role_words.specs.Forms.{IsCount, IsNoRoleForm, IsRoleForm, texts};
 
 use crate::addresses::{HostPort, HostPorts, host_port_of, host_ports_of};
 use rh_io::NoMemory;
+use rh_keepers::Plan;
 use rh_text::read_number;
 use std::alloc::Global;
 
@@ -36,10 +38,49 @@ pub enum RoleForm {
     },
 }
 
+impl RoleForm {
+    ghost use Rattle.rh_role_words.specs.Making.{IsPlanOf};
+
+    /// Where its nodes listen, and which proxies they use. Fails where there is no memory.
+    pub fn plan(&self, alloc: Global) -> Result<Plan, NoMemory>
+        ensures { IfOk result (λ plan. IsPlanOf self.now plan) }
+    {
+        match self {
+            RoleForm::Client { ins, outs, .. } => plan_by(alloc, ins, outs),
+            RoleForm::InProxy { at, .. } => Ok(plan_at(alloc, at)),
+            RoleForm::OutProxy { at, .. } => Ok(plan_at(alloc, at)),
+            RoleForm::Server { at } => Ok(plan_at(alloc, at)),
+        }
+    }
+}
+
+// The plan of a role that listens.
+fn plan_at(alloc: Global, at: &HostPort) -> Plan
+    ensures { ListensAt result at.now }
+{
+    Plan {
+        at: Some(at.address()),
+        ins: Vec::new(alloc),
+        outs: Vec::new(alloc),
+    }
+}
+
+// The plan of a client.
+fn plan_by(alloc: Global, ins: &HostPorts, outs: &HostPorts) -> Result<Plan, NoMemory>
+    ensures { IfOk result (λ plan. UsesProxies plan ins.now outs.now) }
+{
+    Ok(Plan {
+        at: None,
+        ins: ins.addresses(alloc)?,
+        outs: outs.addresses(alloc)?,
+    })
+}
+
 /// The form of the words behind the program's own name; `None` where they are no role's. Fails
 /// where there is no memory.
 pub fn role_form_of(alloc: Global, words: &[String]) -> Result<Option<RoleForm>, NoMemory>
-    ensures form { IfOk result (λ found. IfSome found (λ form. IsRoleForm form (texts words.now))) }
+    ensures { IfOk result (λ found. MatchOption found (IsNoRoleForm (texts words.now))
+        (λ form. IsRoleForm form (texts words.now))) }
 {
     match words {
         [role, at] => Ok(form_of_two(role.as_str(), at.as_bytes())),
@@ -57,7 +98,8 @@ pub fn role_form_of(alloc: Global, words: &[String]) -> Result<Option<RoleForm>,
 
 // The form of a word and an address.
 fn form_of_two(role: &str, at: &[u8]) -> Option<RoleForm>
-    ensures { IfSome result (λ form. IsRoleForm form (role.now ∷ at.now ∷ [])) }
+    ensures { MatchOption result (IsNoRoleForm (role.now ∷ at.now ∷ []))
+        (λ form. IsRoleForm form (role.now ∷ at.now ∷ [])) }
 {
     match role {
         "server" => Some(RoleForm::Server {
@@ -69,7 +111,8 @@ fn form_of_two(role: &str, at: &[u8]) -> Option<RoleForm>
 
 // The form of a word, an address and a count.
 fn form_of_three(role: &str, at: &[u8], count: &[u8]) -> Option<RoleForm>
-    ensures { IfSome result (λ form. IsRoleForm form (role.now ∷ at.now ∷ count.now ∷ [])) }
+    ensures { MatchOption result (IsNoRoleForm (role.now ∷ at.now ∷ count.now ∷ []))
+        (λ form. IsRoleForm form (role.now ∷ at.now ∷ count.now ∷ [])) }
 {
     match role {
         "inproxy" => Some(RoleForm::InProxy {
@@ -92,7 +135,8 @@ fn form_of_four(
     ins: &[u8],
     outs: &[u8],
 ) -> Result<Option<RoleForm>, NoMemory>
-    ensures { IfOk result (λ found. IfSome found
+    ensures { IfOk result (λ found. MatchOption found
+        (IsNoRoleForm (role.now ∷ server.now ∷ ins.now ∷ outs.now ∷ []))
         (λ form. IsRoleForm form (role.now ∷ server.now ∷ ins.now ∷ outs.now ∷ []))) }
 {
     match role {
@@ -117,7 +161,8 @@ fn client_of(
     ins: &[u8],
     outs: &[u8],
 ) -> Result<Option<RoleForm>, NoMemory>
-    ensures { IfOk result (λ found. IfSome found
+    ensures { IfOk result (λ found. MatchOption found
+        (IsNoRoleForm (codes "client" ∷ server.now ∷ ins.now ∷ outs.now ∷ []))
         (λ form. IsRoleForm form (codes "client" ∷ server.now ∷ ins.now ∷ outs.now ∷ []))) }
 {
     let Some(server) = host_port_of(server) else {

@@ -1,5 +1,5 @@
-//! The words of the roles, without the program: which words are which role's, what runs of them, and
-//! how each run ends.
+//! The words of the roles, without the program: which words are which role's, what runs of them,
+//! and how each run ends.
 #![tactic(auto)]
 
 pub mod addresses;

@@ -1,8 +1,11 @@
 //! How the run of a role ends, for the program.
 
-ghost use Rattle.std.specs.Prelude.{◌≡◌, string_bytes};
+ghost use Rattle.std.specs.Prelude.{◌≡◌, ◌≤◌, ◌↔◌, length, string_bytes};
 ghost use Rattle.rh_text.specs.Writing.{Writes};
-ghost use Rattle.rh_role_words.specs.Statuses.{status_name, status_text};
+ghost use Rattle.rh_legs.specs.declared.end.NodeEnd.{NodeEnd as HowEnded};
+ghost use Rattle.rh_relay.specs.Runs.{AllAre};
+ghost use Rattle.rh_role_words.specs.Statuses.{status_name, status_of, status_text};
+ghost use Rattle.rh_role_words.specs.Tellings.{TellsOfAll};
 
 use rh_legs::NodeEnd;
 use rh_line::{Cause, write_cause};
@@ -120,7 +123,12 @@ impl From<NodeEnd> for RoleStatus {
 
 /// The status of a run whose nodes ended so: of several, that which is told first, and of several
 /// nodes that closed, that of the first one.
-pub fn status_of_ends(ends: &[NodeEnd]) -> RoleStatus {
+pub fn status_of_ends(ends: &[NodeEnd]) -> RoleStatus
+    ensures told_of_all { TellsOfAll ends.now result }
+    ensures done { (result ≡ RoleStatus.Done) ↔ AllAre NodeEnd.Ended ends.now }
+    ensures alike { (end : HowEnded) → 1 ≤ length ends.now → AllAre end ends.now
+        → result ≡ status_of end }
+{
     let mut first = NodeEnd::Ended;
     for end in ends.iter() {
         first = first.or(*end);

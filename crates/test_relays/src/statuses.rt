@@ -1,7 +1,8 @@
 //! The statuses of the role words.
 
+use rh_legs::NodeEnd;
 use rh_line::{Cause, Leg, LegKind};
-use rh_role_words::RoleStatus;
+use rh_role_words::{RoleStatus, status_of_ends};
 use std::test::*;
 
 const CI1: Leg = Leg {
@@ -50,5 +51,26 @@ fn each_status_has_its_number_and_its_text(rt: HostRuntime) -> Result<(), Fail> 
         assert_eq!(rt; status.number(), number);
         assert_eq!(rt; text.as_str().strip_prefix("before "), Some(wanted));
     }
+    Ok(())
+}
+
+#[test]
+fn one_of_several_ends_is_told(rt: HostRuntime) -> Result<(), Fail> {
+    let refused = NodeEnd::Closed(REFUSED);
+    let broken = NodeEnd::Closed(Cause::LegBroken { leg: CI1 });
+    let in_order = [NodeEnd::Ended, NodeEnd::Ended];
+    assert_eq!(rt; status_of_ends(&in_order), RoleStatus::Done);
+    let two_closed = [NodeEnd::Ended, refused, broken];
+    assert_eq!(rt; status_of_ends(&two_closed), RoleStatus::Closed(REFUSED));
+    let one_failed = [refused, NodeEnd::NetFault, NodeEnd::Ended];
+    assert_eq!(rt; status_of_ends(&one_failed), RoleStatus::NetFault);
+    let two_bad = [
+        NodeEnd::BadInput(3),
+        NodeEnd::WriteFault,
+        NodeEnd::BadInput(1),
+    ];
+    assert_eq!(rt; status_of_ends(&two_bad), RoleStatus::BadInput(3));
+    let no_memory = [NodeEnd::BadInput(3), NodeEnd::NoMemory];
+    assert_eq!(rt; status_of_ends(&no_memory), RoleStatus::NoMemory);
     Ok(())
 }

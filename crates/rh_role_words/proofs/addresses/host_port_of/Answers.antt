@@ -1,5 +1,5 @@
 -- a text without these parts names no host and port
-use Rattle.std.proofs.Common.{◌≡◌, ℕ, List, subst, sym}
+use Rattle.std.proofs.Common.{ℕ, List, subst, sym}
 use Rattle.rh_http.specs.Hosts.{IsHost}
 use Rattle.rh_http.specs.Requests.{host_text}
 use Rattle.rh_http.proofs.Servers.{no_server, port_behind}

@@ -1,14 +1,25 @@
 -- and with one more
-use Rattle.std.proofs.Common.{◌≤◌, subst, sym}
+use Rattle.std.proofs.Common.{◌+◌, ◌≤◌, arith, subst, sym}
 use Rattle.rh_outproxy.specs.declared.state.OutProxyConfig.{OutProxyConfig}
 use Rattle.rh_window.specs.Sides.{IsWindow}
 use Rattle.rh_sig.specs.Values.{IsLifetime, IsTimeout}
+use Rattle.rh_role_words.specs.Making.{out_proxy_of}
 use Rattle.rh_role_words.proofs.Each.{Each, each-more}
+use Rattle.rh_role_words.proofs.Numbering.{one_numbered_more}
 use Rattle.rh_role_words.proofs.configs.Limits.out_proxies.Goals as goal
 
 pub loop-before-preserved : goal.loop-before-preserved
 loop-before-preserved c =
-    subst (Each (λ (config : OutProxyConfig). (1 ≤ config.number)
-    × IsWindow config.window × IsLifetime config.lifetime × IsTimeout config.timeout)) (sym c.in_ok-push.ensures.items)
-    (each-more (λ (config : OutProxyConfig). (1 ≤ config.number)
-    × IsWindow config.window × IsLifetime config.lifetime × IsTimeout config.timeout) _ _ c.loop-before.invariant c.out_proxy.ensures)
+    record {
+      can_make = subst (Each (λ (config : OutProxyConfig). (1 ≤ config.number)
+          × IsWindow config.window × IsLifetime config.lifetime × IsTimeout config.timeout))
+          (sym c.in_ok-push.ensures.items)
+          (each-more (λ (config : OutProxyConfig). (1 ≤ config.number)
+          × IsWindow config.window × IsLifetime config.lifetime × IsTimeout config.timeout) _ _
+          c.loop-before.invariant.can_make c.out_proxy.ensures.can_make);
+      each = one_numbered_more (out_proxy_of c.args.self.now) c.loop-before.before
+          (c.loop-before.before + 1) c.saturating_add.result c.loop-before.configs.items _
+          c.out_proxy.result c.loop-before.invariant.each c.out_proxy.ensures.limits
+          (omega (arith, c.saturating_add.ensures, c.loop-before-test.true, c.ranges.count))
+          (omega arith) c.in_ok-push.ensures.items;
+    }

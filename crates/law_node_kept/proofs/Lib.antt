@@ -1,0 +1,6 @@
+mod Clean
+mod Hearing
+mod ServerKeeps
+mod ServerEvents
+mod ClientDone
+mod InProxyMay

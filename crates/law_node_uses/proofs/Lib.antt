@@ -1,0 +1,4 @@
+mod ServerRows
+mod ServerOuts
+mod ServerUses
+mod ServerDone

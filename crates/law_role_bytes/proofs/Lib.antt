@@ -1,0 +1,11 @@
+pub mod Steps
+pub mod Windows
+pub mod Items
+mod InSends
+mod OutReceives
+mod OutSends
+mod InReceives
+mod InKnown
+mod ServerReceives
+mod ServerKnown
+mod ServerSends

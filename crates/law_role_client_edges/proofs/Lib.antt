@@ -1,0 +1,10 @@
+pub mod Along
+pub mod Lists
+pub mod Facts
+pub mod Replaced
+pub mod Ups
+pub mod Rows
+pub mod Puts
+pub mod Steps
+pub mod Laws
+pub mod EndsLast

@@ -1,0 +1,12 @@
+pub mod Knows
+pub mod KnowsSteps
+pub mod Opened
+pub mod Tells
+pub mod TellsPuts
+pub mod Telling
+pub mod Edges
+pub mod Begins
+pub mod Cookies
+pub mod Adds
+pub mod Passes
+pub mod PassesPuts

@@ -1,0 +1,12 @@
+mod EndsStay
+mod Unmarked
+mod DrawnWhole
+mod OverLegs
+mod Keeping
+mod Came
+mod Downwards
+mod Told
+mod Fronts
+mod ServerOver
+mod ServerLeft
+mod OutKept
