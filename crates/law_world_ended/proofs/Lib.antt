@@ -1,0 +1,7 @@
+mod Agreeing
+mod Finished
+mod AllCame
+mod Facts
+mod Marked
+mod ServerEnds
+mod Ended
